@@ -2,3 +2,5 @@ pub mod Choice
 pub mod All
 pub mod Number
 pub mod NumberLaws
+pub mod Refuse
+pub mod RefuseLaws

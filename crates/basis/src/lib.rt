@@ -1,4 +1,3 @@
 // What every layer stands on: numbers and how they agree, refusals, lent room.
 pub mod number;
-
-
+pub mod refuse;

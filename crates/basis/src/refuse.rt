@@ -1,0 +1,44 @@
+// Document 01, "Refusal numbers": how an entry's number is found, row after row; 0 is none. And the faults that many entries share.
+ghost use mathlib.Core.Path.{_≡_};
+ghost use Prim.Native.Nat.{_<_};
+ghost use Rattle.basis.specs.Refuse.{lengthFault, shortFault, longFault, choiceFault};
+ghost use Rattle.basis.specs.RefuseLaws.{orElse};
+
+// What was found so far, or `number` where nothing was and the fault is there.
+pub fn or_else(found: u32, fault: bool, number: u32) -> u32
+    ensures { λ r. ⌜ r ≡ orElse found fault number ⌝ }
+{
+    if found != 0 {
+        return found;
+    }
+    if fault { number } else { 0 }
+}
+
+// Number 1: `len` elements are not `count` items of `width` elements. Nothing is multiplied, so nothing overflows.
+pub fn bad_length(len: usize, width: usize, count: usize) -> bool
+    requires { ⌜ 0 < width ⌝ }
+    ensures { λ r. ⌜ r ≡ lengthFault width len count ⌝ }
+{
+    len % width != 0 || len / width != count
+}
+
+// Number 2: an outline is too short.
+pub fn too_short(vc: usize) -> bool
+    ensures { λ r. ⌜ r ≡ shortFault vc ⌝ }
+{
+    vc < 2
+}
+
+// Number 2: an outline is too long.
+pub fn too_long(vc: usize) -> bool
+    ensures { λ r. ⌜ r ≡ longFault vc ⌝ }
+{
+    1024 < vc
+}
+
+// Number 3: a yes/no code is unknown.
+pub fn bad_choice(code: u32) -> bool
+    ensures { λ r. ⌜ r ≡ choiceFault code ⌝ }
+{
+    1 < code
+}

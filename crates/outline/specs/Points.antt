@@ -1,0 +1,34 @@
+-- Document 01, "Equal points and boxes".
+use mathlib.Core.Bool.{Bool, _&&_}
+use mathlib.Core.List.{List, [], _∷_}
+use lib.Ieee.{Float}
+use Rattle.basis.specs.Number.{Tolerance, agree, inSpan}
+use Rattle.outline.specs.declared.point.Point.{Point}
+use Rattle.outline.specs.declared.point.Vertex.{Vertex}
+
+-- a vertex's position
+abbrev pub posOf : Vertex → Point
+posOf v = record { x = v .x; y = v .y }
+
+-- the vertex with another bulge
+abbrev pub withBulge : Vertex → Float → Vertex
+withBulge v b = record { x = v .x; y = v .y; bulge = b }
+
+-- a vertex at a point
+abbrev pub atPoint : Point → Float → Vertex
+atPoint p b = record { x = p .x; y = p .y; bulge = b }
+
+-- the numbers of each, as a list that is looked through
+abbrev pub pointNumbers : Point → List Float
+pointNumbers p = p .x ∷ p .y ∷ []
+
+abbrev pub vertexNumbers : Vertex → List Float
+vertexNumbers v = v .x ∷ v .y ∷ v .bulge ∷ []
+
+-- "Two points agree when both coordinates do."
+unfoldable pub pointsAgree : Tolerance → Point → Point → Bool
+pointsAgree t a b = agree t (a .x) (b .x) && agree t (a .y) (b .y)
+
+-- "ex − t ≤ px ≤ ex + t, and likewise in y, the box closed and its sides rounded": p in the box around e
+unfoldable pub inBox : Tolerance → Point → Point → Bool
+inBox t e p = inSpan t (e .x) (p .x) && inSpan t (e .y) (p .y)
