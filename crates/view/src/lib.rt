@@ -1,0 +1,3 @@
+// A view: a part of an outline, from a point on one segment to a point on another, forward or inverted.
+pub mod data;
+pub mod vertex;
