@@ -4,3 +4,5 @@ pub mod Number
 pub mod NumberLaws
 pub mod Refuse
 pub mod RefuseLaws
+pub mod Room
+pub mod RoomLaws

@@ -1,2 +1,5 @@
 pub mod View
 pub mod ViewLaws
+pub mod Create
+pub mod Validate
+pub mod CreateLaws
