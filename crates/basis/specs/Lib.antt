@@ -6,3 +6,4 @@ pub mod Refuse
 pub mod RefuseLaws
 pub mod Room
 pub mod RoomLaws
+pub mod OrderLaws

@@ -32,6 +32,9 @@ shortFault vc = ltb vc 2
 abbrev pub longFault : ℕ → Bool
 longFault vc = ltb 1024 vc
 
+unfoldable pub sizeFault : ℕ → Bool
+sizeFault vc = shortFault vc || longFault vc
+
 -- 3: "mode, selector, source or yes/no code is unknown": a yes/no code is 1 or 0
 abbrev pub choiceFault : ℕ → Bool
 choiceFault code = ltb 1 code

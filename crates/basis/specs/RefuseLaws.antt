@@ -8,8 +8,8 @@ use native.Mathlib.Omega.{arith}
 use lib.Dec.{T, ltb, leb, eqb}
 use native.Mathlib.Nat.{le-of-eq, add-zero, div-add-mod, mul-mod-right, mul-div-right}
 use borrow.Author.Tests.{ltb-false, leb-true, eqb-true, eqb-false, eq-eqb, ne-eqb, not-false}
-use Rattle.basis.specs.Choice.{by-test}
-use Rattle.basis.specs.Refuse.{Row, row, firstOf, answer, lengthFault, shortFault, longFault, choiceFault}
+use Rattle.basis.specs.Choice.{by-test, or-left, or-right}
+use Rattle.basis.specs.Refuse.{Row, row, firstOf, answer, lengthFault, longFault, sizeFault, choiceFault}
 
 tail : (a b : Bool) → T (a && b) → T b
 tail true b h = h
@@ -142,7 +142,7 @@ pub not-row : {p q : Bool} → p ≡ q → not p ≡ not q
 not-row e = ap not e
 
 -- what the code's chain of `or_else` is proved by
-pub ruleset rows = (then-row, not-row)
+pub ruleset rows = (first-from, then-row, not-row)
 
 -- ---- an entry's answer, and its lent memory
 module _ {A : Type 0} (f : ℕ → A) (n m : ℕ) (a r : A) where
@@ -165,11 +165,12 @@ pub length-ok : (w len count : ℕ) → lengthFault w len count ≡ false → le
 unfolding lengthFault
 length-ok w len count e = eqb-true len (w * count) (not-false (eqb len (w * count)) e)
 
-pub short-ok : (vc : ℕ) → shortFault vc ≡ false → 2 ≤ vc
-short-ok vc e = ltb-false vc 2 e
-
 pub long-ok : (vc : ℕ) → longFault vc ≡ false → vc ≤ 1024
 long-ok vc e = ltb-false 1024 vc e
+
+pub size-ok : (vc : ℕ) → sizeFault vc ≡ false → (2 ≤ vc) × (vc ≤ 1024)
+unfolding sizeFault
+size-ok vc e = (ltb-false vc 2 (or-left (ltb vc 2) _ e), long-ok vc (or-right (ltb vc 2) _ e))
 
 pub choice-ok : (code : ℕ) → choiceFault code ≡ false → code ≤ 1
 choice-ok code e = ltb-false 1 code e

@@ -58,9 +58,9 @@ module _ {A : Type 0} (zero : A) (w need : ℕ) (items entry : List A) where
   room-cleared l e few = rw (e, take-append-seam, ← add-sub-of-le few, drop-append-add, drop-drop)
 
   -- the same as a return asks for it: the code knows the two places by equations
-  pub room-left : (l r : List A) (k n : ℕ) → k ≡ length items → n ≡ w * need → l ≡ items ++ drop k entry → k ≤ n → r ≡ cleared zero k n l
+  pub room-left : (l r : List A) (k n : ℕ) → r ≡ cleared zero k n l → l ≡ items ++ drop k entry → k ≡ length items → n ≡ w * need → k ≤ n
       → r ≡ roomOf zero w need items entry
-  room-left l r k n p q e few f = rw (f, p, q) (room-cleared l (rw p at e) (omega arith))
+  room-left l r k n f e p q few = rw (f, p, q) (room-cleared l (rw p at e) (omega arith))
 
 -- ---- a loop that sets the elements from a up to b to zero, and has come to i
 clear-more : {A : Type 0} (zero : A) (l : List A) (a i : ℕ) → a ≤ i → i < length l → set (cleared zero a i l) i zero ≡ cleared zero a (i + 1) l

@@ -1,7 +1,7 @@
 // Document 01, "Refusal numbers": how an entry's number is found, row after row; 0 is none. And the faults that many entries share.
 ghost use mathlib.Core.Path.{_≡_};
 ghost use Prim.Native.Nat.{_<_};
-ghost use Rattle.basis.specs.Refuse.{lengthFault, shortFault, longFault, choiceFault};
+ghost use Rattle.basis.specs.Refuse.{lengthFault, longFault, sizeFault, choiceFault};
 ghost use Rattle.basis.specs.RefuseLaws.{orElse};
 
 // What was found so far, or `number` where nothing was and the fault is there.
@@ -22,18 +22,18 @@ pub fn bad_length(len: usize, width: usize, count: usize) -> bool
     len % width != 0 || len / width != count
 }
 
-// Number 2: an outline is too short.
-pub fn too_short(vc: usize) -> bool
-    ensures { λ r. ⌜ r ≡ shortFault vc ⌝ }
-{
-    vc < 2
-}
-
 // Number 2: an outline is too long.
 pub fn too_long(vc: usize) -> bool
     ensures { λ r. ⌜ r ≡ longFault vc ⌝ }
 {
     1024 < vc
+}
+
+// Number 2: an outline is too short or too long.
+pub fn bad_size(vc: usize) -> bool
+    ensures { λ r. ⌜ r ≡ sizeFault vc ⌝ }
+{
+    vc < 2 || too_long(vc)
 }
 
 // Number 3: a yes/no code is unknown.
