@@ -83,7 +83,7 @@ verdictRecord n offset length p v updated expected =
       expected = expected;
     }
 
-abbrev pub verdictRefused : ℕ → VerdictAnswer
+unfoldable pub verdictRefused : ℕ → VerdictAnswer
 verdictRefused n =
     record {
       refusal = n;

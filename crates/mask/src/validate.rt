@@ -19,7 +19,7 @@ fn refusal(outline: &[f64], vc: usize, v: View, start_on: u32, end_on: u32) -> u
     ensures { λ r. ⌜ r ≡ validateRefusal (now (outline .entry)) vc v «start_on» «end_on» ⌝ }
 {
     let r = refuse::or_else(0, refuse::bad_length(outline.len(), 3, vc), 1);
-    let r = refuse::or_else(r, refuse::too_long(vc), 2);
+    let r = refuse::or_else(r, refuse::MOST_VERTICES < vc, 2);
     let r = refuse::or_else(r, refuse::bad_choice(v.inverted_direction), 3);
     let r = refuse::or_else(r, refuse::bad_choice(start_on), 3);
     let r = refuse::or_else(r, refuse::bad_choice(end_on), 3);

@@ -1,3 +1,4 @@
 pub mod Points
 pub mod Outline
 pub mod OutlineLaws
+pub mod PointExamples

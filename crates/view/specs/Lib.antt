@@ -3,3 +3,5 @@ pub mod ViewLaws
 pub mod Create
 pub mod Validate
 pub mod CreateLaws
+pub mod ViewTheorems
+pub mod ViewExamples

@@ -10,9 +10,6 @@ bad-length-requires c κs = search needs
 or-else-requires : tie.Need-or-else-requires
 or-else-requires c κs = search needs
 
-too-long-requires : tie.Need-too-long-requires
-too-long-requires c κs = search needs
-
 or-else-requires-2 : tie.Need-or-else-requires-2
 or-else-requires-2 c κs = search needs
 
@@ -62,7 +59,6 @@ refusal-spec =
     (tie.spec
     bad-length-requires
     or-else-requires
-    too-long-requires
     or-else-requires-2
     bad-choice-requires
     or-else-requires-3
