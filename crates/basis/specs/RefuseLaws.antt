@@ -160,6 +160,10 @@ module _ {A : Type 0} (f : ℕ → A) (n m : ℕ) (a r : A) where
 
 pub ruleset answers = (answer-no, answer-yes)
 
+-- every contract of an entry is an equation with a definition, so two answers that it permits are equal
+pub one-answer : {A : Type 0} (r s x : A) → r ≡ x → s ≡ x → r ≡ s
+one-answer r s x e f = e ∙ sym f
+
 -- ---- what a shared fault's absence says of the numbers
 pub length-ok : (w len count : ℕ) → lengthFault w len count ≡ false → len ≡ w * count
 unfolding lengthFault

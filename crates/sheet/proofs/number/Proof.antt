@@ -1,0 +1,36 @@
+use mathlib.Core.Path.{sym, subst}
+use lib.Dec.{T}
+use lib.Ieee.{ofBits, neg}
+use borrow.Author.Needs.{needs}
+use Rattle.sheet.proofs.number.Statement.{statement}
+use Rattle.sheet.proofs.number.Tie as tie
+
+truncating-f64-to-u64-requires : tie.Need-truncating-f64-to-u64-requires
+unfolding ofBits neg
+truncating-f64-to-u64-requires c κs = (subst T (sym (c .before .if1 .taken)) tt, subst T (sym (c .if2 .taken)) tt)
+
+whole-requires : tie.Need-whole-requires
+whole-requires c κs = search needs
+
+returns : tie.Need-returns
+returns c = search needs
+
+slice-aggregate-word : tie.Need-slice-aggregate-word
+slice-aggregate-word c = search needs
+
+word-requires : tie.Need-word-requires
+word-requires c κs = search needs
+
+returns-2 : tie.Need-returns-2
+returns-2 c = search needs
+
+pub number-spec : {M : Type 1} → statement M
+number-spec =
+    tie.close
+    (tie.spec
+    truncating-f64-to-u64-requires
+    whole-requires
+    returns
+    slice-aggregate-word
+    word-requires
+    returns-2)
