@@ -7,3 +7,5 @@ pub mod RefuseLaws
 pub mod Room
 pub mod RoomLaws
 pub mod OrderLaws
+pub mod Each
+pub mod EachLaws

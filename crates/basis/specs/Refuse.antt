@@ -1,6 +1,6 @@
 -- Document 01, "Refusal numbers". An entry's refusals are a table of rows in the order in which they are looked at.
 use Prim.Native.Nat.{ℕ, zero, suc, _*_}
-use mathlib.Core.Bool.{Bool, not, _||_, cond}
+use mathlib.Core.Bool.{Bool, not, _&&_, _||_, cond}
 use mathlib.Core.List.{List, [], _∷_}
 use lib.Dec.{ltb, eqb}
 
@@ -38,3 +38,7 @@ sizeFault vc = shortFault vc || longFault vc
 -- 3: "mode, selector, source or yes/no code is unknown": a yes/no code is 1 or 0
 abbrev pub choiceFault : ℕ → Bool
 choiceFault code = ltb 1 code
+
+-- 3: a source is 1 or 2
+unfoldable pub sourceFault : ℕ → Bool
+sourceFault source = not (eqb source 1) && not (eqb source 2)

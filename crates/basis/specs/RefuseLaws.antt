@@ -2,7 +2,7 @@
 use Prim.Native.Nat.{ℕ, zero, suc, _*_, _/_, _%_, _≤_, _<_}
 use mathlib.Core.Bool.{Bool, true, false, not, _&&_, _||_, cond, true≢false}
 use mathlib.Core.Path.{_≡_, refl, sym, ap, _∙_}
-use mathlib.Core.List.{List, [], _∷_}
+use mathlib.Core.List.{List, [], _∷_, _++_}
 use mathlib.Core.Logic.{_⊎_, inl, inr}
 use native.Mathlib.Omega.{arith}
 use lib.Dec.{T, ltb, leb, eqb}
@@ -50,6 +50,15 @@ unfolding firstOf
 none-clear [] c = refl
 none-clear (row true n ∷ t) c = absurd (true≢false (c .0))
 none-clear (row false n ∷ t) c = none-clear t (c .1)
+
+-- a table in parts: each part is clear
+pub clear-left : (s t : List Row) → Clear (s ++ t) → Clear s
+clear-left [] t c = tt
+clear-left (row b n ∷ s) t c = (c .0, clear-left s t (c .1))
+
+pub clear-right : (s t : List Row) → Clear (s ++ t) → Clear t
+clear-right [] t c = c
+clear-right (row b n ∷ s) t c = clear-right s t (c .1)
 
 -- ---- the number is the lowest that applies
 
@@ -134,6 +143,15 @@ first-from t r h e = e ∙ go t h
     go (row true (suc n) ∷ t) h = kept n t
     go (row false (suc n) ∷ t) h = go t (tail (ltb 0 (suc n)) (numbered t) h)
 
+-- a table in parts: one function looks at the first part and hands on what it found
+pub then-rows : (n p r : ℕ) (s t : List Row) → n ≡ firstFrom p t → p ≡ firstFrom r s → n ≡ firstFrom r (s ++ t)
+unfolding firstFrom
+then-rows n p r s t e f = e ∙ ap (λ (k : ℕ). firstFrom k t) f ∙ sym (go r s)
+  where
+    go : (r : ℕ) (s : List Row) → firstFrom r (s ++ t) ≡ firstFrom (firstFrom r s) t
+    go r [] = refl
+    go r (row b m ∷ s) = go (orElse r b m) s
+
 -- one step of the code's chain: what was found before and the fault, each as the table has it
 pub then-row : {r p p' : ℕ} {b b' : Bool} (n : ℕ) → r ≡ orElse p b n → p ≡ p' → b ≡ b' → r ≡ orElse p' b' n
 then-row n e f g = cc
@@ -143,6 +161,8 @@ not-row e = ap not e
 
 -- what the code's chain of `or_else` is proved by
 pub ruleset rows = (first-from, then-row, not-row)
+
+pub ruleset parts = (first-from, then-rows)
 
 -- ---- an entry's answer, and its lent memory
 module _ {A : Type 0} (f : ℕ → A) (n m : ℕ) (a r : A) where

@@ -1,7 +1,7 @@
 // Document 01, "Refusal numbers": how an entry's number is found, row after row; 0 is none. And the faults that many entries share.
 ghost use mathlib.Core.Path.{_≡_};
 ghost use Prim.Native.Nat.{_<_};
-ghost use Rattle.basis.specs.Refuse.{lengthFault, sizeFault, choiceFault};
+ghost use Rattle.basis.specs.Refuse.{lengthFault, sizeFault, choiceFault, sourceFault};
 ghost use Rattle.basis.specs.RefuseLaws.{orElse};
 
 // Document 01, "Sizes": vertices of an outline.
@@ -39,4 +39,11 @@ pub fn bad_choice(code: u32) -> bool
     ensures { λ r. ⌜ r ≡ choiceFault code ⌝ }
 {
     1 < code
+}
+
+// Number 3: a source is unknown.
+pub fn bad_source(source: u32) -> bool
+    ensures { λ r. ⌜ r ≡ sourceFault source ⌝ }
+{
+    source != 1 && source != 2
 }

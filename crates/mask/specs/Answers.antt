@@ -16,6 +16,7 @@ use Rattle.mask.specs.declared.input.View.{View}
 use Rattle.mask.specs.declared.answer.VertexAnswer.{VertexAnswer}
 use Rattle.mask.specs.declared.answer.ViewAnswer.{ViewAnswer}
 use Rattle.mask.specs.declared.answer.VerdictAnswer.{VerdictAnswer}
+use Rattle.mask.specs.declared.answer.CountAnswer.{CountAnswer}
 
 abbrev pub noPoint : Point
 noPoint = record { x = +0; y = +0 }
@@ -104,3 +105,11 @@ verdictGiven (verdict.EndPointNotOnSegment p) = verdictRecord 4 0 0 p noVertex +
 verdictGiven (verdict.EndPointOnFinalOffsetVertex p v) = verdictRecord 5 0 0 p v +0 +0
 verdictGiven (verdict.UpdatedBulgeDoesNotMatch updated expected) = verdictRecord 6 0 0 noPoint noVertex updated expected
 verdictGiven verdict.IsValid = verdictRecord 7 0 0 noPoint noVertex +0 +0
+
+-- ---- a count
+
+abbrev pub countRefused : ℕ → CountAnswer
+countRefused n = record { refusal = n; count = 0 }
+
+abbrev pub counted : ℕ → CountAnswer
+counted n = record { refusal = 0; count = n }

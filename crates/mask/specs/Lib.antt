@@ -1,5 +1,10 @@
 pub mod Inputs
 pub mod Answers
+pub mod CutRows
+pub mod CutRowsLaws
+pub mod CutOrder
+pub mod Candidates
+pub mod CandidatesLaws
 pub mod ViewVertex
 pub mod CreateEntry
 pub mod SingleEntry

@@ -1,7 +1,7 @@
 // What the entries answer: flat structs, by value. On a refusal all but its number is 0.
 ghost use mathlib.Core.Path.{_≡_};
 ghost use mathlib.Core.Bool.{cond};
-ghost use Rattle.mask.specs.Answers.{flatView, vertexRefused, vertexFound, viewRefused, viewMade, segmentMade, verdictRecord, verdictRefused, verdictGiven};
+ghost use Rattle.mask.specs.Answers.{flatView, vertexRefused, vertexFound, viewRefused, viewMade, segmentMade, verdictRecord, verdictRefused, verdictGiven, countRefused, counted};
 use crate::input::View;
 use outline::point::Point;
 use outline::point::Vertex;
@@ -34,6 +34,12 @@ pub struct VerdictAnswer {
     pub vertex: Vertex,
     pub updated_bulge: f64,
     pub expected: f64,
+}
+
+#[repr(C)]
+pub struct CountAnswer {
+    pub refusal: u32,
+    pub count: usize,
 }
 
 const NO_POINT: Point = Point { x: 0.0, y: 0.0 };
@@ -203,4 +209,19 @@ pub fn verdict_given(v: ViewDataValidation) -> VerdictAnswer
         } => { verdict_record(6, 0, 0, NO_POINT, NO_VERTEX, updated_bulge, expected) }
         ViewDataValidation::IsValid => verdict_record(7, 0, 0, NO_POINT, NO_VERTEX, 0.0, 0.0),
     }
+}
+
+pub fn count_refused(number: u32) -> CountAnswer
+    ensures { λ r. ⌜ r ≡ countRefused number ⌝ }
+{
+    CountAnswer {
+        refusal: number,
+        count: 0,
+    }
+}
+
+pub fn counted_as(count: usize) -> CountAnswer
+    ensures { λ r. ⌜ r ≡ counted count ⌝ }
+{
+    CountAnswer { refusal: 0, count }
 }

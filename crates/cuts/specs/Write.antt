@@ -1,0 +1,18 @@
+-- What the code that writes the cuts is given.
+use Prim.Native.Nat.{ℕ, _+_, _*_, _≤_, _<_}
+use mathlib.Core.List.{List}
+use lib.ListN.{length}
+use lib.Ieee.{Float}
+use Rattle.cuts.specs.Cuts.{Given}
+use Rattle.cuts.specs.Order.{Roomy}
+use Rattle.cuts.specs.Sort.{Ordered}
+
+-- room for item i of w elements
+pub record Item {A : Type 0} (room : List A) (w i : ℕ) : Type 0 where
+  pub few : i < 768
+  pub inside : w * i + w ≤ length room
+
+-- the order is known, and there is room
+pub record Known (g : Given) (order cutAt : List ℕ) (cut : List Float) : Type 0 where
+  pub roomy : Roomy g cutAt cut
+  pub sorted : Ordered g order

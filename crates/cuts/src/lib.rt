@@ -1,0 +1,5 @@
+// The cuts of one outline and their order.
+pub mod cut;
+mod keys;
+mod order;
+pub mod write;

@@ -1,0 +1,37 @@
+use Rattle.slices.specs.ItemLaws.{wholes}
+use borrow.Author.Needs.{needs}
+use Rattle.slices.proofs.write.write_candidates.Statement.{statement}
+use Rattle.slices.proofs.write.write_candidates.Tie as tie
+
+fill-first-requires : tie.Need-fill-first-requires
+fill-first-requires c κs = search (needs, wholes)
+
+write-items-requires : tie.Need-write-items-requires
+write-items-requires c κs = search (needs, wholes)
+
+clear-rest-requires : tie.Need-clear-rest-requires
+clear-rest-requires c κs = search needs
+
+same-length : tie.Need-same-length
+same-length c = search needs
+
+same-length-2 : tie.Need-same-length-2
+same-length-2 c = search needs
+
+same-length-3 : tie.Need-same-length-3
+same-length-3 c = search needs
+
+returns : tie.Need-returns
+returns c = search (needs, wholes)
+
+pub write-candidates-spec : {M : Type 1} → statement M
+write-candidates-spec =
+    tie.close
+    (tie.spec
+    fill-first-requires
+    write-items-requires
+    clear-rest-requires
+    same-length
+    same-length-2
+    same-length-3
+    returns)

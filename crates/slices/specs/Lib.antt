@@ -1,0 +1,10 @@
+pub mod Slices
+pub mod Ready
+pub mod Steps
+pub mod TableLaws
+pub mod CandidateLaws
+pub mod PutLaws
+pub mod ItemLaws
+pub mod SlicesTheorems
+pub mod RangeTheorems
+pub mod SlicesExamples

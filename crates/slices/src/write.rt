@@ -1,0 +1,117 @@
+// The candidates of one outline, written into lent room.
+ghost use Rattle.slices.specs.Slices.{given, candidateAt};
+ghost use Rattle.slices.specs.Ready.{rooms, Ready, Written};
+ghost use Rattle.slices.specs.Steps.{Turn, Put, Writing, Items, ClearFit, Cleared};
+use crate::candidate;
+use crate::put;
+use crate::table;
+use basis::number::Tolerance;
+use basis::room;
+
+// Writes what the cut at place p gives after the m candidates that stand there, and says how many there are now.
+fn write_one(
+    outline: &[f64],
+    vc: usize,
+    cut_at: &[usize],
+    cut: &[f64],
+    count: usize,
+    splits: &[f64],
+    t: Tolerance,
+    first: &[usize; 1024],
+    p: usize,
+    cand_at: &mut [usize],
+    cand: &mut [f64],
+    probe: &mut [f64],
+    m: usize,
+) -> usize
+    requires { ⌜ Turn (given (now outline) vc (now «cut_at») (now cut) count (now splits) t) (now first) p (rooms (now «cand_at») (now cand) (now probe)) m ⌝ }
+    ensures { λ r. ⌜ Put (candidateAt (given (now (outline .entry)) vc (now («cut_at» .entry)) (now (cut .entry)) count (now (splits .entry)) t) p) m (rooms (now («cand_at» .entry)) (now (cand .entry)) (now (probe .entry))) r (rooms (now («cand_at» .exit)) (now (cand .exit)) (now (probe .exit))) ⌝ }
+{
+    let c = candidate::candidate_at(outline, vc, cut_at, cut, count, splits, t, first, p);
+    put::put_candidate(cand_at, cand, probe, m, c)
+}
+
+// Writes the candidates in order of places, and says how many there are.
+fn write_items(
+    outline: &[f64],
+    vc: usize,
+    cut_at: &[usize],
+    cut: &[f64],
+    count: usize,
+    splits: &[f64],
+    t: Tolerance,
+    first: &[usize; 1024],
+    cand_at: &mut [usize],
+    cand: &mut [f64],
+    probe: &mut [f64],
+) -> usize
+    requires { ⌜ Writing (given (now outline) vc (now «cut_at») (now cut) count (now splits) t) (now first) (rooms (now «cand_at») (now cand) (now probe)) ⌝ }
+    ensures { λ r. ⌜ Items (given (now (outline .entry)) vc (now («cut_at» .entry)) (now (cut .entry)) count (now (splits .entry)) t) (rooms (now («cand_at» .entry)) (now (cand .entry)) (now (probe .entry))) r (rooms (now («cand_at» .exit)) (now (cand .exit)) (now (probe .exit))) ⌝ }
+{
+    let mut m = 0;
+    let mut p = 0;
+    while p < count {
+        m = write_one(
+            outline,
+            vc,
+            cut_at,
+            cut,
+            count,
+            splits,
+            t,
+            first,
+            p,
+            cand_at,
+            cand,
+            probe,
+            m,
+        );
+        p += 1;
+    }
+    m
+}
+
+// Sets each list to zero from candidate number m up to the need.
+fn clear_rest(cand_at: &mut [usize], cand: &mut [f64], probe: &mut [f64], m: usize, need: usize)
+    requires { ⌜ ClearFit (rooms (now «cand_at») (now cand) (now probe)) m need ⌝ }
+    ensures { λ _. ⌜ Cleared (rooms (now («cand_at» .entry)) (now (cand .entry)) (now (probe .entry))) m need (rooms (now («cand_at» .exit)) (now (cand .exit)) (now (probe .exit))) ⌝ }
+{
+    room::clear_counts(cand_at, 2 * m, 2 * need);
+    room::clear_numbers(cand, 6 * m, 6 * need);
+    room::clear_numbers(probe, 6 * m, 6 * need);
+}
+
+// Writes the candidates over cuts that are in order, then zero up to one candidate per cut, and says how many candidates there are.
+pub fn write_candidates(
+    outline: &[f64],
+    vc: usize,
+    cut_at: &[usize],
+    cut: &[f64],
+    count: usize,
+    splits: &[f64],
+    t: Tolerance,
+    cand_at: &mut [usize],
+    cand: &mut [f64],
+    probe: &mut [f64],
+) -> usize
+    requires { ⌜ Ready (given (now outline) vc (now «cut_at») (now cut) count (now splits) t) (rooms (now «cand_at») (now cand) (now probe)) ⌝ }
+    ensures { λ r. ⌜ Written (given (now (outline .entry)) vc (now («cut_at» .entry)) (now (cut .entry)) count (now (splits .entry)) t) (rooms (now («cand_at» .entry)) (now (cand .entry)) (now (probe .entry))) r (rooms (now («cand_at» .exit)) (now (cand .exit)) (now (probe .exit))) ⌝ }
+{
+    let mut first = [count; 1024];
+    table::fill_first(&mut first, vc, cut_at, count);
+    let m = write_items(
+        outline,
+        vc,
+        cut_at,
+        cut,
+        count,
+        splits,
+        t,
+        &first,
+        cand_at,
+        cand,
+        probe,
+    );
+    clear_rest(cand_at, cand, probe, m, count);
+    m
+}
