@@ -1,11 +1,3 @@
-// The exported entries: what is refused, then one call down.
-pub mod answer;
-pub mod candidates;
-pub mod create;
-pub mod cut_faults;
-pub mod cut_order;
-pub mod entire;
-pub mod input;
-pub mod single;
-pub mod validate;
-pub mod view_vertex;
+// What hosts link: the exported entries, each a thin function over the crates below.
+pub mod cutting;
+pub mod viewing;

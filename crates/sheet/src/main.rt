@@ -1,11 +1,11 @@
 // The two squares of document 01, through the exported entries: A is (0,0) (4,0) (4,4) (0,4), B is (2,2) (6,2) (6,6) (2,6), and they cross
 // at (4,2) and (2,4). Prints whole views, the walks between the crossings, T6 and T7, and what a verdict and a refusal look like.
 use libc::STDOUT_FILENO;
-use mask::answer::ViewAnswer;
-use mask::input::Split;
-use mask::input::View;
 use outline::point::Point;
 use outline::point::Vertex;
+use view_entries::answer::ViewAnswer;
+use view_entries::input::Split;
+use view_entries::input::View;
 
 const TOLERANCE: f64 = 0.0009765625;
 
@@ -32,7 +32,7 @@ fn number(x: f64) {
 fn vertices(outline: &[f64], vc: usize, view: View) {
     let mut k: usize = 0;
     while k < 1026 {
-        let found = mask::view_vertex::mask_view_vertex(outline, vc, view, k);
+        let found = mask::viewing::mask_view_vertex(outline, vc, view, k);
         if found.found == 0 {
             break;
         }
@@ -60,7 +60,7 @@ fn show(outline: &[f64], vc: usize, made: ViewAnswer) {
     whole(view.start_index as u64);
     word(b" offset ");
     whole(view.end_index_offset as u64);
-    let judged = mask::validate::mask_validate_for_source(outline, vc, view, 1, 1);
+    let judged = mask::viewing::mask_validate_for_source(outline, vc, view, 1, 1);
     if judged.verdict == 7 {
         word(b" valid:");
     } else {
@@ -90,7 +90,7 @@ fn walk(
     show(
         outline,
         vc,
-        mask::create::mask_create(
+        mask::viewing::mask_create(
             outline,
             vc,
             start,
@@ -108,13 +108,13 @@ fn entire(outline: &[f64], vc: usize) {
     show(
         outline,
         vc,
-        mask::entire::mask_from_entire_pline(outline, vc, 1),
+        mask::viewing::mask_from_entire_pline(outline, vc, 1),
     );
 }
 
 // The same vertices the other way round.
 fn inverted(outline: &[f64], vc: usize) {
-    let made = mask::entire::mask_from_entire_pline(outline, vc, 1);
+    let made = mask::viewing::mask_from_entire_pline(outline, vc, 1);
     let mut view = made.view;
     view.inverted_direction = 1;
     vertices(outline, vc, view);
@@ -150,7 +150,7 @@ fn triangle(t: &[f64]) {
     show(
         t,
         3,
-        mask::single::mask_create_on_single_segment(
+        mask::viewing::mask_create_on_single_segment(
             t,
             3,
             0,

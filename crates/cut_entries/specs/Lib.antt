@@ -1,0 +1,6 @@
+pub mod Answers
+pub mod CutRows
+pub mod CutRowsLaws
+pub mod CutOrder
+pub mod Candidates
+pub mod CandidatesLaws

@@ -1,0 +1,79 @@
+// Cuts and candidates.
+ghost use Rattle.cuts.specs.Cuts.{given};
+ghost use Rattle.slices.specs.Ready.{rooms};
+ghost use Rattle.cut_entries.specs.CutRows.{whichOf};
+ghost use Rattle.cut_entries.specs.CutOrder.{CutOrdered};
+ghost use Rattle.cut_entries.specs.Candidates.{Sliced};
+use cut_entries::answer::CountAnswer;
+
+// The cuts of the outline that the source names, in their order: segment, overlap mark, number of arrival and point of each.
+#[no_mangle]
+pub extern "C" fn mask_cut_order(
+    outline: &[f64],
+    vc: usize,
+    source: u32,
+    hit_at: &[usize],
+    hit: &[f64],
+    hits: usize,
+    lap_at: &[usize],
+    lap: &[f64],
+    laps: usize,
+    tolerance: f64,
+    cut_at: &mut [usize],
+    cut: &mut [f64],
+) -> CountAnswer
+    ensures { λ r. ⌜ CutOrdered (given (now (outline .entry)) vc (whichOf source) (now («hit_at» .entry)) (now (hit .entry)) hits (now («lap_at» .entry)) (now (lap .entry)) laps tolerance) source (now («cut_at» .entry)) (now (cut .entry)) r (now («cut_at» .exit)) (now (cut .exit)) ⌝ }
+{
+    cut_entries::order::entry(
+        outline,
+        vc,
+        source,
+        hit_at,
+        hit,
+        hits,
+        lap_at,
+        lap,
+        laps,
+        tolerance,
+        cut_at,
+        cut,
+    )
+}
+
+// The candidates of the outline that the source names: the pieces between neighbouring cuts, and the walks from a segment's last cut to the next segment that has one.
+#[no_mangle]
+pub extern "C" fn mask_candidates(
+    outline: &[f64],
+    vc: usize,
+    source: u32,
+    hit_at: &[usize],
+    hit: &[f64],
+    hits: usize,
+    lap_at: &[usize],
+    lap: &[f64],
+    laps: usize,
+    splits: &[f64],
+    tolerance: f64,
+    cand_at: &mut [usize],
+    cand: &mut [f64],
+    probe: &mut [f64],
+) -> CountAnswer
+    ensures { λ r. ⌜ Sliced (given (now (outline .entry)) vc (whichOf source) (now («hit_at» .entry)) (now (hit .entry)) hits (now («lap_at» .entry)) (now (lap .entry)) laps tolerance) source (now (splits .entry)) (rooms (now («cand_at» .entry)) (now (cand .entry)) (now (probe .entry))) r (rooms (now («cand_at» .exit)) (now (cand .exit)) (now (probe .exit))) ⌝ }
+{
+    cut_entries::candidates::entry(
+        outline,
+        vc,
+        source,
+        hit_at,
+        hit,
+        hits,
+        lap_at,
+        lap,
+        laps,
+        splits,
+        tolerance,
+        cand_at,
+        cand,
+        probe,
+    )
+}

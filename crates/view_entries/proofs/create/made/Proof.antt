@@ -1,0 +1,34 @@
+use Rattle.basis.specs.RefuseLaws.{answers}
+use Rattle.view_entries.specs.CreateEntry.{createLaws}
+use borrow.Author.Needs.{needs}
+use Rattle.view_entries.proofs.create.made.Statement.{statement}
+use Rattle.view_entries.proofs.create.made.Tie as tie
+
+refusal-requires : tie.Need-refusal-requires
+refusal-requires c κs = search needs
+
+view-refused-requires : tie.Need-view-refused-requires
+view-refused-requires c κs = search needs
+
+returns : tie.Need-returns
+returns c = search (needs, answers, createLaws)
+
+create-requires : tie.Need-create-requires
+create-requires c κs = search (needs, answers, createLaws)
+
+view-made-requires : tie.Need-view-made-requires
+view-made-requires c κs = search needs
+
+returns-2 : tie.Need-returns-2
+returns-2 c = search (needs, answers, createLaws)
+
+pub made-spec : {M : Type 1} → statement M
+made-spec =
+    tie.close
+    (tie.spec
+    refusal-requires
+    view-refused-requires
+    returns
+    create-requires
+    view-made-requires
+    returns-2)

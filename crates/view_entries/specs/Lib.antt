@@ -1,0 +1,7 @@
+pub mod Inputs
+pub mod Answers
+pub mod ViewVertex
+pub mod CreateEntry
+pub mod SingleEntry
+pub mod EntireEntry
+pub mod ValidateEntry
