@@ -1,5 +1,5 @@
 // The two squares of document 01, through the exported entries: A is (0,0) (4,0) (4,4) (0,4), B is (2,2) (6,2) (6,6) (2,6), and they cross
-// at (4,2) and (2,4). Prints whole views, the walks between the crossings, T6 and T7, and what a verdict and a refusal look like.
+// at (4,2) and (2,4). Prints whole views, the walks between the crossings, the candidates (T1, T2), T6 and T7, and a refusal.
 use libc::STDOUT_FILENO;
 use outline::point::Point;
 use outline::point::Vertex;
@@ -139,6 +139,108 @@ fn squares(a: &[f64], b: &[f64]) {
     walk(b, 4, 3, at(2.0, 4.0), 1, 0, right);
 }
 
+// The candidates of one of the squares, by their starts and offsets, over the splits along its two cuts.
+fn candidates(outline: &[f64], source: u32, splits: &[f64]) {
+    let hit_at = [1usize, 0, 2, 3];
+    let hit = [4.0, 2.0, 2.0, 4.0];
+    let lap_at = [0usize; 0];
+    let lap = [0.0; 0];
+    let mut at = [0usize; 4];
+    let mut cand = [0.0; 12];
+    let mut probe = [0.0; 12];
+    let answer = mask::cutting::mask_candidates(
+        outline,
+        4,
+        source,
+        &hit_at,
+        &hit,
+        2,
+        &lap_at,
+        &lap,
+        0,
+        splits,
+        TOLERANCE,
+        &mut at,
+        &mut cand,
+        &mut probe,
+    );
+    whole(answer.count as u64);
+    start_and_offset(at[0], at[1]);
+    start_and_offset(at[2], at[3]);
+    word(b"\n");
+}
+
+fn start_and_offset(start: usize, offset: usize) {
+    word(b", start ");
+    whole(start as u64);
+    word(b" offset ");
+    whole(offset as u64);
+}
+
+// T1 and T2: three vertices a cut, the part of the segment up to it, the cut, and the cut again as the whole segment's split.
+fn cuts() {
+    word(b"T1 candidates of A: ");
+    let a = square_a();
+    candidates(
+        &a,
+        1,
+        &[
+            4.0,
+            0.0,
+            0.0,
+            4.0,
+            2.0,
+            0.0,
+            4.0,
+            2.0,
+            0.0,
+            4.0,
+            4.0,
+            0.0,
+            2.0,
+            4.0,
+            0.0,
+            2.0,
+            4.0,
+            0.0,
+        ],
+    );
+    word(b"T2 candidates of B: ");
+    let b = square_b();
+    candidates(
+        &b,
+        2,
+        &[
+            2.0,
+            2.0,
+            0.0,
+            4.0,
+            2.0,
+            0.0,
+            4.0,
+            2.0,
+            0.0,
+            2.0,
+            6.0,
+            0.0,
+            2.0,
+            4.0,
+            0.0,
+            2.0,
+            4.0,
+            0.0,
+        ],
+    );
+}
+
+fn square_a() -> [f64; 12] {
+    [0.0, 0.0, 0.0, 4.0, 0.0, 0.0, 4.0, 4.0, 0.0, 0.0, 4.0, 0.0]
+}
+
+fn square_b() -> [f64; 12] {
+    [2.0, 2.0, 0.0, 6.0, 2.0, 0.0, 6.0, 6.0, 0.0, 2.0, 6.0, 0.0]
+}
+
 fn triangle(t: &[f64]) {
     word(b"T6 cut on vertex 0: ");
     walk(t, 3, 0, at(0.0, 0.0), 3, 0, Point { x: 0.0, y: 0.0 });
@@ -162,9 +264,10 @@ fn triangle(t: &[f64]) {
 }
 
 fn main() {
-    let a = [0.0, 0.0, 0.0, 4.0, 0.0, 0.0, 4.0, 4.0, 0.0, 0.0, 4.0, 0.0];
-    let b = [2.0, 2.0, 0.0, 6.0, 2.0, 0.0, 6.0, 6.0, 0.0, 2.0, 6.0, 0.0];
+    let a = square_a();
+    let b = square_b();
     squares(&a, &b);
+    cuts();
     let t = [0.0, 0.0, 0.0, 2.0, 0.0, 0.0, 0.0, 2.0, 0.0];
     triangle(&t);
 }
