@@ -6,12 +6,19 @@
  *
  * Every entry answers a struct by value. Its first field is the refusal: 0 where
  * the call is accepted, else the lowest number of `mask_refusal` that applies.
- * On a refusal every other field is 0. No entry writes to memory that it is lent.
+ * On a refusal every other field is 0, and nothing lent is written.
  *
- * An outline is lent as a pointer and a length. The length counts numbers, three
- * to a vertex: x, y, bulge. A length of 0 allows any pointer, also NULL. `vc` is
- * the count of vertices. The caller answers for the length being true: the
- * library reads that many numbers.
+ * A list is lent as a pointer and a length. The length counts elements. A length
+ * of 0 allows any pointer, also NULL. The caller answers for the length being
+ * true: the library reads that many elements.
+ *
+ * An outline has three numbers to a vertex: x, y, bulge. `vc` is the count of
+ * vertices.
+ *
+ * A list that is not const is room for the answer. Its need is stated beside the
+ * entry. Where the call is accepted, the items are written from its start on, then
+ * 0 up to the need. What lies beyond the need is left as it was. No two lists of a
+ * call may share memory where one of them is room.
  */
 #ifndef MASK_H
 #define MASK_H
@@ -26,13 +33,15 @@ extern "C" {
 /* Why a call is refused. The lowest number that applies is given. */
 enum mask_refusal {
     MASK_ACCEPTED = 0,
-    MASK_REFUSED_LENGTH = 1,    /* a list's length disagrees with its count */
+    MASK_REFUSED_LENGTH = 1,    /* a list's length disagrees with its count, or that is too high */
     MASK_REFUSED_OUTLINE = 2,   /* fewer than 2 or more than 1024 vertices */
-    MASK_REFUSED_CODE = 3,      /* a yes/no code is neither 0 nor 1 */
+    MASK_REFUSED_CODE = 3,      /* a source is neither 1 nor 2, or a yes/no code neither 0 nor 1 */
     MASK_REFUSED_TOLERANCE = 4, /* not finite, not above 0, or above 1 */
     MASK_REFUSED_NUMBER = 5,    /* not finite, or larger than 2^30 in magnitude */
     MASK_REFUSED_INDEX = 6,     /* an index is not below the vertex count */
-    MASK_REFUSED_COUNT = 7      /* an offset or a traverse count is out of range */
+    MASK_REFUSED_COUNT = 7,     /* an offset or a traverse count is out of range */
+    MASK_REFUSED_ROOM = 9,      /* a list lent to be written is shorter than the need */
+    MASK_REFUSED_STEPS = 10     /* a walk took too many steps: proved never to happen */
 };
 
 /* What `mask_validate_for_source` found. 0 stands only beside a refusal. */
@@ -97,6 +106,12 @@ typedef struct mask_verdict_answer {
     double expected;
 } mask_verdict_answer;
 
+/* How many items were written. */
+typedef struct mask_count_answer {
+    uint32_t refusal;
+    size_t count;
+} mask_count_answer;
+
 /*
  * The view's vertex number `index`. A view has offset + 2 vertices; beyond them
  * there is "no vertex". Refusals 1, 2, 3, 5, 6, 7.
@@ -140,6 +155,57 @@ mask_view_answer mask_from_entire_pline(const double *outline, size_t outline_le
 mask_verdict_answer mask_validate_for_source(const double *outline, size_t outline_len, size_t vc,
                                              mask_view view, uint32_t start_on_segment,
                                              uint32_t end_on_segment);
+
+/*
+ * The cuts of one outline. `source` says which it is, 1 or 2, and `outline` is that
+ * one. Both entries below take the same lists of what the two outlines share:
+ *   hit_at  2 to a basic intersection: its start index on outline 1, on outline 2
+ *   hit     2 to a basic intersection: its point x, y
+ *   lap_at  7 to a joined overlap: start index on outline 1, on 2, end index on 1,
+ *           on 2, opposing (1 or 0), its view's start, its view's offset
+ *   lap     6 to a joined overlap: its view's updated start x, y, bulge, end bulge,
+ *           end x, y
+ * There are `hits` intersections, at most 512, and `laps` overlaps, at most 128.
+ * Only the indexes of the outline that `source` names are looked at, and no view's
+ * start or offset. An intersection is one cut, an overlap two: hits + 2 laps.
+ */
+
+/*
+ * The cuts in their order: by segment, then by distance from the segment's start
+ * vertex, then by arrival (intersections, then start and end of each overlap).
+ * `count` is the number of cuts. Written for each cut, which is also the need:
+ *   cut_at  3: segment, overlap mark (1 or 0), number of arrival
+ *   cut     2: its point x, y
+ * Refusals 1, 2, 3, 4, 5, 6, 9.
+ */
+mask_count_answer mask_cut_order(const double *outline, size_t outline_len, size_t vc,
+                                 uint32_t source, const size_t *hit_at, size_t hit_at_len,
+                                 const double *hit, size_t hit_len, size_t hits,
+                                 const size_t *lap_at, size_t lap_at_len, const double *lap,
+                                 size_t lap_len, size_t laps, double tolerance, size_t *cut_at,
+                                 size_t cut_at_len, double *cut, size_t cut_len);
+
+/*
+ * The candidates of one outline: the pieces between neighbouring cuts, and the walks
+ * from a segment's last cut to the next segment that has one. The order is worked
+ * out again from the same lists. `splits` has 9 numbers to a cut, in that order: the
+ * split of the running vertex at the cut (start part x, y, bulge; split vertex x, y,
+ * bulge), and the split vertex of the whole segment at the cut, which is used at a
+ * segment's last cut only. `count` is the number of candidates, at most one for each
+ * cut. Written for each candidate; the need is that for each cut:
+ *   cand_at  2: start, offset
+ *   cand     6: updated start x, y, bulge, end bulge, end x, y
+ *   probe    6: the two vertices whose midpoint the host tests, x, y, bulge each
+ * Refusals 1, 2, 3, 4, 5, 6, 9. Number 10 is proved never to be given.
+ */
+mask_count_answer mask_candidates(const double *outline, size_t outline_len, size_t vc,
+                                  uint32_t source, const size_t *hit_at, size_t hit_at_len,
+                                  const double *hit, size_t hit_len, size_t hits,
+                                  const size_t *lap_at, size_t lap_at_len, const double *lap,
+                                  size_t lap_len, size_t laps, const double *splits,
+                                  size_t splits_len, double tolerance, size_t *cand_at,
+                                  size_t cand_at_len, double *cand, size_t cand_len,
+                                  double *probe, size_t probe_len);
 
 #ifdef __cplusplus
 }
