@@ -35,13 +35,14 @@ enum mask_refusal {
     MASK_ACCEPTED = 0,
     MASK_REFUSED_LENGTH = 1,    /* a list's length disagrees with its count, or that is too high */
     MASK_REFUSED_OUTLINE = 2,   /* fewer than 2 or more than 1024 vertices */
-    MASK_REFUSED_CODE = 3,      /* a source is neither 1 nor 2, or a yes/no code neither 0 nor 1 */
-    MASK_REFUSED_TOLERANCE = 4, /* not finite, not above 0, or above 1 */
-    MASK_REFUSED_NUMBER = 5,    /* not finite, or larger than 2^30 in magnitude */
+    MASK_REFUSED_CODE = 3,      /* an unknown mode, selector, source (1, 2) or yes/no code (0, 1) */
+    MASK_REFUSED_TOLERANCE = 4, /* not finite, or out of range (area limit: below 0) */
+    MASK_REFUSED_NUMBER = 5,    /* not finite, or beyond 2^30 (areas: not finite) */
     MASK_REFUSED_INDEX = 6,     /* an index is not below the vertex count */
     MASK_REFUSED_COUNT = 7,     /* an offset or a traverse count is out of range */
+    MASK_REFUSED_STARTS = 8,    /* the starts of the classes fall back, or lie past the slices */
     MASK_REFUSED_ROOM = 9,      /* a list lent to be written is shorter than the need */
-    MASK_REFUSED_STEPS = 10     /* a walk took too many steps: proved never to happen */
+    MASK_REFUSED_STEPS = 10     /* a walk or a chain took too many steps: proved never to happen */
 };
 
 /* What `mask_validate_for_source` found. 0 stands only beside a refusal. */
@@ -53,6 +54,20 @@ enum mask_verdict {
     MASK_VERDICT_END_ON_FINAL_VERTEX = 5,  /* point, vertex */
     MASK_VERDICT_BULGE_MISMATCH = 6,       /* updated_bulge, expected */
     MASK_VERDICT_VALID = 7
+};
+
+/* Which slice a chain goes on with, where several start at its end. */
+enum mask_selector {
+    MASK_SELECTOR_OR_AND = 0, /* for union and intersection */
+    MASK_SELECTOR_NOT_XOR = 1 /* for the differences */
+};
+
+/* How a chain of slices ended. Only a closed one gives a loop. */
+enum mask_chain_end {
+    MASK_CHAIN_CLOSED = 0,
+    MASK_CHAIN_TOO_SMALL = 1,    /* it closed with fewer than 3 vertices */
+    MASK_CHAIN_NO_CANDIDATE = 2, /* no slice starts at its end */
+    MASK_CHAIN_NOT_SELECTED = 3  /* some do, but the selector takes none of them */
 };
 
 typedef struct mask_point {
@@ -206,6 +221,56 @@ mask_count_answer mask_candidates(const double *outline, size_t outline_len, siz
                                   size_t splits_len, double tolerance, size_t *cand_at,
                                   size_t cand_at_len, double *cand, size_t cand_len,
                                   double *probe, size_t probe_len);
+
+/*
+ * Slices are parts of the two outlines, which the stitch joins end to start:
+ *   slice_at  4 to a slice: source (1 or 2), inverted (1 or 0), start, offset
+ *   slice     6 to a slice: updated start x, y, bulge, end bulge, end x, y
+ * There are `slices` of them, at most 1792, in four classes one after the other: of
+ * outline 1, of outline 2, overlaps for 1, overlaps for 2. Where the last three begin:
+ */
+typedef struct mask_starts {
+    size_t pline2;
+    size_t pline1_overlapping;
+    size_t pline2_overlapping;
+} mask_starts;
+
+typedef struct mask_stitch_answer {
+    uint32_t refusal;
+    size_t rounds; /* as many as slices */
+    size_t loops;
+    size_t chains;
+} mask_stitch_answer;
+
+/*
+ * The loops that the slices make. The three starts are those of `mask_starts`;
+ * `selector` is one of `mask_selector`. Written:
+ *   room        3 to a vertex: x, y, bulge; loop after loop. Its need is 3 numbers for
+ *               each of 1 + the sum of (offset + 1) vertices; 0 where there are no slices
+ *   ends        1 to a loop: how many vertices all loops up to and with it have
+ *   chain       1 to a slice: its number; chain after chain
+ *   chain_ends  1 to a chain: how many slices all chains up to and with it have
+ *   chain_how   1 to a chain: how it ended, of `mask_chain_end`
+ * The need of each of the last four is one entry per slice. Refusals 1 to 9. Number
+ * 10 is proved never to be given.
+ */
+mask_stitch_answer mask_stitch(const double *outline1, size_t outline1_len, size_t vc1,
+                               const double *outline2, size_t outline2_len, size_t vc2,
+                               const size_t *slice_at, size_t slice_at_len, const double *slice,
+                               size_t slice_len, size_t slices, size_t pline2,
+                               size_t pline1_overlapping, size_t pline2_overlapping,
+                               uint32_t selector, double tolerance, double *room, size_t room_len,
+                               size_t *ends, size_t ends_len, size_t *chain, size_t chain_len,
+                               size_t *chain_ends, size_t chain_ends_len, size_t *chain_how,
+                               size_t chain_how_len);
+
+/*
+ * The loops whose area is not less than `limit`, by number, in order. `areas` has one
+ * area per loop, of at most 1792. `count` is how many are kept; the need of `kept` is
+ * one entry per loop. Refusals 1, 4, 5, 9.
+ */
+mask_count_answer mask_area_pass(const double *areas, size_t areas_len, size_t loops, double limit,
+                                 size_t *kept, size_t kept_len);
 
 #ifdef __cplusplus
 }

@@ -1,3 +1,4 @@
 // What hosts link: the exported entries, each a thin function over the crates below.
 pub mod cutting;
+pub mod stitching;
 pub mod viewing;

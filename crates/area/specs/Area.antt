@@ -1,0 +1,31 @@
+-- Document 01: "The area pass then takes one area per loop and drops a loop whose area is less than the limit, strictly. Kept loops are listed by number
+-- in order; the list needs one entry per loop."
+use Prim.Native.Nat.{ℕ, zero, suc, _≤_}
+use mathlib.Core.Bool.{Bool, not, cond}
+use mathlib.Core.Path.{_≡_}
+use mathlib.Core.List.{List, [], _∷_, _++_}
+use lib.ListN.{length, getD}
+use lib.Ieee.{Float, nan, lt}
+use Rattle.basis.specs.Room.{roomOf}
+
+-- a loop stays: its area is not "less than the limit, strictly"
+unfoldable pub isKept : Float → Float → Bool
+isKept limit area = not (lt area limit)
+
+-- the numbers of those that stay among the first n loops
+unfoldable pub keptTo : List Float → Float → ℕ → List ℕ
+keptTo areas limit zero = []
+keptTo areas limit (suc n) = keptTo areas limit n ++ cond (isKept limit (getD areas n nan)) (n ∷ []) []
+
+unfoldable pub keptOf : List Float → Float → List ℕ
+keptOf areas limit = keptTo areas limit (length areas)
+
+-- what a caller has shown: "the list needs one entry per loop", and there are at most 1,792
+pub record Roomy (areas : List Float) (kept : List ℕ) : Type 0 where
+  pub fits : length areas ≤ length kept
+  pub few : length areas ≤ 1792
+
+-- what the call leaves: by the room rule, width 1, and one entry per loop as the need
+pub record Kept (areas : List Float) (limit : Float) (entry : List ℕ) (r : ℕ) (exit : List ℕ) : Type 0 where
+  pub counted : r ≡ length (keptOf areas limit)
+  pub list : exit ≡ roomOf 0 1 (length areas) (keptOf areas limit) entry

@@ -1,0 +1,31 @@
+// Document 01, the area pass: one area per loop; the loops that stay, listed by number.
+ghost use mathlib.Core.Path.{_≡_};
+ghost use Rattle.area.specs.Area.{isKept, Roomy, Kept};
+use basis::room;
+
+// A loop stays: its area is not less than the limit.
+pub fn is_kept(area: f64, limit: f64) -> bool
+    ensures { λ r. ⌜ r ≡ isKept limit area ⌝ }
+{
+    !(area < limit)
+}
+
+// Writes the numbers of the loops that stay, in order, then 0 up to one entry per loop, and says how many there are.
+pub fn write_kept(areas: &[f64], limit: f64, kept: &mut [usize]) -> usize
+    requires { ⌜ Roomy (now areas) (now kept) ⌝ }
+    ensures { λ r. ⌜ Kept (now (areas .entry)) limit (now (kept .entry)) r (now (kept .exit)) ⌝ }
+{
+    let mut n = 0;
+    let mut i = 0;
+    while i < areas.len() {
+        let k = i;
+        i += 1;
+        if !is_kept(areas[k], limit) {
+            continue;
+        }
+        kept[n] = k;
+        n += 1;
+    }
+    room::clear_counts(kept, n, areas.len());
+    n
+}

@@ -1,0 +1,4 @@
+pub mod Chain
+pub mod Held
+pub mod ChainLaws
+pub mod RestLaws

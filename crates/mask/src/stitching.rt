@@ -1,0 +1,64 @@
+// The stitch and the area pass.
+ghost use Rattle.stitch.specs.Stitch.{given};
+ghost use Rattle.stitch.specs.Between.{lists};
+ghost use Rattle.stitch_entries.specs.StitchEntry.{StitchLeft};
+ghost use Rattle.stitch_entries.specs.AreaEntry.{AreaLeft};
+use cut_entries::answer::CountAnswer;
+use stitch_entries::answer::StitchAnswer;
+
+// The slices stitched into closed loops.
+#[no_mangle]
+pub extern "C" fn mask_stitch(
+    outline1: &[f64],
+    vc1: usize,
+    outline2: &[f64],
+    vc2: usize,
+    slice_at: &[usize],
+    slice: &[f64],
+    slices: usize,
+    pline2: usize,
+    pline1_overlapping: usize,
+    pline2_overlapping: usize,
+    selector: u32,
+    tolerance: f64,
+    room: &mut [f64],
+    ends: &mut [usize],
+    chain: &mut [usize],
+    chain_ends: &mut [usize],
+    chain_how: &mut [usize],
+) -> StitchAnswer
+    ensures { λ r. ⌜ StitchLeft (given (now (outline1 .entry)) vc1 (now (outline2 .entry)) vc2 (now («slice_at» .entry)) (now (slice .entry)) slices (record { pline2 = pline2; «pline1_overlapping» = «pline1_overlapping»; «pline2_overlapping» = «pline2_overlapping» }) selector tolerance) (lists (now (room .entry)) (now (ends .entry)) (now (chain .entry)) (now («chain_ends» .entry)) (now («chain_how» .entry))) r (lists (now (room .exit)) (now (ends .exit)) (now (chain .exit)) (now («chain_ends» .exit)) (now («chain_how» .exit))) ⌝ }
+{
+    stitch_entries::stitching::entry(
+        outline1,
+        vc1,
+        outline2,
+        vc2,
+        slice_at,
+        slice,
+        slices,
+        pline2,
+        pline1_overlapping,
+        pline2_overlapping,
+        selector,
+        tolerance,
+        room,
+        ends,
+        chain,
+        chain_ends,
+        chain_how,
+    )
+}
+
+// The numbers of the loops whose area is not below the limit, in order.
+#[no_mangle]
+pub extern "C" fn mask_area_pass(
+    areas: &[f64],
+    loops: usize,
+    limit: f64,
+    kept: &mut [usize],
+) -> CountAnswer
+    ensures { λ r. ⌜ AreaLeft (now (areas .entry)) loops limit (now (kept .entry)) r (now (kept .exit)) ⌝ }
+{
+    stitch_entries::areas::entry(areas, loops, limit, kept)
+}

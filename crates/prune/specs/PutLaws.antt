@@ -1,0 +1,95 @@
+-- Laws by which slices are written one after the other.
+use Prim.Native.Nat.{ℕ, suc, _+_, _*_}
+use mathlib.Core.Path.{_≡_, refl, sym, ap, _∙_}
+use mathlib.Core.List.{List, [], _∷_, _++_, flatMap, append-assoc}
+use native.Mathlib.Nat.{add-zero, add-suc, suc-add, mul-add, mul-suc, mul-zero}
+use native.Mathlib.Numerals.{towards-suc}
+use native.Mathlib.Omega.{arith}
+use lib.ListN.{length, getD, set, length-append}
+use lib.Seq.{sets, length-sets}
+use lib.Ieee.{Float, nan}
+use Rattle.prune.specs.declared.put.Head.{Head}
+use Rattle.prune.specs.Prune.{Slice, sliceOf, headNumbers, countsOf, shapeOf}
+use Rattle.prune.specs.Ready.{Rooms, CopyFit, Placed}
+
+-- ---- runs of stores
+
+-- one run behind another
+pub sets-append : {A : Type 0} (l : List A) (i : ℕ) (xs ys : List A) → sets (sets l i xs) (i + length xs) ys ≡ sets l i (xs ++ ys)
+sets-append l i [] ys = rw add-zero
+sets-append {A} l i (x ∷ xs) ys =
+    ap (λ (k : ℕ). sets (sets (set l i x) (suc i) xs) k ys) (add-suc i (length xs) ∙ sym (suc-add i (length xs)))
+    ∙ sets-append (set l i x) (suc i) xs ys
+
+-- three numbers from place i on; the six of item k
+abbrev pub threeAt : List Float → ℕ → List Float
+threeAt l i = getD l i nan ∷ getD l (i + 1) nan ∷ getD l (i + 2) nan ∷ []
+
+unfoldable pub sixAt : List Float → ℕ → List Float
+sixAt l k = threeAt l (6 * k) ++ threeAt l (6 * k + 3)
+
+pub six-put : (from l l₁ l₂ : List Float) (k n : ℕ) → l₁ ≡ sets l (6 * n) (threeAt from (6 * k)) → l₂ ≡ sets l₁ (6 * n + 3) (threeAt from (6 * k + 3))
+    → l₂ ≡ sets l (6 * n) (sixAt from k)
+unfolding sixAt
+six-put from l l₁ l₂ k n p q = q ∙ ap (λ (m : List Float). sets m (6 * n + 3) (threeAt from (6 * k + 3))) p ∙ sets-append l (6 * n) (threeAt from (6 * k)) (threeAt from (6 * k + 3))
+
+-- after three stores there is room for three more
+pub copy-after : {A : Type 0} (from l l₁ : List A) (i at : ℕ) (vs : List A) → CopyFit from i l at 6 → l₁ ≡ sets l at vs → CopyFit from (i + 3) l₁ (at + 3) 3
+copy-after from l l₁ i at vs r e = record { source = omega (arith, r .source); fits = omega (arith, ap length e ∙ length-sets l at vs, r .fits) }
+
+six-shape : (h : Head) (from : List Float) (k : ℕ) → sixAt from k ≡ shapeOf (sliceOf h from k)
+unfolding sixAt
+six-shape h from k = simp towards-suc
+
+-- ---- slices
+
+flat-append : {A B : Type 0} (f : A → List B) (xs ys : List A) → flatMap f (xs ++ ys) ≡ flatMap f xs ++ flatMap f ys
+unfolding flatMap
+flat-append f [] ys = refl
+flat-append f (x ∷ xs) ys = rw (flat-append f xs ys) (sym (append-assoc (f x) (flatMap f xs) (flatMap f ys)))
+
+-- w numbers for each
+pub flat-length : {A B : Type 0} (w : ℕ) (f : A → List B) → ((s : A) → length (f s) ≡ w) → (xs : List A) → length (flatMap f xs) ≡ w * length xs
+unfolding flatMap
+flat-length w f e [] = sym (mul-zero w)
+flat-length w f e (x ∷ xs) =
+    length-append (f x) (flatMap f xs) ∙ rw (e x, flat-length w f e xs, mul-suc) (omega arith)
+
+pub counts-length : (xs : List Slice) → length (flatMap countsOf xs) ≡ 4 * length xs
+counts-length = flat-length 4 countsOf (λ s. refl)
+
+pub shapes-length : (xs : List Slice) → length (flatMap shapeOf xs) ≡ 6 * length xs
+shapes-length = flat-length 6 shapeOf (λ s. refl)
+
+pub placed-none : (l : Rooms) (m : ℕ) → Placed [] l m m l
+unfolding flatMap
+placed-none l m = record { counted = omega arith; at = refl; shape = refl }
+
+pub placed-one : (h : Head) (from : List Float) (k : ℕ) (l l′ : Rooms) (n : ℕ) → l′ .at ≡ sets (l .at) (4 * n) (headNumbers h) → l′ .shape ≡ sets (l .shape) (6 * n) (sixAt from k)
+    → Placed (sliceOf h from k ∷ []) l n (n + 1) l′
+unfolding flatMap
+placed-one h from k l l′ n p q = record { counted = refl; at = p; shape = rw (six-shape h from k) at q }
+
+-- some slices, and others behind them
+run-then : {A : Type 0} (w : ℕ) (f : Slice → List A) (wide : (xs : List Slice) → length (flatMap f xs) ≡ w * length xs) (xs ys : List Slice) (l l′ l″ : List A) (m k : ℕ)
+    → k ≡ m + length xs → l′ ≡ sets l (w * m) (flatMap f xs) → l″ ≡ sets l′ (w * k) (flatMap f ys) → l″ ≡ sets l (w * m) (flatMap f (xs ++ ys))
+run-then {A} w f wide xs ys l l′ l″ m k n p q =
+    let e : w * k ≡ w * m + length (flatMap f xs) = rw (n, mul-add w, wide xs) in
+    q ∙ rw (e, p, sets-append l (w * m) (flatMap f xs) (flatMap f ys), ← flat-append f xs ys)
+
+pub placed-then : (xs ys : List Slice) (l l′ l″ : Rooms) (m k r : ℕ) → Placed xs l m k l′ → Placed ys l′ k r l″ → Placed (xs ++ ys) l m r l″
+placed-then xs ys l l′ l″ m k r a b =
+    record {
+      counted = rw length-append (omega (arith, a .counted, b .counted));
+      at = run-then 4 countsOf counts-length xs ys (l .at) (l′ .at) (l″ .at) m k (a .counted) (a .at) (b .at);
+      shape = run-then 6 shapeOf shapes-length xs ys (l .shape) (l′ .shape) (l″ .shape) m k (a .counted) (a .shape) (b .shape);
+    }
+
+-- the lists are as long as before
+pub placed-at : (xs : List Slice) (l l′ : Rooms) (m k : ℕ) → Placed xs l m k l′ → length (l′ .at) ≡ length (l .at)
+placed-at xs l l′ m k p = ap length (p .at) ∙ length-sets (l .at) (4 * m) (flatMap countsOf xs)
+
+pub placed-shape : (xs : List Slice) (l l′ : Rooms) (m k : ℕ) → Placed xs l m k l′ → length (l′ .shape) ≡ length (l .shape)
+placed-shape xs l l′ m k p = ap length (p .shape) ∙ length-sets (l .shape) (6 * m) (flatMap shapeOf xs)
+
+pub ruleset putting = (six-put, copy-after, placed-one)

@@ -1,0 +1,78 @@
+use mathlib.Core.Path.{refl}
+use Rattle.stitch.specs.TurnLaws.{turn-skip, turn-behind, turn-open, turn-listed, turn-looped, turn-taken}
+use borrow.Author.Needs.{needs}
+use Rattle.stitch.proofs.turn.take_turn.Statement.{statement}
+use Rattle.stitch.proofs.turn.take_turn.Tie as tie
+
+slice-read-if1 : tie.Need-slice-read-if1
+slice-read-if1 c = search needs
+
+returns : tie.Need-returns
+returns c = turn-skip (c .before .before .before .before .before .before .before .before .before .before .before .before .pre) (c .if1 .taken)
+
+mul-a : tie.Need-mul-a
+mul-a c = let h = turn-behind (c .before .before .before .before .before .before .before .before .before .before .before .before .before .pre) (c .before .if1 .left) in search needs
+
+mul-walk-chain : tie.Need-mul-walk-chain
+mul-walk-chain c = let h = turn-behind (c .before .before .before .before .before .before .before .before .before .before .before .before .before .before .pre) (c .before .before .if1 .left) in search needs
+
+sub-walk-chain : tie.Need-sub-walk-chain
+sub-walk-chain c = let h = turn-behind (c .before .before .before .before .before .before .before .before .before .before .before .before .before .before .pre) (c .before .before .if1 .left) in search needs
+
+part-walk-chain-start : tie.Need-part-walk-chain-start
+part-walk-chain-start c = let h = turn-behind (c .before .before .before .before .before .before .before .before .before .before .before .before .before .before .pre) (c .before .before .if1 .left) in search needs
+
+part-walk-chain-end : tie.Need-part-walk-chain-end
+part-walk-chain-end c = search needs
+
+walk-chain-requires : tie.Need-walk-chain-requires
+walk-chain-requires c κs = turn-open (c .before .before .before .before .before .before .before .before .before .before .before .before .before .before .before .before .pre) (c .before .before .before .before .if1 .left) refl
+
+list-chain-requires : tie.Need-list-chain-requires
+list-chain-requires c κs = turn-listed (c .before .before .before .before .before .before .before .before .before .before .before .before .before .before .before .before .before .before .before .before .before .before .before .before .before .pre) (c .before .before .before .before .before .before .before .before .before .before .before .before .before .if1 .left)
+
+list-loop-requires : tie.Need-list-loop-requires
+list-loop-requires c κs = turn-looped (c .before .before .before .before .before .before .before .before .before .before .before .before .before .before .before .before .before .before .before .before .before .before .before .before .before .before .before .before .before .before .before .pre) (c .before .before .before .before .before .before .before .before .before .before .before .before .before .before .before .before .before .before .before .if1 .left) (c .before .before .before .before .before .before .before .before .before .before .before .before .before .before .walk-chain .ensures)
+
+same-length : tie.Need-same-length
+same-length c = search needs
+
+same-length-2 : tie.Need-same-length-2
+same-length-2 c = search needs
+
+same-length-3 : tie.Need-same-length-3
+same-length-3 c = search needs
+
+same-length-4 : tie.Need-same-length-4
+same-length-4 c = search needs
+
+same-length-5 : tie.Need-same-length-5
+same-length-5 c = search needs
+
+same-length-6 : tie.Need-same-length-6
+same-length-6 c = search needs
+
+returns-2 : tie.Need-returns-2
+returns-2 c = turn-taken (c .before .before .before .before .before .before .before .before .before .before .before .before .before .before .before .before .before .before .before .before .before .before .before .before .before .before .before .before .before .before .before .before .before .before .pre) (c .before .before .before .before .before .before .before .before .before .before .before .before .before .before .before .before .before .before .before .before .before .before .if1 .left) refl (c .before .before .before .before .before .before .before .before .before .before .before .before .before .before .before .before .before .walk-chain .ensures) (c .before .before .before .before .before .before .before .before .list-chain .ensures) (c .before .before .list-loop .ensures)
+
+pub take-turn-spec : {M : Type 1} → statement M
+take-turn-spec =
+    tie.close
+    (tie.spec
+    slice-read-if1
+    returns
+    mul-a
+    mul-walk-chain
+    sub-walk-chain
+    part-walk-chain-start
+    part-walk-chain-end
+    walk-chain-requires
+    list-chain-requires
+    list-loop-requires
+    same-length
+    same-length-2
+    same-length-3
+    same-length-4
+    same-length-5
+    same-length-6
+    returns-2)

@@ -1,0 +1,68 @@
+use borrow.Author.Needs.{needs}
+use Prim.Native.Nat.{_-_}
+use Rattle.stitch.specs.Ready.{planned}
+use Rattle.stitch.specs.Between.{lists}
+use Rattle.stitch.specs.WriteLaws.{Turning, turns-turn, turning}
+use Rattle.stitch.proofs.turn.take_turns.Statement.{statement}
+use Rattle.stitch.proofs.turn.take_turns.Tie as tie
+
+abbrev Inv-loop : tie.InvT-loop
+Inv-loop visited₀ room₀ ends₀ chain₀ chain-ends₀ chain-how₀ outline1 outline2 slice-at slice points p w₀ i₀ visited room ends chain chain-ends chain-how w i = Turning (planned outline1 outline2 slice-at slice p) points (lists room₀ ends₀ chain₀ chain-ends₀ chain-how₀) w visited (lists room ends chain chain-ends chain-how) i
+
+abbrev μ-loop : tie.MeasureT-loop
+μ-loop visited₀ room₀ ends₀ chain₀ chain-ends₀ chain-how₀ outline1 outline2 slice-at slice points p w₀ i₀ visited room ends chain chain-ends chain-how w i = p .count - i
+
+loop-holds : tie.Need-loop-holds Inv-loop μ-loop
+loop-holds c = search (needs, turning)
+
+take-turn-requires : tie.Need-take-turn-requires Inv-loop μ-loop
+take-turn-requires c κs = turns-turn _ _ _ _ _ _ _ (c .before .before .before .before .before .before .before .before .loop .inv) (c .before .before .before .before .before .before .if1 .taken)
+
+add-i : tie.Need-add-i Inv-loop μ-loop
+add-i c = search needs
+
+loop-less : tie.Need-loop-less Inv-loop μ-loop
+loop-less c = search needs
+
+loop-again : tie.Need-loop-again Inv-loop μ-loop
+loop-again c = search (needs, turning)
+
+same-length : tie.Need-same-length Inv-loop μ-loop
+same-length c = search needs
+
+same-length-2 : tie.Need-same-length-2 Inv-loop μ-loop
+same-length-2 c = search needs
+
+same-length-3 : tie.Need-same-length-3 Inv-loop μ-loop
+same-length-3 c = search needs
+
+same-length-4 : tie.Need-same-length-4 Inv-loop μ-loop
+same-length-4 c = search needs
+
+same-length-5 : tie.Need-same-length-5 Inv-loop μ-loop
+same-length-5 c = search needs
+
+same-length-6 : tie.Need-same-length-6 Inv-loop μ-loop
+same-length-6 c = search needs
+
+returns : tie.Need-returns Inv-loop μ-loop
+returns c = search (needs, turning)
+
+pub take-turns-spec : {M : Type 1} → statement M
+take-turns-spec =
+    tie.close
+    (tie.spec
+    Inv-loop
+    μ-loop
+    loop-holds
+    take-turn-requires
+    add-i
+    loop-less
+    loop-again
+    same-length
+    same-length-2
+    same-length-3
+    same-length-4
+    same-length-5
+    same-length-6
+    returns)

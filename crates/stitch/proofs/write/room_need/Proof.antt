@@ -1,0 +1,66 @@
+use borrow.Author.Needs.{needs}
+use Prim.Native.Nat.{_-_}
+use Rattle.stitch.specs.WriteLaws.{Summing, sum-offset, summing}
+use Rattle.stitch.proofs.write.room_need.Statement.{statement}
+use Rattle.stitch.proofs.write.room_need.Tie as tie
+
+abbrev Inv-loop : tie.InvT-loop
+Inv-loop slice-at count sum₀ i₀ sum i = Summing slice-at count sum i
+
+abbrev μ-loop : tie.MeasureT-loop
+μ-loop slice-at count sum₀ i₀ sum i = count - i
+
+returns : tie.Need-returns Inv-loop μ-loop
+returns c = search (needs, summing)
+
+loop-holds : tie.Need-loop-holds Inv-loop μ-loop
+loop-holds c = search (needs, summing)
+
+mul-a : tie.Need-mul-a Inv-loop μ-loop
+mul-a c = search needs
+
+add-a : tie.Need-add-a Inv-loop μ-loop
+add-a c = search needs
+
+mul-sum : tie.Need-mul-sum Inv-loop μ-loop
+mul-sum c = search needs
+
+shared-slice-read-sum : tie.Need-shared-slice-read-sum Inv-loop μ-loop
+shared-slice-read-sum c = search needs
+
+add-sum : tie.Need-add-sum Inv-loop μ-loop
+add-sum c = let h = sum-offset _ _ _ (c .before .before .before .before .pre) (c .before .loop-test .taken) in search needs
+
+add-sum-2 : tie.Need-add-sum-2 Inv-loop μ-loop
+add-sum-2 c = let h = sum-offset _ _ _ (c .before .before .before .before .pre) (c .before .loop-test .taken) in search needs
+
+add-i : tie.Need-add-i Inv-loop μ-loop
+add-i c = search needs
+
+loop-less : tie.Need-loop-less Inv-loop μ-loop
+loop-less c = search needs
+
+loop-again : tie.Need-loop-again Inv-loop μ-loop
+loop-again c = search (needs, summing)
+
+returns-2 : tie.Need-returns-2 Inv-loop μ-loop
+returns-2 c = search (needs, summing)
+
+pub room-need-spec : {M : Type 1} → statement M
+room-need-spec =
+    tie.close
+    (tie.spec
+    Inv-loop
+    μ-loop
+    returns
+    loop-holds
+    mul-a
+    add-a
+    mul-sum
+    shared-slice-read-sum
+    add-sum
+    add-sum-2
+    add-i
+    loop-less
+    loop-again
+    returns-2)

@@ -1,0 +1,112 @@
+// The stitch over lists that have been looked at: what it writes into the lent room and what it reports.
+ghost use mathlib.Core.Path.{_≡_};
+ghost use Rattle.stitch.specs.Stitch.{given, needOf};
+ghost use Rattle.stitch.specs.Between.{lists, NeedFit, RestFit, RestCleared, StitchFit, Written};
+use crate::plan::Plan;
+use crate::slice;
+use crate::turn;
+use crate::turn::Tally;
+use basis::number::Tolerance;
+use basis::room;
+use select::class::Starts;
+
+// What is reported: the rounds taken, the loops returned, the chains walked.
+pub struct Stitched {
+    pub rounds: usize,
+    pub loops: usize,
+    pub chains: usize,
+}
+
+// The room that a stitch needs, in vertices: one more than the sum of (offset + 1), and none where there are no slices.
+pub fn room_need(slice_at: &[usize], count: usize) -> usize
+    requires { ⌜ NeedFit (now «slice_at») count ⌝ }
+    ensures { λ r. ⌜ r ≡ needOf (now («slice_at» .entry)) count ⌝ }
+{
+    if count == 0 {
+        return 0;
+    }
+    let mut sum = 1;
+    let mut i = 0;
+    while i < count {
+        let a = 4 * i + 3;
+        sum += slice_at[a] + 1;
+        i += 1;
+    }
+    sum
+}
+
+// Sets each list to zero behind what was written, up to its need.
+fn clear_rest(
+    room: &mut [f64],
+    ends: &mut [usize],
+    chain: &mut [usize],
+    chain_ends: &mut [usize],
+    chain_how: &mut [usize],
+    w: Tally,
+    need: usize,
+    count: usize,
+)
+    requires { ⌜ RestFit (lists (now room) (now ends) (now chain) (now «chain_ends») (now «chain_how»)) w need count ⌝ }
+    ensures { λ _. ⌜ RestCleared (lists (now (room .entry)) (now (ends .entry)) (now (chain .entry)) (now («chain_ends» .entry)) (now («chain_how» .entry))) w need count (lists (now (room .exit)) (now (ends .exit)) (now (chain .exit)) (now («chain_ends» .exit)) (now («chain_how» .exit))) ⌝ }
+{
+    room::clear_numbers(room, 3 * w.done, 3 * need);
+    room::clear_counts(ends, w.loops, count);
+    room::clear_counts(chain, w.rounds, count);
+    room::clear_counts(chain_ends, w.chains, count);
+    room::clear_counts(chain_how, w.chains, count);
+}
+
+// Stitches the slices: the loops' vertices into `room`, each loop's end, each chain's slices, where they end and how it ended.
+pub fn write_stitch(
+    outline1: &[f64],
+    vc1: usize,
+    outline2: &[f64],
+    vc2: usize,
+    slice_at: &[usize],
+    slice: &[f64],
+    count: usize,
+    starts: Starts,
+    selector: u32,
+    t: Tolerance,
+    room: &mut [f64],
+    ends: &mut [usize],
+    chain: &mut [usize],
+    chain_ends: &mut [usize],
+    chain_how: &mut [usize],
+) -> Stitched
+    requires { ⌜ StitchFit (given (now outline1) vc1 (now outline2) vc2 (now «slice_at») (now slice) count starts selector t) (lists (now room) (now ends) (now chain) (now «chain_ends») (now «chain_how»)) ⌝ }
+    ensures { λ r. ⌜ Written (given (now (outline1 .entry)) vc1 (now (outline2 .entry)) vc2 (now («slice_at» .entry)) (now (slice .entry)) count starts selector t) (lists (now (room .entry)) (now (ends .entry)) (now (chain .entry)) (now («chain_ends» .entry)) (now («chain_how» .entry))) r (lists (now (room .exit)) (now (ends .exit)) (now (chain .exit)) (now («chain_ends» .exit)) (now («chain_how» .exit))) ⌝ }
+{
+    let p = Plan {
+        vc1,
+        vc2,
+        count,
+        starts,
+        selector,
+        t,
+    };
+    let mut points = [0.0; 3584];
+    slice::fill_points(&mut points, outline1, outline2, slice_at, slice, p);
+    let mut visited = [false; 1792];
+    let w = turn::take_turns(
+        &mut visited[..count],
+        room,
+        ends,
+        chain,
+        chain_ends,
+        chain_how,
+        outline1,
+        outline2,
+        slice_at,
+        slice,
+        &points,
+        p,
+    );
+    let need = room_need(slice_at, count);
+    clear_rest(room, ends, chain, chain_ends, chain_how, w, need, count);
+    Stitched {
+        rounds: w.rounds,
+        loops: w.loops,
+        chains: w.chains,
+    }
+}

@@ -1,0 +1,5 @@
+pub mod Answers
+pub mod StitchRows
+pub mod StitchEntry
+pub mod StitchEntryLaws
+pub mod AreaEntry

@@ -1,0 +1,41 @@
+-- The entry `mask_stitch`: its refusals, its answer, and what its five lent lists hold.
+use Prim.Native.Nat.{ℕ}
+use mathlib.Core.Path.{_≡_}
+use mathlib.Core.List.{List, [], _∷_, _++_}
+use lib.ListN.{length}
+use Rattle.basis.specs.Number.{+0}
+use Rattle.basis.specs.Room.{roomOf}
+use Rattle.basis.specs.Refuse.{Row, row, firstOf, answer}
+use Rattle.stitch.specs.Stitch.{Given, needOf, roundCount, loopCount, chainCount, roomItems, endItems, chainItems, chainEndItems, howItems, roundsFault}
+use Rattle.stitch.specs.Between.{Lists}
+use Rattle.stitch_entries.specs.declared.answer.StitchAnswer.{StitchAnswer}
+use Rattle.stitch_entries.specs.Answers.{stitchRefused, stitchGiven}
+use Rattle.stitch_entries.specs.StitchRows.{listRows, codeRows, numberRows, indexRows, roomRows}
+
+-- 1 to 8
+abbrev pub shapeRows : Given → List Row
+shapeRows g =
+    listRows (length (g .outline1)) (g .vc1) (length (g .outline2)) (g .vc2) (length (g .sliceAt)) (length (g .slice)) (g .slices)
+    ++ (codeRows (g .vc1) (g .vc2) (g .selector) (g .sliceAt)
+    ++ (numberRows (g .tolerance) (g .outline1) (g .outline2) (g .slice) ++ indexRows (g .vc1) (g .vc2) (g .sliceAt) (g .starts) (g .slices)))
+
+-- 10: "a chain of n slices more than n + 1 rounds"
+abbrev pub guardRows : Given → List Row
+guardRows g = row (roundsFault g) 10 ∷ []
+
+unfoldable pub stitchRefusal : Given → ℕ → ℕ → ℕ → ℕ → ℕ → ℕ
+stitchRefusal g room ends chain chainEnds chainHow =
+    firstOf (shapeRows g ++ (roomRows (g .sliceAt) (g .slices) room ends chain chainEnds chainHow ++ guardRows g))
+
+-- the number of a call with these lists lent
+abbrev pub stitchNumber : Given → Lists → ℕ
+stitchNumber g x = stitchRefusal g (length (x .room)) (length (x .ends)) (length (x .chain)) (length (x .chainEnds)) (length (x .chainHow))
+
+-- the answer, and each lent list at exit: by the room rule where the call is accepted, untouched where it is refused
+pub record StitchLeft (g : Given) (x : Lists) (r : StitchAnswer) (left : Lists) : Type 0 where
+  pub answers : r ≡ answer stitchRefused (stitchNumber g x) (stitchGiven (roundCount g) (loopCount g) (chainCount g))
+  pub room : left .room ≡ answer (λ _. x .room) (stitchNumber g x) (roomOf +0 3 (needOf (g .sliceAt) (g .slices)) (roomItems g) (x .room))
+  pub ends : left .ends ≡ answer (λ _. x .ends) (stitchNumber g x) (roomOf 0 1 (g .slices) (endItems g) (x .ends))
+  pub chain : left .chain ≡ answer (λ _. x .chain) (stitchNumber g x) (roomOf 0 1 (g .slices) (chainItems g) (x .chain))
+  pub chainEnds : left .chainEnds ≡ answer (λ _. x .chainEnds) (stitchNumber g x) (roomOf 0 1 (g .slices) (chainEndItems g) (x .chainEnds))
+  pub chainHow : left .chainHow ≡ answer (λ _. x .chainHow) (stitchNumber g x) (roomOf 0 1 (g .slices) (howItems g) (x .chainHow))
