@@ -272,6 +272,38 @@ mask_stitch_answer mask_stitch(const double *outline1, size_t outline1_len, size
 mask_count_answer mask_area_pass(const double *areas, size_t areas_len, size_t loops, double limit,
                                  size_t *kept, size_t kept_len);
 
+/* What the two outlines are made into. */
+enum mask_mode {
+    MASK_MODE_UNION = 0,
+    MASK_MODE_INTERSECTION = 1,
+    MASK_MODE_FIRST_MINUS_SECOND = 2,
+    MASK_MODE_SECOND_MINUS_FIRST = 3
+};
+
+typedef struct mask_prune_answer {
+    uint32_t refusal;
+    size_t slices;
+    mask_starts starts;
+} mask_prune_answer;
+
+/*
+ * The slices that `mode`, one of `mask_mode`, keeps. `opposing` is 1 where the two
+ * outlines run in opposing directions, else 0. The candidates of each outline are as
+ * `mask_candidates` gives them, at most 768, and `inside` has for each of them 1 where
+ * it lies inside the other outline, else 0. `lap_at` and `lap` are as above. Written
+ * are `slice_at` and `slice`; their need is count1 + count2 + 2 laps slices.
+ * Refusals 1, 2, 3, 5, 6, 7, 9.
+ */
+mask_prune_answer mask_prune(uint32_t mode, uint32_t opposing, size_t vc1, size_t vc2,
+                             const size_t *cand_at1, size_t cand_at1_len, const double *cand1,
+                             size_t cand1_len, const uint8_t *inside1, size_t inside1_len,
+                             size_t count1, const size_t *cand_at2, size_t cand_at2_len,
+                             const double *cand2, size_t cand2_len, const uint8_t *inside2,
+                             size_t inside2_len, size_t count2, const size_t *lap_at,
+                             size_t lap_at_len, const double *lap, size_t lap_len, size_t laps,
+                             size_t *slice_at, size_t slice_at_len, double *slice,
+                             size_t slice_len);
+
 #ifdef __cplusplus
 }
 #endif

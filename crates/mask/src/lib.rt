@@ -1,4 +1,5 @@
 // What hosts link: the exported entries, each a thin function over the crates below.
 pub mod cutting;
+pub mod pruning;
 pub mod stitching;
 pub mod viewing;

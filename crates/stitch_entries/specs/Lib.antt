@@ -3,3 +3,4 @@ pub mod StitchRows
 pub mod StitchEntry
 pub mod StitchEntryLaws
 pub mod AreaEntry
+pub mod StitchEntryExamples
