@@ -8,24 +8,9 @@
  * Every list is lent from memory that faults when it is written, and that ends
  * where a page begins that faults when it is read.
  */
-#define _DEFAULT_SOURCE
-#include "mask.h"
-
-#include <float.h>
-#include <math.h>
-#include <signal.h>
-#include <stdarg.h>
-#include <stdio.h>
-#include <stdlib.h>
-#include <string.h>
-#include <sys/mman.h>
-#include <unistd.h>
+#include "testing.h"
 
 /* ---- The layout ---- */
-
-#define AT(type, field, place) \
-    _Static_assert(offsetof(type, field) == (place), #type "." #field " stands elsewhere")
-#define SIZE(type, size) _Static_assert(sizeof(type) == (size), #type " has another size")
 
 AT(mask_point, x, 0);
 AT(mask_point, y, 8);
@@ -67,23 +52,6 @@ AT(mask_verdict_answer, vertex, 40);
 AT(mask_verdict_answer, updated_bulge, 64);
 AT(mask_verdict_answer, expected, 72);
 SIZE(mask_verdict_answer, 80);
-
-/* ---- Checks ---- */
-
-static unsigned checks, failed;
-
-static void check(int ok, const char *format, ...)
-{
-    va_list words;
-    checks++;
-    failed += !ok;
-    fputs(ok ? "ok   " : "FAIL ", stdout);
-    va_start(words, format);
-    vprintf(format, words);
-    va_end(words);
-    putchar('\n');
-    fflush(stdout);
-}
 
 /* ---- Equal to the bit ---- */
 
@@ -144,8 +112,7 @@ static mask_view_answer the_view(mask_view v) { return (mask_view_answer){.found
 
 /* ---- Outlines ---- */
 
-#define MOST 1024
-#define LONGEST (3 * (MOST + 1))
+#define LONGEST (3 * (MOST_VERTICES + 1))
 
 typedef struct outline {
     const double *list; /* lent */
@@ -153,58 +120,22 @@ typedef struct outline {
     size_t vc;
 } outline;
 
-static char *lent_pages, *lent_end;
-
-static void outside(int number)
-{
-    static const char words[] = "FAIL an entry wrote to a list lent, or read outside it\n";
-    ssize_t told = write(1, words, sizeof words - 1);
-    (void)number;
-    (void)told;
-    _exit(1);
-}
-
-static void make_room(void)
-{
-    size_t page = (size_t)sysconf(_SC_PAGESIZE);
-    size_t size = (LONGEST * sizeof(double) + page - 1) / page * page;
-    lent_pages = mmap(NULL, size + page, PROT_READ | PROT_WRITE, MAP_PRIVATE | MAP_ANONYMOUS, -1, 0);
-    if (lent_pages == MAP_FAILED) {
-        perror("mmap");
-        exit(1);
-    }
-    lent_end = lent_pages + size;
-    if (mprotect(lent_end, page, PROT_NONE) != 0) {
-        perror("mprotect");
-        exit(1);
-    }
-    signal(SIGSEGV, outside);
-    signal(SIGBUS, outside);
-}
+enum { OUTLINE };
 
 /* Lends `len` numbers, and says that they are `vc` vertices. A later call takes them back. */
-static outline lend(const double *from, size_t len, size_t vc)
+static outline lend_outline(const double *from, size_t len, size_t vc)
 {
-    double *list = (double *)lent_end - len;
-    size_t size = (size_t)(lent_end - lent_pages);
-    if (mprotect(lent_pages, size, PROT_READ | PROT_WRITE) != 0)
-        exit(1);
-    memcpy(list, from, len * sizeof *list);
-    if (mprotect(lent_pages, size, PROT_READ) != 0)
-        exit(1);
-    return (outline){list, len, vc};
+    return (outline){lend_any(OUTLINE, from, len * sizeof *from), len, vc};
 }
 
-/* The two squares of document 01, a triangle, and A with bulges that differ. */
-static const double A[] = {0, 0, 0, 4, 0, 0, 4, 4, 0, 0, 4, 0};
-static const double B[] = {2, 2, 0, 6, 2, 0, 6, 6, 0, 2, 6, 0};
+/* A triangle, and A with bulges that differ. */
 static const double TRIANGLE[] = {0, 0, 0.125, 4, 0, 0.25, 0, 4, 0.5};
 static const double ARCS[] = {0, 0, 0.125, 4, 0, 0.25, 4, 4, -0.0, 0, 4, -0.5};
 
-static outline square_a(void) { return lend(A, 12, 4); }
-static outline square_b(void) { return lend(B, 12, 4); }
-static outline triangle(void) { return lend(TRIANGLE, 9, 3); }
-static outline arcs(void) { return lend(ARCS, 12, 4); }
+static outline square_a(void) { return lend_outline(A, 12, 4); }
+static outline square_b(void) { return lend_outline(B, 12, 4); }
+static outline triangle(void) { return lend_outline(TRIANGLE, 9, 3); }
+static outline arcs(void) { return lend_outline(ARCS, 12, 4); }
 
 /* ---- Calls over an outline ---- */
 
@@ -254,11 +185,6 @@ static mask_verdict_answer validate(outline o, mask_view v, uint32_t start_on, u
 
 /* ---- The reference: document 01 ---- */
 
-static const double LIMIT = 1073741824.0; /* 2^30 */
-
-/* "magnitude of any coordinate or bulge": at most 2^30, and finite. */
-static int small(double a) { return isfinite(a) && fabs(a) <= LIMIT; }
-
 static int small_point(mask_point p) { return small(p.x) && small(p.y); }
 
 static int small_vertex(mask_vertex v) { return small(v.x) && small(v.y) && small(v.bulge); }
@@ -267,20 +193,6 @@ static int small_view(mask_view v)
 {
     return small_vertex(v.updated_start) && small(v.updated_end_bulge) && small_point(v.end_point);
 }
-
-static int small_list(outline o)
-{
-    for (size_t i = 0; i < o.len; i++)
-        if (!small(o.list[i]))
-            return 0;
-    return 1;
-}
-
-/* "a list's length disagrees with its count", with no product that could overflow. */
-static int right_length(outline o) { return o.len % 3 == 0 && o.len / 3 == o.vc; }
-
-/* "position tolerance: above 0, at most 1". */
-static int right_tolerance(double t) { return isfinite(t) && t > 0 && t <= 1; }
 
 static int yes_or_no(uint32_t code) { return code == 0 || code == 1; }
 
@@ -333,13 +245,13 @@ static mask_vertex inverted(outline o, mask_view v, size_t k)
 static mask_vertex_answer vertex_of(outline o, mask_view v, size_t k)
 {
     mask_vertex_answer answer = {.found = 1};
-    if (!right_length(o))
+    if (!right_length(o.len, 3, o.vc))
         return no_vertex(1);
-    if (o.vc < 2 || o.vc > MOST)
+    if (o.vc < LEAST_VERTICES || o.vc > MOST_VERTICES)
         return no_vertex(2);
     if (!yes_or_no(v.inverted_direction))
         return no_vertex(3);
-    if (!small_list(o) || !small_view(v))
+    if (!small_list(o.list, o.len) || !small_view(v))
         return no_vertex(5);
     if (v.start_index >= o.vc)
         return no_vertex(6);
@@ -356,14 +268,15 @@ static mask_view_answer created(outline o, walk w)
     mask_view v = {.start_index = w.start_index,
                    .updated_start = w.updated_start,
                    .end_point = w.end_intersect};
-    if (!right_length(o))
+    if (!right_length(o.len, 3, o.vc))
         return no_view(1);
-    if (o.vc < 2 || o.vc > MOST)
+    if (o.vc < LEAST_VERTICES || o.vc > MOST_VERTICES)
         return no_view(2);
     if (!right_tolerance(w.tolerance))
         return no_view(4);
-    if (!small_list(o) || !small_point(w.end_intersect) || !small_vertex(w.updated_start) ||
-        !small_vertex(w.split.updated_start) || !small_vertex(w.split.split_vertex))
+    if (!small_list(o.list, o.len) || !small_point(w.end_intersect) ||
+        !small_vertex(w.updated_start) || !small_vertex(w.split.updated_start) ||
+        !small_vertex(w.split.split_vertex))
         return no_view(5);
     if (w.start_index >= o.vc || w.intersect_index >= o.vc)
         return no_view(6);
@@ -383,13 +296,14 @@ static mask_view_answer created(outline o, walk w)
 
 static mask_view_answer singled(outline o, piece p)
 {
-    if (!right_length(o))
+    if (!right_length(o.len, 3, o.vc))
         return no_view(1);
-    if (o.vc < 2 || o.vc > MOST)
+    if (o.vc < LEAST_VERTICES || o.vc > MOST_VERTICES)
         return no_view(2);
     if (!right_tolerance(p.tolerance))
         return no_view(4);
-    if (!small_list(o) || !small_vertex(p.updated_start) || !small_point(p.end_intersect))
+    if (!small_list(o.list, o.len) || !small_vertex(p.updated_start) ||
+        !small_point(p.end_intersect))
         return no_view(5);
     if (p.start_index >= o.vc)
         return no_view(6);
@@ -404,13 +318,13 @@ static mask_view_answer singled(outline o, piece p)
 static mask_view_answer entirely(outline o, uint32_t closed)
 {
     size_t offset = closed ? o.vc - 1 : o.vc - 2;
-    if (!right_length(o))
+    if (!right_length(o.len, 3, o.vc))
         return no_view(1);
-    if (o.vc < 2 || o.vc > MOST)
+    if (o.vc < LEAST_VERTICES || o.vc > MOST_VERTICES)
         return no_view(2);
     if (!yes_or_no(closed))
         return no_view(3);
-    if (!small_list(o))
+    if (!small_list(o.list, o.len))
         return no_view(5);
     return the_view((mask_view){.end_index_offset = offset,
                                 .updated_start = at(o, 0),
@@ -429,13 +343,13 @@ static mask_verdict_answer judged(outline o, mask_view v, uint32_t start_on, uin
 {
     mask_verdict_answer answer = {.verdict = 0};
     size_t end = v.start_index + v.end_index_offset;
-    if (!right_length(o))
+    if (!right_length(o.len, 3, o.vc))
         return no_verdict(1);
-    if (o.vc > MOST)
+    if (o.vc > MOST_VERTICES)
         return no_verdict(2);
     if (!yes_or_no(v.inverted_direction) || !yes_or_no(start_on) || !yes_or_no(end_on))
         return no_verdict(3);
-    if (!small_list(o) || !small_view(v))
+    if (!small_list(o.list, o.len) || !small_view(v))
         return no_verdict(5);
     if (o.vc >= 2 && v.start_index >= o.vc)
         return no_verdict(6);
@@ -508,7 +422,7 @@ static outline faulty(int wrong_length, size_t vc, int wrong_number)
     memcpy(list, A, sizeof A);
     if (wrong_number)
         list[0] = NAN;
-    return lend(list, wrong_length ? 3 * vc - 1 : 3 * vc, vc);
+    return lend_outline(list, wrong_length ? 3 * vc - 1 : 3 * vc, vc);
 }
 
 static mask_view view_on_a(void)
@@ -702,28 +616,27 @@ static int all_refuse(outline o, uint32_t refusal)
 static void lengths(void)
 {
     static const double many[LONGEST];
-    const size_t half = (size_t)1 << 63;
     mask_verdict_answer none = {.verdict = MASK_VERDICT_NO_SEGMENTS};
     mask_view v = view_on_a();
     outline empty = {NULL, 0, 0};
-    outline unreadable = {(const double *)lent_end, 0, 0};
+    outline unreadable = {(const double *)lent[OUTLINE].end, 0, 0};
     int ok = 1;
 
-    check(all_refuse(lend(A, 11, 4), 1) && all_refuse(lend(many, 13, 4), 1),
+    check(all_refuse(lend_outline(A, 11, 4), 1) && all_refuse(lend_outline(many, 13, 4), 1),
           "lengths: one number short or over: 1");
-    check(all_refuse(lend(A, 12, 3), 1) && all_refuse(lend(many, 15, 4), 1),
+    check(all_refuse(lend_outline(A, 12, 3), 1) && all_refuse(lend_outline(many, 15, 4), 1),
           "lengths: one vertex short or over: 1");
-    check(all_refuse(lend(A, 12, 12), 1), "lengths: vertices counted as numbers: 1");
-    check(all_refuse(lend(A, 12, half), 1), "lengths: 2^63 vertices: 1");
-    check(all_refuse(lend(A, 12, SIZE_MAX), 1), "lengths: 2^64 - 1 vertices: 1");
-    check(all_refuse(lend(A, 4, 0xaaaaaaaaaaaaaaac), 1) &&
-              all_refuse(lend(A, 2, 0x5555555555555556), 1) &&
-              all_refuse(lend(A, 1, 0xaaaaaaaaaaaaaaab), 1),
+    check(all_refuse(lend_outline(A, 12, 12), 1), "lengths: vertices counted as numbers: 1");
+    check(all_refuse(lend_outline(A, 12, HALF), 1), "lengths: 2^63 vertices: 1");
+    check(all_refuse(lend_outline(A, 12, SIZE_MAX), 1), "lengths: 2^64 - 1 vertices: 1");
+    check(all_refuse(lend_outline(A, 4, 0xaaaaaaaaaaaaaaac), 1) &&
+              all_refuse(lend_outline(A, 2, 0x5555555555555556), 1) &&
+              all_refuse(lend_outline(A, 1, 0xaaaaaaaaaaaaaaab), 1),
           "lengths: counts whose triple is the length modulo 2^64: 1");
-    check(all_refuse((outline){NULL, 0, 4}, 1) && all_refuse((outline){NULL, 0, half}, 1) &&
+    check(all_refuse((outline){NULL, 0, 4}, 1) && all_refuse((outline){NULL, 0, HALF}, 1) &&
               all_refuse((outline){NULL, 0, SIZE_MAX}, 1),
           "lengths: NULL, length 0, with vertices counted: 1");
-    check(all_refuse(lend(many, 3075, 1025), 2), "lengths: 1025 vertices: 2");
+    check(all_refuse(lend_outline(many, 3075, 1025), 2), "lengths: 1025 vertices: 2");
 
     check(same_vertex_answer(vertex(empty, v, 0), no_vertex(2)) &&
               same_vertex_answer(vertex(unreadable, v, 0), no_vertex(2)),
@@ -739,7 +652,7 @@ static void lengths(void)
               same_verdict_answer(validate(unreadable, v, 0, 0), none),
           "validate_for_source: NULL, or any pointer, with length 0 and no vertices: no segments");
 
-    v.start_index = half;
+    v.start_index = HALF;
     v.end_index_offset = SIZE_MAX;
     check(same_vertex_answer(vertex(square_a(), v, 0), no_vertex(6)), "view_vertex: start 2^63: 6");
     v.start_index = SIZE_MAX;
@@ -750,12 +663,12 @@ static void lengths(void)
     v.start_index = 3;
     check(same_vertex_answer(vertex(square_a(), v, 0), no_vertex(7)),
           "view_vertex: offset 2^64 - 1: 7");
-    v.end_index_offset = half;
+    v.end_index_offset = HALF;
     check(same_vertex_answer(vertex(square_a(), v, SIZE_MAX), no_vertex(7)),
           "view_vertex: offset 2^63: 7");
 
     for (int i = 0; i < 2; i++) {
-        size_t huge = i ? SIZE_MAX : half;
+        size_t huge = i ? SIZE_MAX : HALF;
         walk w = walk_on_a();
         w.traverse_count = huge;
         ok = ok && same_view_answer(create(square_a(), w), no_view(7));
@@ -770,8 +683,8 @@ static void lengths(void)
     check(ok, "create, create_on_single_segment: huge indexes and counts: 6 and 7");
 
     ok = 1;
-    for (size_t vc = 2; vc <= MOST; vc++) {
-        mask_view_answer closed = entire(lend(many, 3 * vc, vc), 1);
+    for (size_t vc = 2; vc <= MOST_VERTICES; vc++) {
+        mask_view_answer closed = entire(lend_outline(many, 3 * vc, vc), 1);
         ok = ok && same_view_answer(closed, the_view((mask_view){.end_index_offset = vc - 1}));
     }
     check(ok, "from_entire_pline: every count from 2 to 1024 is accepted");
@@ -858,7 +771,7 @@ static void numbers(void)
             double list[12];
             memcpy(list, A, sizeof A);
             list[i] = refused[j];
-            ok = ok && all_refuse(lend(list, 12, 4), 5);
+            ok = ok && all_refuse(lend_outline(list, 12, 4), 5);
         }
     check(ok, "numbers: each number of the outline, above 2^30, infinite or NaN: 5");
 
@@ -867,7 +780,7 @@ static void numbers(void)
         for (unsigned i = 0; i < 3; i++) {
             double one[3] = {0, 0, 0};
             one[i] = refused[j];
-            ok = ok && same_verdict_answer(validate(lend(one, 3, 1), view_on_a(), 1, 1),
+            ok = ok && same_verdict_answer(validate(lend_outline(one, 3, 1), view_on_a(), 1, 1),
                                            no_verdict(5));
         }
     check(ok, "validate_for_source: each number of an outline that is too short: 5");
@@ -913,7 +826,7 @@ static void numbers(void)
             double list[12];
             memcpy(list, A, sizeof A);
             list[i] = accepted[j];
-            outline o = lend(list, 12, 4);
+            outline o = lend_outline(list, 12, 4);
             ok = ok && same_view_answer(entire(o, 0), entirely(o, 0)) && entire(o, 0).found == 1;
         }
         for (unsigned i = 0; i < 6; i++) {
@@ -1015,8 +928,6 @@ static void vertices(void)
 
 /* ---- The constructors over the squares ---- */
 
-static const double T = 1.0 / 1024;
-
 static void constructors(void)
 {
     const mask_split straight_a = {{4, 4, 0}, {2, 4, 0}}, straight_b = {{2, 2, 0}, {4, 2, 0}};
@@ -1086,9 +997,9 @@ static void constructors(void)
     check(same_view_answer(entire(arcs(), 0),
                            the_view((mask_view){0, 2, {0, 0, 0.125}, -0.0, {0, 4}, 0})),
           "from_entire_pline: open ends on the last vertex, offset vc - 2");
-    check(same_view_answer(entire(lend(ARCS, 6, 2), 1),
+    check(same_view_answer(entire(lend_outline(ARCS, 6, 2), 1),
                            the_view((mask_view){0, 1, {0, 0, 0.125}, 0.25, {0, 0}, 0})) &&
-              same_view_answer(entire(lend(ARCS, 6, 2), 0),
+              same_view_answer(entire(lend_outline(ARCS, 6, 2), 0),
                                the_view((mask_view){0, 0, {0, 0, 0.125}, 0.125, {4, 0}, 0})),
           "from_entire_pline: 2 vertices, closed and open");
     check(same_view_answer(entire(square_b(), 1),
@@ -1107,7 +1018,7 @@ static void verdicts(void)
     mask_view v = {1, 1, {4, 2, 0}, 0, {2, 4}, 0};
     mask_view w;
 
-    check(same_verdict_answer(validate(lend(A, 3, 1), v, 1, 1),
+    check(same_verdict_answer(validate(lend_outline(A, 3, 1), v, 1, 1),
                               (mask_verdict_answer){.verdict = MASK_VERDICT_NO_SEGMENTS}),
           "validate_for_source: 1 vertex: no segments, nothing else");
 
@@ -1224,20 +1135,6 @@ static void validation_tolerances(void)
 
 enum { CASES = 100000 };
 
-static uint64_t seed = 20260101;
-
-/* splitmix64 */
-static uint64_t draw(void)
-{
-    uint64_t z = (seed += 0x9e3779b97f4a7c15);
-    z = (z ^ z >> 30) * 0xbf58476d1ce4e5b9;
-    z = (z ^ z >> 27) * 0x94d049bb133111eb;
-    return z ^ z >> 31;
-}
-
-/* Below n; any number where n is 0, which stands for 2^64. */
-static size_t below(size_t n) { return (size_t)(n ? draw() % n : draw()); }
-
 /* A number in range: zeros of both signs, steps of 1/1024, whole numbers, the limits, any. */
 static double drawn_number(void)
 {
@@ -1260,12 +1157,6 @@ static double drawn_number(void)
     }
 }
 
-static double drawn_bad(void)
-{
-    const double list[] = {NAN, -NAN, INFINITY, -INFINITY, DBL_MAX, nextafter(LIMIT, INFINITY)};
-    return list[below(sizeof list / sizeof *list)];
-}
-
 static double drawn_tolerance(void)
 {
     const double list[] = {T, 1, 0.5, 1e-5, 1e-3, 5e-324};
@@ -1280,29 +1171,26 @@ static mask_vertex drawn_vertex(void)
 /* Now and then an index or a count that is out of range, or out of all range. */
 static size_t drawn_index(size_t most, int faulty)
 {
-    const size_t list[] = {most + 1, most + 2, (size_t)1 << 63, SIZE_MAX, SIZE_MAX - 1};
+    const size_t list[] = {most + 1, most + 2, HALF, SIZE_MAX, SIZE_MAX - 1};
     return faulty ? list[below(sizeof list / sizeof *list)] : below(most + 1);
 }
-
-/* One case in `odds` has this fault. */
-static int rarely(size_t odds) { return below(odds) == 0; }
 
 static outline drawn_outline(void)
 {
     double list[LONGEST];
-    size_t vc = rarely(64) ? MOST - 3 + below(5) : rarely(32) ? below(2) : 2 + below(9);
+    size_t vc = rarely(64) ? MOST_VERTICES - 3 + below(5) : rarely(32) ? below(2) : 2 + below(9);
     size_t len = 3 * vc;
     for (size_t i = 0; i < len; i++)
         list[i] = drawn_number();
     if (rarely(32) && len > 0)
-        list[below(len)] = drawn_bad();
+        list[below(len)] = bad_number();
     if (rarely(32)) {
         if (below(2) && len > 0)
             len -= 1 + below(len);
         else
             vc = drawn_index(vc, 1);
     }
-    return lend(list, len, vc);
+    return lend_outline(list, len, vc);
 }
 
 /* A point near p: at it, at a distance of about t in either coordinate, or anywhere. */
@@ -1325,13 +1213,13 @@ static double near(double a, double t)
 static mask_point drawn_near(outline o, size_t i, double t)
 {
     mask_point p = {drawn_number(), drawn_number()};
-    if (o.vc > 0 && right_length(o) && !rarely(4)) {
+    if (o.vc > 0 && right_length(o.len, 3, o.vc) && !rarely(4)) {
         p = place(at(o, i % o.vc));
         p.x = near(p.x, t);
         p.y = near(p.y, t);
     }
     if (rarely(64))
-        p.y = drawn_bad();
+        p.y = bad_number();
     return p;
 }
 
@@ -1347,7 +1235,7 @@ static mask_view drawn_view(outline o)
     if (rarely(8))
         v.end_index_offset = 0;
     if (rarely(32))
-        put_view(&v, (unsigned)below(6), drawn_bad());
+        put_view(&v, (unsigned)below(6), bad_number());
     return v;
 }
 
@@ -1373,7 +1261,7 @@ static void drawn_vertices(void)
         outline o = drawn_outline();
         mask_view v = drawn_view(o);
         size_t offset = v.end_index_offset;
-        size_t k = rarely(64) ? SIZE_MAX : below(offset < 2 * MOST ? offset + 3 : 8);
+        size_t k = rarely(64) ? SIZE_MAX : below(offset < 2 * MOST_VERTICES ? offset + 3 : 8);
         mask_vertex_answer a = vertex(o, v, k);
         ok = same_vertex_answer(a, vertex_of(o, v, k));
         if (!ok)
@@ -1408,7 +1296,7 @@ static void drawn_walks(void)
         mask_view_answer a;
         w.end_intersect = drawn_near(o, w.intersect_index, w.tolerance);
         if (rarely(32))
-            put_walk(&w, (unsigned)below(11), drawn_bad());
+            put_walk(&w, (unsigned)below(11), bad_number());
         a = create(o, w);
         ok = same_view_answer(a, created(o, w));
         if (!ok)
@@ -1437,7 +1325,7 @@ static void drawn_pieces(void)
         p.end_intersect = (mask_point){near(p.updated_start.x, p.tolerance),
                                        near(p.updated_start.y, p.tolerance)};
         if (rarely(32))
-            put_piece(&p, (unsigned)below(5), drawn_bad());
+            put_piece(&p, (unsigned)below(5), bad_number());
         a = single(o, p);
         ok = same_view_answer(a, singled(o, p));
         if (!ok)
@@ -1481,7 +1369,7 @@ static void drawn_verdicts(void)
         uint32_t end_on = (uint32_t)(rarely(64) ? draw() : below(2));
         mask_verdict_answer a;
         mask_point start = drawn_near(o, v.start_index + below(2), below(2) ? 1e-3 : 1e-5);
-        if (!rarely(4) && v.end_index_offset <= MOST) {
+        if (!rarely(4) && v.end_index_offset <= MOST_VERTICES) {
             v.updated_start.x = start.x;
             v.updated_start.y = start.y;
             v.end_point =
@@ -1503,7 +1391,9 @@ static void drawn_verdicts(void)
 
 int main(void)
 {
-    make_room();
+    make_list(OUTLINE, LONGEST);
+    watch("FAIL an entry wrote to a list lent, or read outside it\n");
+    seed = 20260101;
     faults_and_sets();
     lengths();
     codes();
@@ -1518,6 +1408,5 @@ int main(void)
     drawn_pieces();
     drawn_outlines();
     drawn_verdicts();
-    printf("entries_test: %u checks, %u failed\n", checks, failed);
-    return failed != 0;
+    return finish("entries_test");
 }

@@ -7,26 +7,9 @@
  * The reference below is written from document 01 and from nothing else. It needs
  * -ffp-contract=off: each sum is rounded once.
  *
- * Every list that is only read is lent from memory that faults when it is written.
- * Every list ends where a page begins that faults when it is touched. A list that
- * is written holds guard values before the call, and so does the memory before it.
+ * How lists are lent, and what they hold before a call, stands in testing.h.
  */
-#define _DEFAULT_SOURCE
-#include "mask.h"
-
-#include <float.h>
-#include <math.h>
-#include <signal.h>
-#include <stdarg.h>
-#include <stdio.h>
-#include <stdlib.h>
-#include <string.h>
-#include <sys/mman.h>
-#include <unistd.h>
-
-#define AT(type, field, place)                                                                     \
-    _Static_assert(offsetof(type, field) == (place), #type "." #field " stands elsewhere")
-#define SIZE(type, size) _Static_assert(sizeof(type) == (size), #type " has another size")
+#include "testing.h"
 
 AT(mask_stitch_answer, refusal, 0);
 AT(mask_stitch_answer, rounds, 8);
@@ -44,51 +27,19 @@ AT(mask_prune_answer, slices, 8);
 AT(mask_prune_answer, starts, 16);
 SIZE(mask_prune_answer, 40);
 
-/* Every list written has elements of 8 bytes. They are compared as words of 64 bits. */
-SIZE(size_t, 8);
-SIZE(double, 8);
-
-/* ---- Checks ---- */
-
-static unsigned checks, failed;
-
-static void check(int ok, const char *format, ...)
-{
-    va_list words;
-    checks++;
-    failed += !ok;
-    fputs(ok ? "ok   " : "FAIL ", stdout);
-    va_start(words, format);
-    vprintf(format, words);
-    va_end(words);
-    putchar('\n');
-    fflush(stdout);
-}
-
 /* ---- Sizes of document 01, and one more of each for the refusals ---- */
 
 enum {
-    LEAST_VERTICES = 2,
-    MOST_VERTICES = 1024,
     MOST_CANDIDATES = 768,
-    MOST_LAPS = 128,
     MOST_SLICES = 1792,
     VERTICES = MOST_VERTICES + 2,
     CANDIDATES = MOST_CANDIDATES + 2,
     LAPS = MOST_LAPS + 2,
     SLICES = MOST_SLICES + 2,
-    ROOM = 3 * (1 + MOST_SLICES * (MOST_VERTICES + 1)), /* the greatest need */
-    BEFORE = 8,                                         /* guard values before a list */
-    BEYOND = 64 /* at most so many elements beyond the need */
+    ROOM = 3 * (1 + MOST_SLICES * (MOST_VERTICES + 1)) /* the greatest need */
 };
 
-static const double T = 1.0 / 1024;
-static const double LIMIT = 1073741824.0; /* 2^30 */
-static const size_t HALF = (size_t)1 << 63;
-
-/* ---- Drawn numbers ---- */
-
-static uint64_t seed = 0x9e3779b97f4a7c15;
+/* ---- Drawn numbers: another generator than that of the other tests ---- */
 
 static uint64_t draw64(void)
 {
@@ -98,7 +49,7 @@ static uint64_t draw64(void)
     return seed * 0x2545f4914f6cdd1d;
 }
 
-static size_t draw(size_t below) { return (size_t)((draw64() >> 33) % below); }
+static size_t pick(size_t n) { return (size_t)((draw64() >> 33) % n); }
 
 /* ---- Memory lent ---- */
 
@@ -127,144 +78,11 @@ enum {
     LISTS
 };
 
-static struct {
-    char *pages, *end;
-} lent[LISTS];
-
-/* The lists expected: guard values, and over them what is written. */
-typedef struct expected {
-    uint64_t *words;
-    size_t len, used;
-} expected;
-
-static expected want[LISTS];
-
-static void outside(int number)
-{
-    static const char words[] = "FAIL an entry wrote to a list lent to be read, or left a list\n";
-    ssize_t told = write(1, words, sizeof words - 1);
-    (void)number;
-    (void)told;
-    _exit(1);
-}
-
-static void *pages_of(size_t size)
-{
-    char *pages = mmap(NULL, size, PROT_READ | PROT_WRITE,
-                       MAP_PRIVATE | MAP_ANONYMOUS | MAP_NORESERVE, -1, 0);
-    if (pages == MAP_FAILED) {
-        perror("mmap");
-        exit(1);
-    }
-    return pages;
-}
-
 static void make_room(void)
 {
-    size_t page = (size_t)sysconf(_SC_PAGESIZE);
-    for (int i = 0; i < LISTS; i++) {
-        size_t most = i == VERTEX_ROOM ? ROOM : 6 * (SLICES + LAPS);
-        size_t size = ((most + BEFORE + BEYOND) * 8 + page - 1) / page * page;
-        lent[i].pages = pages_of(size + page);
-        lent[i].end = lent[i].pages + size;
-        if (mprotect(lent[i].end, page, PROT_NONE) != 0) {
-            perror("mprotect");
-            exit(1);
-        }
-        if (i >= VERTEX_ROOM)
-            want[i].words = pages_of(size);
-    }
-    signal(SIGSEGV, outside);
-    signal(SIGBUS, outside);
-}
-
-/* A list to be read; NULL where it has no element. */
-static const void *lend_bytes(int list, const void *from, size_t bytes)
-{
-    char *pages = lent[list].pages, *to = lent[list].end - bytes;
-    size_t size = (size_t)(lent[list].end - pages);
-    if (bytes == 0)
-        return NULL;
-    if (mprotect(pages, size, PROT_READ | PROT_WRITE) != 0)
-        exit(1);
-    memcpy(to, from, bytes);
-    if (mprotect(pages, size, PROT_READ) != 0)
-        exit(1);
-    return to;
-}
-
-static const void *lend(int list, const void *from, size_t len)
-{
-    return lend_bytes(list, from, 8 * len);
-}
-
-/* What a list to be written holds before the call, from BEFORE places before it on. */
-static void guard(uint64_t *words, size_t len)
-{
-    for (size_t i = 0; i < BEFORE + len; i++)
-        words[i] = 0xfff8a5a500000000 + i;
-}
-
-/* A list to be written; NULL where it has no element. */
-static void *lend_room(int list, size_t len)
-{
-    uint64_t *words = (uint64_t *)lent[list].end - len;
-    guard(words - BEFORE, len);
-    return len == 0 ? NULL : words;
-}
-
-static void expect(int list, size_t len)
-{
-    guard(want[list].words, len);
-    want[list].len = len;
-    want[list].used = 0;
-}
-
-static void put_word(int list, uint64_t word)
-{
-    want[list].words[BEFORE + want[list].used++] = word;
-}
-
-static void put(int list, const double *numbers, size_t count)
-{
-    for (size_t i = 0; i < count; i++) {
-        uint64_t word;
-        memcpy(&word, numbers + i, sizeof word);
-        put_word(list, word);
-    }
-}
-
-/* +0 or 0 up to the need. */
-static void fill(int list, size_t need)
-{
-    while (want[list].used < need)
-        put_word(list, 0);
-}
-
-/* The list that the call left is the one expected, with the guard values before and beyond it. */
-static int same(int list)
-{
-    const uint64_t *words = (const uint64_t *)lent[list].end - want[list].len - BEFORE;
-    return memcmp(words, want[list].words, 8 * (BEFORE + want[list].len)) == 0;
-}
-
-static const size_t *left(int list, size_t len) { return (const size_t *)lent[list].end - len; }
-
-/* ---- What refusals look at ---- */
-
-/* "magnitude of any coordinate or bulge": at most 2^30, and finite. */
-static int small(const double *list, size_t len)
-{
-    for (size_t i = 0; i < len; i++)
-        if (!isfinite(list[i]) || fabs(list[i]) > LIMIT)
-            return 0;
-    return 1;
-}
-
-/* "a list's length disagrees with its count", with no product that could overflow. */
-static int right_length(size_t len, size_t width, size_t count)
-{
-    return len % width == 0 && len / width == count;
+    for (int i = 0; i < LISTS; i++)
+        make_list(i, i == VERTEX_ROOM ? ROOM : 6 * (SLICES + LAPS));
+    watch("FAIL an entry wrote to a list lent to be read, or left a list\n");
 }
 
 /* ---- A stitch: what the host has, and how much room it lends ---- */
@@ -409,10 +227,10 @@ static uint32_t refused(void)
     for (size_t i = 0; i < c.slices; i++)
         if (c.slice_at[4 * i] < 1 || c.slice_at[4 * i] > 2 || c.slice_at[4 * i + 1] > 1)
             return 3;
-    if (!(isfinite(c.tolerance) && c.tolerance > 0 && c.tolerance <= 1))
+    if (!right_tolerance(c.tolerance))
         return 4;
-    if (!small(c.outline[0], c.outline_len[0]) || !small(c.outline[1], c.outline_len[1]) ||
-        !small(c.slice, c.slice_len))
+    if (!small_list(c.outline[0], c.outline_len[0]) ||
+        !small_list(c.outline[1], c.outline_len[1]) || !small_list(c.slice, c.slice_len))
         return 5;
     for (size_t i = 0; i < c.slices; i++)
         if (c.slice_at[4 * i + 2] >= c.vc[c.slice_at[4 * i] - 1])
@@ -627,19 +445,19 @@ static int stitched(void)
         difference = "refusal";
     else if (got.rounds != a.rounds)
         difference = "rounds";
-    else if (!same(CHAIN))
+    else if (!as_expected(CHAIN))
         difference = "chain";
     else if (got.chains != a.chains)
         difference = "chains";
-    else if (!same(CHAIN_ENDS))
+    else if (!as_expected(CHAIN_ENDS))
         difference = "chain_ends";
-    else if (!same(CHAIN_HOW))
+    else if (!as_expected(CHAIN_HOW))
         difference = "chain_how";
     else if (got.loops != a.loops)
         difference = "loops";
-    else if (!same(ENDS))
+    else if (!as_expected(ENDS))
         difference = "ends";
-    else if (!same(VERTEX_ROOM))
+    else if (!as_expected(VERTEX_ROOM))
         difference = "room";
     else if (a.refusal == 0 && !demand_3(got))
         difference = "demand 3";
@@ -685,9 +503,6 @@ static void check_stitch(int more, const char *name)
 }
 
 /* ---- The sheet of two squares ---- */
-
-static const double A[] = {0, 0, 0, 4, 0, 0, 4, 4, 0, 0, 4, 0};
-static const double B[] = {2, 2, 0, 6, 2, 0, 6, 6, 0, 2, 6, 0};
 
 static void union_of_squares(void)
 {
@@ -869,7 +684,7 @@ static void sides(void)
 {
     unsigned cases = 0, bad = 0, wrong = 0, rounded = 0;
     for (int k = 0; k < 600; k++) {
-        double t = k % 3 == 0 ? 0.5 : k % 3 == 1 ? 1.0 / (double)(1 + draw(5000)) : 0x1p-30;
+        double t = k % 3 == 0 ? 0.5 : k % 3 == 1 ? 1.0 / (double)(1 + pick(5000)) : 0x1p-30;
         double e = k == 0 ? 1 : (double)(int64_t)draw64() * 0x1p-63 * (k % 2 ? 3 : 0x1p29);
         for (int place = 0; place < 4; place++) { /* below, above; in x, in y */
             double side = place % 2 ? e + t : e - t, away = place % 2 ? INFINITY : -INFINITY;
@@ -1267,27 +1082,27 @@ static void refusals(void)
 
 static double drawn_number(double step, size_t places)
 {
-    double x = step * (double)draw(places);
-    if (draw(24) == 0)
-        x = nextafter(x, draw(2) ? 10 : -10);
+    double x = step * (double)pick(places);
+    if (pick(24) == 0)
+        x = nextafter(x, pick(2) ? 10 : -10);
     return x;
 }
 
 static double drawn_bulge(void)
 {
     static const double bulges[] = {0.0, -0.0, 0.5, -0.5, 1, -1, 0.25, 0.125};
-    return bulges[draw(8)];
+    return bulges[pick(8)];
 }
 
 static void drawn_call(void)
 {
     static const double tolerances[] = {1.0 / 1024, 0.5, 0.25, 1, 0.5, 0.125};
-    size_t places = 2 + draw(4), n = draw(13), pool = 1 + draw(6), s[3];
-    double step = draw(3) ? 0.5 : 1, px[8], py[8];
-    c.selector = (uint32_t)draw(2);
-    c.tolerance = tolerances[draw(6)];
+    size_t places = 2 + pick(4), n = pick(13), pool = 1 + pick(6), s[3];
+    double step = pick(3) ? 0.5 : 1, px[8], py[8];
+    c.selector = (uint32_t)pick(2);
+    c.tolerance = tolerances[pick(6)];
     for (int o = 0; o < 2; o++) {
-        c.vc[o] = 2 + draw(4);
+        c.vc[o] = 2 + pick(4);
         for (size_t i = 0; i < 3 * c.vc[o]; i++)
             c.outline[o][i] = i % 3 == 2 ? drawn_bulge() : drawn_number(step, places);
     }
@@ -1297,14 +1112,14 @@ static void drawn_call(void)
     }
     c.slices = 0;
     for (size_t i = 0; i < n; i++) {
-        size_t source = 1 + draw(2), vc = c.vc[source - 1], from = draw(pool), to = draw(pool);
-        int near = draw(4) == 0;
-        add(source, draw(2), draw(vc), draw(3) == 0 ? 0 : draw(vc + 1), px[from], py[from],
+        size_t source = 1 + pick(2), vc = c.vc[source - 1], from = pick(pool), to = pick(pool);
+        int near = pick(4) == 0;
+        add(source, pick(2), pick(vc), pick(3) == 0 ? 0 : pick(vc + 1), px[from], py[from],
             drawn_bulge(), drawn_bulge(), near ? drawn_number(step, places) : px[to],
             near ? drawn_number(step, places) : py[to]);
     }
     for (int i = 0; i < 3; i++)
-        s[i] = draw(n + 1);
+        s[i] = pick(n + 1);
     for (int i = 0; i < 2; i++)
         for (int j = 0; j < 2; j++)
             if (s[j] > s[j + 1]) {
@@ -1313,8 +1128,8 @@ static void drawn_call(void)
                 s[j + 1] = one;
             }
     classes(s[0], s[1], s[2]);
-    measure(draw(2) * draw(9));
-    if (draw(10) == 0) { /* something short, long or out of range */
+    measure(pick(2) * pick(9));
+    if (pick(10) == 0) { /* something short, long or out of range */
         size_t *lengths[] = {&c.outline_len[0],
                              &c.outline_len[1],
                              &c.slice_at_len,
@@ -1327,16 +1142,16 @@ static void drawn_call(void)
                              &c.starts.pline2,
                              &c.starts.pline1_overlapping,
                              &c.starts.pline2_overlapping};
-        for (size_t k = 1 + draw(2); k > 0; k--) {
-            size_t *length = lengths[draw(12)];
-            if (draw(2) && n > 0)
-                c.slice_at[4 * draw(n) + draw(4)] = draw(8);
-            else if (draw(4) == 0 && n > 0)
-                c.slice[draw(6 * n)] = draw(2) ? NAN : 0x1p31;
-            else if (draw(8) == 0)
-                c.tolerance = draw(2) ? 0 : 2;
+        for (size_t k = 1 + pick(2); k > 0; k--) {
+            size_t *length = lengths[pick(12)];
+            if (pick(2) && n > 0)
+                c.slice_at[4 * pick(n) + pick(4)] = pick(8);
+            else if (pick(4) == 0 && n > 0)
+                c.slice[pick(6 * n)] = pick(2) ? NAN : 0x1p31;
+            else if (pick(8) == 0)
+                c.tolerance = pick(2) ? 0 : 2;
             else
-                *length = draw(2) || *length == 0 ? *length + 1 : *length - 1;
+                *length = pick(2) || *length == 0 ? *length + 1 : *length - 1;
         }
     }
 }
@@ -1416,7 +1231,7 @@ static int area_passed(void)
     }
     passed = mask_area_pass(lend(AREAS, p.areas, p.areas_len), p.areas_len, p.loops, p.limit,
                             lend_room(KEPT, p.kept_len), p.kept_len);
-    return passed.refusal == a.refusal && passed.count == a.count && same(KEPT);
+    return passed.refusal == a.refusal && passed.count == a.count && as_expected(KEPT);
 }
 
 static void pass(const double *areas, size_t loops, double limit, size_t beyond)
@@ -1506,17 +1321,17 @@ static void area(void)
     p.areas[0] = NAN, p.kept_len = 0;
     check_pass(1, 0, "1,793 loops: 1 before 5 and 9");
     for (int k = 0; k < 5000; k++) {
-        p.loops = p.areas_len = draw(k % 50 ? 12 : MOST_SLICES + 1);
-        p.limit = draw(20) ? (double)draw(5) : (double[]){NAN, -1, -0.0, INFINITY}[draw(4)];
-        p.kept_len = p.loops + draw(2) * draw(6);
+        p.loops = p.areas_len = pick(k % 50 ? 12 : MOST_SLICES + 1);
+        p.limit = pick(20) ? (double)pick(5) : (double[]){NAN, -1, -0.0, INFINITY}[pick(4)];
+        p.kept_len = p.loops + pick(2) * pick(6);
         for (size_t i = 0; i < p.loops; i++)
-            p.areas[i] = draw(3) ? (double)draw(5) : (double)draw(9) - 4.5;
-        if (p.loops != 0 && draw(12) == 0)
-            p.areas[draw(p.loops)] = (double[]){NAN, INFINITY, -INFINITY, -0.0}[draw(4)];
-        if (draw(20) == 0)
-            p.kept_len = draw(p.loops + 1);
-        if (draw(30) == 0)
-            p.areas_len = draw(12);
+            p.areas[i] = pick(3) ? (double)pick(5) : (double)pick(9) - 4.5;
+        if (p.loops != 0 && pick(12) == 0)
+            p.areas[pick(p.loops)] = (double[]){NAN, INFINITY, -INFINITY, -0.0}[pick(4)];
+        if (pick(20) == 0)
+            p.kept_len = pick(p.loops + 1);
+        if (pick(30) == 0)
+            p.areas_len = pick(12);
         bad += !area_passed();
     }
     check(bad == 0, "area: drawn: 5000 cases, %u differ", bad);
@@ -1600,8 +1415,8 @@ static uint32_t prune_refused(void)
     for (size_t j = 0; j < q.laps; j++)
         if (q.lap_at[7 * j + 4] > 1)
             return 3;
-    if (!small(q.cand[0], q.cand_len[0]) || !small(q.cand[1], q.cand_len[1]) ||
-        !small(q.lap, q.lap_len))
+    if (!small_list(q.cand[0], q.cand_len[0]) || !small_list(q.cand[1], q.cand_len[1]) ||
+        !small_list(q.lap, q.lap_len))
         return 5;
     for (int o = 0; o < 2; o++)
         for (size_t i = 0; i < q.count[o]; i++)
@@ -1681,8 +1496,8 @@ static int prune_same(void)
     return pruned.refusal == a.refusal && pruned.slices == a.slices &&
            pruned.starts.pline2 == a.starts.pline2 &&
            pruned.starts.pline1_overlapping == a.starts.pline1_overlapping &&
-           pruned.starts.pline2_overlapping == a.starts.pline2_overlapping && same(NEW_SLICE_AT) &&
-           same(NEW_SLICE);
+           pruned.starts.pline2_overlapping == a.starts.pline2_overlapping &&
+           as_expected(NEW_SLICE_AT) && as_expected(NEW_SLICE);
 }
 
 /* What the last prune left is stitched: it is never refused, given room. */
@@ -1883,39 +1698,39 @@ static void prune_drawn(unsigned cases)
     unsigned bad = 0, accepted = 0, stitches = 0, kinds[4][2] = {{0}};
     for (unsigned k = 0; k < cases; k++) {
         int big = k % 500 == 0;
-        prune_begin((uint32_t)draw(4), (uint32_t)draw(2), 2 + draw(4), 2 + draw(4));
-        q.count[0] = draw(big ? MOST_CANDIDATES + 1 : 7);
-        q.count[1] = draw(big ? MOST_CANDIDATES + 1 : 7);
-        q.laps = draw(big ? MOST_LAPS + 1 : 4);
+        prune_begin((uint32_t)pick(4), (uint32_t)pick(2), 2 + pick(4), 2 + pick(4));
+        q.count[0] = pick(big ? MOST_CANDIDATES + 1 : 7);
+        q.count[1] = pick(big ? MOST_CANDIDATES + 1 : 7);
+        q.laps = pick(big ? MOST_LAPS + 1 : 4);
         for (int o = 0; o < 2; o++) {
             for (size_t i = 0; i < q.count[o]; i++) {
-                q.cand_at[o][2 * i] = draw(q.vc[o]);
-                q.cand_at[o][2 * i + 1] = draw(q.vc[o] + 1);
-                q.inside[o][i] = (uint8_t)draw(2);
+                q.cand_at[o][2 * i] = pick(q.vc[o]);
+                q.cand_at[o][2 * i + 1] = pick(q.vc[o] + 1);
+                q.inside[o][i] = (uint8_t)pick(2);
             }
             for (size_t i = 0; i < 6 * q.count[o]; i++)
-                q.cand[o][i] = draw(3) ? drawn_number(0.5, 4) : drawn_bulge();
+                q.cand[o][i] = pick(3) ? drawn_number(0.5, 4) : drawn_bulge();
         }
         for (size_t j = 0; j < q.laps; j++) {
             for (int i = 0; i < 7; i++)
-                q.lap_at[7 * j + i] = i == 4   ? draw(2)
-                                      : i == 6 ? draw(q.vc[1] + 1)
-                                               : draw(q.vc[i < 4 && i % 2 == 0 ? 0 : 1]);
+                q.lap_at[7 * j + i] = i == 4   ? pick(2)
+                                      : i == 6 ? pick(q.vc[1] + 1)
+                                               : pick(q.vc[i < 4 && i % 2 == 0 ? 0 : 1]);
             for (int i = 0; i < 6; i++)
-                q.lap[6 * j + i] = draw(3) ? drawn_number(0.5, 4) : drawn_bulge();
+                q.lap[6 * j + i] = pick(3) ? drawn_number(0.5, 4) : drawn_bulge();
         }
-        prune_measure(draw(2) * draw(9));
-        if (draw(12) == 0) {
+        prune_measure(pick(2) * pick(9));
+        if (pick(12) == 0) {
             size_t *lengths[] = {&q.cand_at_len[0], &q.cand_len[1], &q.inside_len[0],
                                  &q.inside_len[1],  &q.lap_at_len,  &q.lap_len,
                                  &q.slice_at_len,   &q.slice_len};
-            size_t *length = lengths[draw(8)];
-            if (draw(2))
+            size_t *length = lengths[pick(8)];
+            if (pick(2))
                 *length = *length == 0 ? 1 : *length - 1;
-            else if (q.count[0] != 0 && draw(2))
-                q.cand_at[0][draw(2 * q.count[0])] = draw(9);
+            else if (q.count[0] != 0 && pick(2))
+                q.cand_at[0][pick(2 * q.count[0])] = pick(9);
             else if (q.laps != 0)
-                q.lap_at[draw(7 * q.laps)] = draw(9);
+                q.lap_at[pick(7 * q.laps)] = pick(9);
         }
         bad += !prune_same();
         if (pruned.refusal == 0) {
@@ -1998,6 +1813,7 @@ static void prune(void)
 int main(void)
 {
     make_room();
+    seed = 0x9e3779b97f4a7c15;
     built = pages_of((ROOM / 3 + 8) * sizeof *built);
     sheet();
     endings();
@@ -2009,6 +1825,5 @@ int main(void)
     drawn(30000);
     area();
     prune();
-    printf("stitch_test: %u checks, %u failed\n", checks, failed);
-    return failed != 0;
+    return finish("stitch_test");
 }
