@@ -177,60 +177,61 @@ fn start_and_offset(start: usize, offset: usize) {
     whole(offset as u64);
 }
 
-// T1 and T2: three vertices a cut, the part of the segment up to it, the cut, and the cut again as the whole segment's split.
-fn cuts() {
+// T1 and T2.
+fn cuts(a: &[f64], b: &[f64]) {
     word(b"T1 candidates of A: ");
-    let a = square_a();
-    candidates(
-        &a,
-        1,
-        &[
-            4.0,
-            0.0,
-            0.0,
-            4.0,
-            2.0,
-            0.0,
-            4.0,
-            2.0,
-            0.0,
-            4.0,
-            4.0,
-            0.0,
-            2.0,
-            4.0,
-            0.0,
-            2.0,
-            4.0,
-            0.0,
-        ],
-    );
+    let along_a = splits_a();
+    candidates(a, 1, &along_a);
     word(b"T2 candidates of B: ");
-    let b = square_b();
-    candidates(
-        &b,
-        2,
-        &[
-            2.0,
-            2.0,
-            0.0,
-            4.0,
-            2.0,
-            0.0,
-            4.0,
-            2.0,
-            0.0,
-            2.0,
-            6.0,
-            0.0,
-            2.0,
-            4.0,
-            0.0,
-            2.0,
-            4.0,
-            0.0,
-        ],
-    );
+    let along_b = splits_b();
+    candidates(b, 2, &along_b);
+}
+
+// Three vertices a cut: the part of the segment up to it, the cut, and the cut again as the whole segment's split.
+fn splits_a() -> [f64; 18] {
+    [
+        4.0,
+        0.0,
+        0.0,
+        4.0,
+        2.0,
+        0.0,
+        4.0,
+        2.0,
+        0.0,
+        4.0,
+        4.0,
+        0.0,
+        2.0,
+        4.0,
+        0.0,
+        2.0,
+        4.0,
+        0.0,
+    ]
+}
+
+fn splits_b() -> [f64; 18] {
+    [
+        2.0,
+        2.0,
+        0.0,
+        4.0,
+        2.0,
+        0.0,
+        4.0,
+        2.0,
+        0.0,
+        2.0,
+        6.0,
+        0.0,
+        2.0,
+        4.0,
+        0.0,
+        2.0,
+        4.0,
+        0.0,
+    ]
 }
 
 fn square_a() -> [f64; 12] {
@@ -267,7 +268,7 @@ fn main() {
     let a = square_a();
     let b = square_b();
     squares(&a, &b);
-    cuts();
+    cuts(&a, &b);
     let t = [0.0, 0.0, 0.0, 2.0, 0.0, 0.0, 0.0, 2.0, 0.0];
     triangle(&t);
 }
