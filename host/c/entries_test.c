@@ -1,5 +1,5 @@
 /*
- * Calls the five entries of mask.h as a host does, and compares every answer, bit
+ * Calls the five entries over views as a host does, and compares every answer, bit
  * for bit, with what document 01 says. One line for each check; the status is 0
  * where none failed.
  *
