@@ -1193,23 +1193,7 @@ static outline drawn_outline(void)
     return lend_outline(list, len, vc);
 }
 
-/* A point near p: at it, at a distance of about t in either coordinate, or anywhere. */
-static double near(double a, double t)
-{
-    switch (below(6)) {
-    case 0:
-        return a + t;
-    case 1:
-        return a - t;
-    case 2:
-        return nextafter(a + t, a);
-    case 3:
-        return nextafter(a - t, a);
-    default:
-        return a;
-    }
-}
-
+/* A point near a vertex, or anywhere. */
 static mask_point drawn_near(outline o, size_t i, double t)
 {
     mask_point p = {drawn_number(), drawn_number()};

@@ -262,6 +262,23 @@ static inline size_t below(size_t n) { return (size_t)(n ? draw() % n : draw());
 /* One case in `odds`. */
 static inline int rarely(size_t odds) { return below(odds) == 0; }
 
+/* A number near a: at it, at the distance t, or at the next number within t. */
+static inline double near(double a, double t)
+{
+    switch (below(6)) {
+    case 0:
+        return a + t;
+    case 1:
+        return a - t;
+    case 2:
+        return nextafter(a + t, a);
+    case 3:
+        return nextafter(a - t, a);
+    default:
+        return a;
+    }
+}
+
 /* A number that is refused. */
 static inline double bad_number(void)
 {
