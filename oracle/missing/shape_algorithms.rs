@@ -1,0 +1,1 @@
+//! Stands for a module that no ported stage uses. It is empty.
