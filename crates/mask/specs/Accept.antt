@@ -40,9 +40,9 @@ use Rattle.prune_entries.specs.Answers.{pruneRefused, pruneGiven}
 use Rattle.prune_entries.specs.PruneRows.{codesKnown, tooMany, roomFault}
 use Rattle.prune_entries.specs.PruneEntry.{Called, candsRows, lapsRows, codesRows, numbersRows, startsRows, reachesRows, inputRows, lentRows, pruneRefusal, pruneNumber, PruneLeft}
 use Rattle.prune_entries.specs.PruneEntryLaws.{prune-accepted, prune-sound}
-use Rattle.stitch.specs.Stitch as stitch
+use Rattle.run.specs.Stitch as stitch
 use Rattle.stitch.specs.Between.{Lists, Long}
-use Rattle.stitch.specs.Demand3Theorems.{no-rounds-fault}
+use Rattle.run.specs.Demand3Theorems.{no-rounds-fault}
 use Rattle.stitch_entries.specs.StitchRows as rows
 use Rattle.stitch_entries.specs.StitchRows.{knownSource, sourcesKnown, codeRows, numberRows, startsInside, offsetsInside, startsFault, roomRows}
 use Rattle.stitch_entries.specs.StitchEntry as stitched

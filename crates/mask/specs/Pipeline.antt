@@ -24,7 +24,7 @@ use Rattle.prune_entries.specs.declared.answer.PruneAnswer.{PruneAnswer}
 use Rattle.prune_entries.specs.PruneRows.{codesKnown}
 use Rattle.prune_entries.specs.Answers.{pruneRefused}
 use Rattle.prune_entries.specs.PruneEntry.{Called, called, pruneNumber, PruneLeft}
-use Rattle.stitch.specs.Stitch as stitch
+use Rattle.run.specs.Stitch as stitch
 use Rattle.stitch.specs.Between.{Lists, Long}
 use Rattle.stitch_entries.specs.declared.answer.StitchAnswer.{StitchAnswer}
 use Rattle.stitch_entries.specs.Answers.{stitchRefused}
