@@ -8,7 +8,7 @@ use native.Mathlib.Numerals.{add-one}
 use native.Mathlib.Omega.{arith}
 use lib.ListN.{length, getD}
 use lib.Dec.{ltb, leb, eqb}
-use borrow.Author.Tests.{ltb-true, leb-true, eqb-true, eqb-false}
+use borrow.Author.Tests.{ltb-true, leb-true, lt-ltb, le-leb, eqb-true, eqb-false}
 use Rattle.basis.specs.Choice.{by-test, and-left, and-right}
 use Rattle.basis.specs.Each.{Place, eachTo, placesBelow, placesAtMost}
 
@@ -23,6 +23,12 @@ module _ (q : ℕ → Bool) where
   each-at (suc n) i e h =
       by-test (eqb i n) (λ p. ap q (eqb-true i n p) ∙ and-right (eachTo q n) (q n) e)
       (λ p. let d = eqb-false i n p in each-at n i (and-left (eachTo q n) (q n) e) (omega (arith, d)))
+
+  -- and the other way: where each passes, all do
+  pub at-each : (n : ℕ) → ((i : ℕ) → i < n → q i ≡ true) → eachTo q n ≡ true
+  unfolding eachTo
+  at-each zero h = refl
+  at-each (suc n) h = rw (at-each n (λ i b. h i (omega arith)), h n (omega arith))
 
   pub each-end : (n i : ℕ) (ok : Bool) → i ≤ n → n ≤ i → ok ≡ eachTo q i → ok ≡ eachTo q n
   each-end n i ok h l e = let d : i ≡ n = omega arith in e ∙ ap (eachTo q) d
@@ -51,3 +57,12 @@ module _ (w k : ℕ) (l : List ℕ) (count bound : ℕ) (some : 0 < w) (whole : 
   pub most-at : placesAtMost w k bound l ≡ true → (i : ℕ) → i < count → getD l (w * i + k) 0 ≤ bound
   unfolding placesAtMost
   most-at e i h = leb-true (getD l (w * i + k) 0) bound (each-at (λ j. leb (getD l (w * j + k) 0) bound) (length l / w) i e (subst (λ (n : ℕ). i < n) (sym items) h))
+
+  -- and the other way: what holds of each item's place is found of the list
+  pub at-below : ((i : ℕ) → i < count → getD l (w * i + k) 0 < bound) → placesBelow w k bound l ≡ true
+  unfolding placesBelow
+  at-below h = at-each (λ j. ltb (getD l (w * j + k) 0) bound) (length l / w) (λ i b. lt-ltb _ _ (h i (subst (λ (n : ℕ). i < n) items b)))
+
+  pub at-most : ((i : ℕ) → i < count → getD l (w * i + k) 0 ≤ bound) → placesAtMost w k bound l ≡ true
+  unfolding placesAtMost
+  at-most h = at-each (λ j. leb (getD l (w * j + k) 0) bound) (length l / w) (λ i b. le-leb _ _ (h i (subst (λ (n : ℕ). i < n) items b)))

@@ -7,7 +7,7 @@ use mathlib.Core.Logic.{_⊎_, inl, inr}
 use native.Mathlib.Omega.{arith}
 use lib.Dec.{T, ltb, leb, eqb}
 use native.Mathlib.Nat.{le-of-eq, add-zero, div-add-mod, mul-mod-right, mul-div-right}
-use borrow.Author.Tests.{ltb-false, leb-true, eqb-true, eqb-false, eq-eqb, ne-eqb, not-false}
+use borrow.Author.Tests.{ltb-false, le-ltb, leb-true, eqb-true, eqb-false, eq-eqb, ne-eqb, not-false}
 use Rattle.basis.specs.Choice.{by-test, or-left, or-right}
 use Rattle.basis.specs.Refuse.{Row, row, firstOf, answer, lengthFault, longFault, sizeFault, choiceFault}
 
@@ -59,6 +59,11 @@ clear-left (row b n ∷ s) t c = (c .0, clear-left s t (c .1))
 pub clear-right : (s t : List Row) → Clear (s ++ t) → Clear t
 clear-right [] t c = c
 clear-right (row b n ∷ s) t c = clear-right s t (c .1)
+
+-- parts that are clear make a clear table
+pub clear-both : (s t : List Row) → Clear s → Clear t → Clear (s ++ t)
+clear-both [] t c d = d
+clear-both (row b n ∷ s) t c d = (c .0, clear-both s t (c .1) d)
 
 -- ---- the number is the lowest that applies
 
@@ -180,6 +185,17 @@ module _ {A : Type 0} (f : ℕ → A) (n m : ℕ) (a r : A) where
 
 pub ruleset answers = (answer-no, answer-yes)
 
+-- an answer whose refusal is 0 is none: the call was accepted
+pub answer-zero : {A : Type 0} (f : ℕ → A) (refusal : A → ℕ) (n : ℕ) (a r : A) → ((k : ℕ) → refusal (f k) ≡ k) → r ≡ answer f n a → refusal r ≡ 0 → n ≡ 0
+unfolding answer
+answer-zero f refusal zero a r h e z = refl
+answer-zero f refusal (suc n) a r h e z = sym (h (suc n)) ∙ ap refusal (sym e) ∙ z
+
+-- and what it then gives
+pub answer-accepted : {A : Type 0} (f : ℕ → A) (n : ℕ) (a r : A) → r ≡ answer f n a → n ≡ 0 → r ≡ a
+unfolding answer
+answer-accepted f n a r e z = e ∙ ap (λ (k : ℕ). answer f k a) z
+
 -- every contract of an entry is an equation with a definition, so two answers that it permits are equal
 pub one-answer : {A : Type 0} (r s x : A) → r ≡ x → s ≡ x → r ≡ s
 one-answer r s x e f = e ∙ sym f
@@ -195,6 +211,15 @@ long-ok vc e = ltb-false 1024 vc e
 pub size-ok : (vc : ℕ) → sizeFault vc ≡ false → (2 ≤ vc) × (vc ≤ 1024)
 unfolding sizeFault
 size-ok vc e = (ltb-false vc 2 (or-left (ltb vc 2) _ e), long-ok vc (or-right (ltb vc 2) _ e))
+
+-- and the other way: numbers that are as they should be have no fault
+pub ok-length : (w len count : ℕ) → len ≡ w * count → lengthFault w len count ≡ false
+unfolding lengthFault
+ok-length w len count e = ap not (eq-eqb len (w * count) e)
+
+pub ok-size : (vc : ℕ) → 2 ≤ vc → vc ≤ 1024 → sizeFault vc ≡ false
+unfolding sizeFault
+ok-size vc h k = rw (le-ltb vc 2 h, le-ltb 1024 vc k)
 
 pub choice-ok : (code : ℕ) → choiceFault code ≡ false → code ≤ 1
 choice-ok code e = ltb-false 1 code e

@@ -1,5 +1,5 @@
 // The stitch and the area pass.
-ghost use Rattle.stitch.specs.Stitch.{given};
+ghost use Rattle.run.specs.Stitch.{given};
 ghost use Rattle.stitch.specs.Between.{lists};
 ghost use Rattle.stitch_entries.specs.StitchEntry.{StitchLeft};
 ghost use Rattle.stitch_entries.specs.AreaEntry.{AreaLeft};

@@ -1,20 +1,15 @@
 -- What the entry `mask_prune` is proved by: the table in its parts, acceptance, and the two ways out.
 use Prim.Native.Nat.{ℕ, _*_, _≤_}
-use mathlib.Core.Bool.{true}
 use mathlib.Core.Path.{_≡_, refl, sym, ap, _∙_}
 use mathlib.Core.List.{_++_}
-use native.Mathlib.Nat.{add-zero}
 use native.Mathlib.Omega.{arith}
 use lib.ListN.{length}
 use borrow.Author.Tests.{ltb-false, not-false}
-use Rattle.basis.specs.Number.{allWithin}
-use Rattle.basis.specs.Each.{placesBelow, placesAtMost}
-use Rattle.basis.specs.EachLaws.{below-at, most-at}
 use Rattle.basis.specs.RefuseLaws.{Clear, clear, clear-left, clear-right, firstFrom, first-from, then-rows, length-ok, answer-no, answer-yes}
 use Rattle.prune.specs.declared.write.Pruned.{Pruned}
-use Rattle.prune.specs.Prune.{Cands, Overlaps}
+use Rattle.prune.specs.Prune.{Cands}
 use Rattle.prune.specs.Ready.{CandsFit, OverlapsFit, Rooms, Ready, Written}
-use Rattle.prune.specs.PruneTheorems.{CandsSound, OverlapsSound}
+use Rattle.prune.specs.PruneTheorems.{cands-sound, overlaps-sound}
 use Rattle.prune_entries.specs.declared.answer.PruneAnswer.{PruneAnswer}
 use Rattle.prune_entries.specs.Answers.{pruneRefused, pruneGiven}
 use Rattle.prune_entries.specs.PruneRowsLaws.{few-cands, few-laps, room-ok}
@@ -35,26 +30,6 @@ cands-fit c ok =
       at = length-ok 2 (length (c .at)) (c .count) (ok .0);
       shape = length-ok 6 (length (c .shape)) (c .count) (ok .1 .0);
       inside = omega arith;
-    }
-
-cands-sound : (vc : ℕ) (c : Cands) → CandsFit c → allWithin (c .shape) ≡ true → placesBelow 2 0 vc (c .at) ≡ true → placesAtMost 2 1 vc (c .at) ≡ true → CandsSound vc c
-cands-sound vc c fit numbers starts reaches =
-    record {
-      starts = λ k h. rw add-zero at (below-at 2 0 (c .at) (c .count) vc (omega arith) (fit .at) starts k h);
-      reaches = most-at 2 1 (c .at) (c .count) vc (omega arith) (fit .at) reaches;
-      numbers = numbers;
-      size = fit .shape;
-    }
-
-overlaps-sound : (vc : ℕ) (o : Overlaps) → OverlapsFit o → allWithin (o .shape) ≡ true → placesAtMost 7 4 1 (o .at) ≡ true → placesBelow 7 5 vc (o .at) ≡ true → placesAtMost 7 6 vc (o .at) ≡ true
-    → OverlapsSound vc o
-overlaps-sound vc o fit numbers codes starts reaches =
-    record {
-      codes = most-at 7 4 (o .at) (o .count) 1 (omega arith) (fit .at) codes;
-      starts = below-at 7 5 (o .at) (o .count) vc (omega arith) (fit .at) starts;
-      reaches = most-at 7 6 (o .at) (o .count) vc (omega arith) (fit .at) reaches;
-      numbers = numbers;
-      size = fit .shape;
     }
 
 -- ---- the parts of an accepted call's table
@@ -128,11 +103,11 @@ module _ (c : Called) (l : Rooms) (number : ℕ) where
       let s = p .starts in
       let r = p .reaches in
       record {
-        one = cands-sound (c .vc1) (c .pruned .one) (p .one) (not-false _ (n .0)) (not-false _ (s .0)) (not-false _ (r .0));
-        two = cands-sound (c .vc2) (c .pruned .two) (p .two) (not-false _ (n .1 .0)) (not-false _ (s .1 .0)) (not-false _ (r .1 .0));
+        one = cands-sound (c .vc1) (c .pruned .one) (p .one) (not-false _ (s .0)) (not-false _ (r .0)) (not-false _ (n .0));
+        two = cands-sound (c .vc2) (c .pruned .two) (p .two) (not-false _ (s .1 .0)) (not-false _ (r .1 .0)) (not-false _ (n .1 .0));
         laps =
-            overlaps-sound (c .vc2) (c .pruned .laps) (p .laps) (not-false _ (n .1 .1 .0)) (not-false _ (p .codes .1 .1 .1 .1 .1 .1 .0)) (not-false _ (s .1 .1 .1 .1 .1 .1 .0))
-            (not-false _ (r .1 .1 .0));
+            overlaps-sound (c .vc2) (c .pruned .laps) (p .laps) (not-false _ (p .codes .1 .1 .1 .1 .1 .1 .0)) (not-false _ (s .1 .1 .1 .1 .1 .1 .0)) (not-false _ (r .1 .1 .0))
+            (not-false _ (n .1 .1 .0));
       }
 
   -- ---- what the entry leaves: refused, and accepted

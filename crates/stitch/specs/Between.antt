@@ -13,10 +13,11 @@ use Rattle.outline.specs.Points.{vertexNumbers}
 use Rattle.stitch.specs.declared.walk.ChainEnd.{ChainEnd}
 use Rattle.stitch.specs.declared.turn.Tally.{Tally}
 use Rattle.stitch.specs.declared.write.Stitched.{Stitched}
-use Rattle.stitch.specs.Run.{Chain, turns, slicesOf, orderOf}
-use Rattle.stitch.specs.Stitch.{Given, sliceOffset, rulesOf, runOf, loopsOf, howOf, totals, needOf, roundCount, loopCount, chainCount, roomItems, endItems, chainItems, chainEndItems, howItems}
-use Rattle.stitch.specs.NeedLaws.{finished}
-use Rattle.stitch.specs.Ready.{Sound, Points, Begun, chainsTo}
+use Rattle.run.specs.Run.{Chain, turns, slicesOf, orderOf}
+use Rattle.run.specs.Stitch.{Given, sliceOffset, rulesOf, runOf, loopsOf, howOf, totals, needOf, roundCount, loopCount, chainCount, roomItems, endItems, chainItems, chainEndItems, howItems}
+use Rattle.run.specs.NeedLaws.{finished}
+use Rattle.round.specs.Ready.{Sound, Points}
+use Rattle.stitch.specs.Ready.{Begun, chainsTo}
 
 -- what the chains l leave in each list
 abbrev pub numbersOf : List (Chain (List Vertex)) → List Float

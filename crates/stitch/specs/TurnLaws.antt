@@ -16,16 +16,17 @@ use Rattle.chain.specs.Held.{chainOf}
 use Rattle.chain.specs.RestLaws.{chain-length, chain-less, chain-numbers, rest-lent, rest-front, rest-back}
 use Rattle.stitch.specs.declared.walk.ChainEnd.{ChainEnd}
 use Rattle.stitch.specs.declared.turn.Tally.{Tally}
-use Rattle.stitch.specs.Run.{Ending, closed, tooSmall, noCandidate, noSelection, spent, Chain, Stitched, opened, added, begun, turn, turns, slicesOf, orderOf}
-use Rattle.stitch.specs.Stitch.{Given, sliceView, rulesOf, loopOf, loopsOf, howOf, totals, sumBelow, weightAt, needFor, needOf}
-use Rattle.stitch.specs.Demand3.{sumOver, leaves}
-use Rattle.stitch.specs.SumLaws.{sum-append, flat-snoc}
-use Rattle.stitch.specs.TallyLaws.{tally-most}
-use Rattle.stitch.specs.RunLaws.{going-opened, kept-turns}
-use Rattle.stitch.specs.NeedLaws.{finished}
-use Rattle.stitch.specs.StitchLaws.{among}
-use Rattle.stitch.specs.ReportLaws.{order-snoc, loops-snoc, totals-snoc, totals-length, sum-map, flat-length, loops-size, loops-few, chains-few}
-use Rattle.stitch.specs.Ready.{Sound, Begun, chainsTo, orderTo, mostOf, Opening, chainAt, Walked}
+use Rattle.run.specs.Run.{Ending, closed, tooSmall, noCandidate, noSelection, spent, Chain, Stitched, opened, added, begun, turn, turns, slicesOf, orderOf}
+use Rattle.run.specs.Stitch.{Given, sliceView, rulesOf, loopOf, loopsOf, howOf, totals, sumBelow, weightAt, needFor, needOf}
+use Rattle.run.specs.Demand3.{sumOver, leaves}
+use Rattle.run.specs.SumLaws.{sum-append, flat-snoc}
+use Rattle.run.specs.TallyLaws.{tally-most}
+use Rattle.run.specs.RunLaws.{going-opened, kept-turns}
+use Rattle.run.specs.NeedLaws.{finished}
+use Rattle.run.specs.StitchLaws.{among}
+use Rattle.run.specs.ReportLaws.{order-snoc, loops-snoc, totals-snoc, totals-length, sum-map, flat-length, loops-size, loops-few, chains-few}
+use Rattle.round.specs.Ready.{Sound}
+use Rattle.stitch.specs.Ready.{Begun, chainsTo, orderTo, mostOf, Opening, chainAt, Walked}
 use Rattle.stitch.specs.Between.{numbersOf, endsOf, chainEndsOf, howsOf, Lists, lists, Holds, EndFit, EndListed, loopEnd, tallyAfter, endsAfter, LoopFit, LoopListed, TurnFit, Turned}
 use Rattle.stitch.specs.WalkLaws.{begins-fit, begun-put}
 

@@ -12,17 +12,18 @@ use Rattle.outline.specs.declared.point.Vertex.{Vertex}
 use Rattle.chain.specs.Chain.{dropLast}
 use Rattle.chain.specs.Held.{chainOf}
 use Rattle.chain.specs.RestLaws.{chain-length, chain-less}
-use Rattle.stitch.specs.declared.plan.Plan.{Plan}
+use Rattle.round.specs.declared.plan.Plan.{Plan}
 use Rattle.stitch.specs.declared.walk.ChainEnd.{ChainEnd}
-use Rattle.stitch.specs.declared.round.Step.{Step}
-use Rattle.stitch.specs.declared.round.Step.the-variants.{Onto, Ends}
-use Rattle.stitch.specs.Run.{Rules, Ending, Next, onto, ends, Underway, Finished, nextOf, roundOf, opened, onward, ended, walk, chainFrom, turns, slicesOf}
-use Rattle.stitch.specs.Stitch.{Given, sliceOffset, rulesOf, addSlice, howOf, weightAt}
-use Rattle.stitch.specs.TallyLaws.{tally-weight, tally-most}
-use Rattle.stitch.specs.RunLaws.{placed, placed-longer, onto-facts, Going, going-onward, going-opened, ended-slices, kept-turns}
-use Rattle.stitch.specs.NeedLaws.{Roomy, round-fits, roomy-onward, roomy-opened, held-turns}
-use Rattle.stitch.specs.StitchLaws.{among, grows}
-use Rattle.stitch.specs.Ready.{planned, Sound, Points, toldOf, RoundFit, standing, Rounded, Begun, Placing, Placed, orderTo, doneTo, mostOf, Opening, chainAt, Walked}
+use Rattle.round.specs.declared.step.Step.{Step}
+use Rattle.round.specs.declared.step.Step.the-variants.{Onto, Ends}
+use Rattle.run.specs.Run.{Rules, Ending, Next, onto, ends, Underway, Finished, nextOf, roundOf, opened, onward, ended, walk, chainFrom, turns, slicesOf}
+use Rattle.run.specs.Stitch.{Given, sliceOffset, rulesOf, addSlice, howOf, weightAt}
+use Rattle.run.specs.TallyLaws.{tally-weight, tally-most}
+use Rattle.run.specs.RunLaws.{placed, placed-longer, onto-facts, Going, going-onward, going-opened, ended-slices, kept-turns}
+use Rattle.run.specs.NeedLaws.{Roomy, round-fits, roomy-onward, roomy-opened, held-turns}
+use Rattle.run.specs.StitchLaws.{among, grows}
+use Rattle.round.specs.Ready.{planned, Sound, Points, toldOf, RoundFit, standing, Rounded}
+use Rattle.stitch.specs.Ready.{Begun, Placing, Placed, orderTo, doneTo, mostOf, Opening, chainAt, Walked}
 
 -- ---- a list that is written from the front
 

@@ -12,12 +12,13 @@ use lib.Ieee.{Float}
 use Rattle.basis.specs.Number.{+0}
 use Rattle.basis.specs.Room.{roomOf, cleared}
 use Rattle.stitch.specs.declared.turn.Tally.{Tally}
-use Rattle.stitch.specs.Run.{run, turns, orderOf}
-use Rattle.stitch.specs.Stitch.{Given, sliceOffset, sliceView, rulesOf, runOf, loopsOf, totals, sumBelow, weightAt, needFor, needOf, roundCount, loopCount, chainCount, roomItems, endItems, chainItems, chainEndItems, howItems}
-use Rattle.stitch.specs.RunLaws.{same-length}
-use Rattle.stitch.specs.StitchLaws.{among}
-use Rattle.stitch.specs.Demand3Theorems.{room-items, end-items, chain-items, how-items, chains-at-most, loops-at-most}
-use Rattle.stitch.specs.Ready.{Sound, Points, Begun, chainsTo}
+use Rattle.run.specs.Run.{run, turns, orderOf}
+use Rattle.run.specs.Stitch.{Given, sliceOffset, sliceView, rulesOf, runOf, loopsOf, totals, sumBelow, weightAt, needFor, needOf, roundCount, loopCount, chainCount, roomItems, endItems, chainItems, chainEndItems, howItems}
+use Rattle.run.specs.RunLaws.{same-length}
+use Rattle.run.specs.StitchLaws.{among}
+use Rattle.run.specs.Demand3Theorems.{room-items, end-items, chain-items, how-items, chains-at-most, loops-at-most}
+use Rattle.round.specs.Ready.{Sound, Points}
+use Rattle.stitch.specs.Ready.{Begun, chainsTo}
 use Rattle.stitch.specs.Between.{Lists, Long, Holds, TurnFit, Turned, TurnsFit, AllTurned, NeedFit, RestFit, RestCleared, StitchFit, Written}
 use Rattle.stitch.specs.WalkLaws.{begun-none, begun-then}
 

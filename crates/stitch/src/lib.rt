@@ -1,8 +1,4 @@
-// The stitch: candidates of an end, rounds, chains, loops.
-pub mod plan;
-pub mod round;
-pub mod scan;
-pub mod slice;
+// The stitch: chains of rounds, loops.
 pub mod turn;
 pub mod walk;
 pub mod write;

@@ -1,10 +1,10 @@
 // Document 01: "A chain starts at the lowest unvisited slice." Each slice has its turn, in ascending number.
-ghost use Rattle.stitch.specs.Ready.{planned};
+ghost use Rattle.round.specs.Ready.{planned};
 ghost use Rattle.stitch.specs.Between.{lists, EndFit, EndListed, LoopFit, LoopListed, TurnFit, Turned, TurnsFit, AllTurned};
-use crate::plan::Plan;
-use crate::round;
 use crate::walk;
 use crate::walk::ChainEnd;
+use round::plan::Plan;
+use round::step;
 
 // What is finished: vertices of the loops, loops, chains, rounds.
 pub(crate) struct Tally {
@@ -29,7 +29,7 @@ fn list_loop(ends: &mut [usize], w: Tally, e: ChainEnd) -> Tally
     ensures { λ r. ⌜ LoopListed w e (now (ends .entry)) r (now (ends .exit)) ⌝ }
 {
     let k = w.loops;
-    if e.how != round::CLOSED {
+    if e.how != step::CLOSED {
         return Tally {
             done: w.done,
             loops: k,

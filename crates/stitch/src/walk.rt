@@ -1,9 +1,10 @@
 // A chain: round after round, from its first slice to its end.
-ghost use Rattle.stitch.specs.Ready.{planned, Placing, Placed, Opening, Walked};
-use crate::plan::Plan;
-use crate::round;
-use crate::round::Step;
-use crate::slice;
+ghost use Rattle.round.specs.Ready.{planned};
+ghost use Rattle.stitch.specs.Ready.{Placing, Placed, Opening, Walked};
+use round::plan::Plan;
+use round::slice;
+use round::step;
+use round::step::Step;
 
 // A chain at its end: how many vertices it has, how many rounds were taken up to now, how it ended.
 pub(crate) struct ChainEnd {
@@ -64,7 +65,7 @@ pub(crate) fn walk_chain(
     loop {
         chain[rounds] = current;
         rounds += 1;
-        match round::next_of(points, visited, room, n, first, current, p) {
+        match step::next_of(points, visited, room, n, first, current, p) {
             Step::Onto(j) => {
                 n = place(
                     visited,

@@ -1,13 +1,13 @@
 // The stitch over lists that have been looked at: what it writes into the lent room and what it reports.
 ghost use mathlib.Core.Path.{_≡_};
-ghost use Rattle.stitch.specs.Stitch.{given, needOf};
+ghost use Rattle.run.specs.Stitch.{given, needOf};
 ghost use Rattle.stitch.specs.Between.{lists, NeedFit, RestFit, RestCleared, StitchFit, Written};
-use crate::plan::Plan;
-use crate::slice;
 use crate::turn;
 use crate::turn::Tally;
 use basis::number::Tolerance;
 use basis::room;
+use round::plan::Plan;
+use round::slice;
 use select::class::Starts;
 
 // What is reported: the rounds taken, the loops returned, the chains walked.

@@ -1,6 +1,6 @@
 use borrow.Author.Needs.{needs}
 use Prim.Native.Nat.{_-_}
-use Rattle.stitch.specs.Ready.{planned}
+use Rattle.round.specs.Ready.{planned}
 use Rattle.stitch.specs.WalkLaws.{Walking, walk-start, walk-place, walk-end, walk-whole, walking}
 use Rattle.stitch.proofs.walk.walk_chain.Statement.{statement}
 use Rattle.stitch.proofs.walk.walk_chain.Tie as tie

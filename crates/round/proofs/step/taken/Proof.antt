@@ -1,0 +1,20 @@
+use borrow.Author.Needs.{needs}
+use Rattle.basis.specs.Choice.{cases}
+use Rattle.round.specs.Ready.{stepOf}
+use Rattle.round.proofs.step.taken.Statement.{statement}
+use Rattle.round.proofs.step.taken.Tie as tie
+
+returns : tie.Need-returns
+unfolding stepOf
+returns c = search (needs, cases)
+
+returns-2 : tie.Need-returns-2
+unfolding stepOf
+returns-2 c = search (needs, cases)
+
+returns-3 : tie.Need-returns-3
+unfolding stepOf
+returns-3 c = search (needs, cases)
+
+pub taken-spec : {M : Type 1} → statement M
+taken-spec = tie.close (tie.spec returns returns-2 returns-3)

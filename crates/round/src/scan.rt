@@ -1,0 +1,86 @@
+// Document 01: "A round takes the candidates of the chain's last vertex that are unvisited or the chain's first slice, in ascending number".
+ghost use mathlib.Core.Path.{_≡_};
+ghost use mathlib.Core.Bool.{_&&_};
+ghost use Rattle.outline.specs.Points.{inBox};
+ghost use Rattle.run.specs.Run.{free};
+ghost use Rattle.round.specs.Ready.{pointAt, nearEnd, PointThere, MarkThere, BothThere, ScanFit, Met};
+use basis::number::Tolerance;
+use outline::point;
+use outline::point::Point;
+use select::best;
+use select::best::Best;
+use select::class;
+use select::class::Starts;
+use select::table::Choices;
+
+// What a scan has met: whether any candidate, and of each choice the first that suits.
+pub(crate) struct Seen {
+    pub any: bool,
+    pub best: Best,
+}
+
+// Unvisited or the chain's first slice.
+fn is_free(visited: &[bool], first: usize, j: usize) -> bool
+    requires { ⌜ MarkThere (now visited) j ⌝ }
+    ensures { λ r. ⌜ r ≡ free (now (visited .entry)) first j ⌝ }
+{
+    !visited[j] || j == first
+}
+
+// The start point of slice j is in the closed box around the end.
+fn is_near(points: &[f64; 3584], end: Point, t: Tolerance, j: usize) -> bool
+    requires { ⌜ PointThere (now points) j ⌝ }
+    ensures { λ r. ⌜ r ≡ inBox t end (pointAt (now (points .entry)) j) ⌝ }
+{
+    let a = 2 * j;
+    let start = Point {
+        x: points[a],
+        y: points[a + 1],
+    };
+    point::in_box(start, end, t)
+}
+
+// Slice j is a candidate.
+fn is_candidate(
+    points: &[f64; 3584],
+    visited: &[bool],
+    first: usize,
+    end: Point,
+    t: Tolerance,
+    j: usize,
+) -> bool
+    requires { ⌜ BothThere (now points) (now visited) j ⌝ }
+    ensures { λ r. ⌜ r ≡ (free (now (visited .entry)) first j && inBox t end (pointAt (now (points .entry)) j)) ⌝ }
+{
+    is_free(visited, first, j) && is_near(points, end, t, j)
+}
+
+// The candidates of an end, in ascending number.
+pub(crate) fn scan(
+    points: &[f64; 3584],
+    visited: &[bool],
+    first: usize,
+    end: Point,
+    t: Tolerance,
+    starts: Starts,
+    choices: Choices,
+    count: usize,
+) -> Seen
+    requires { ⌜ ScanFit (now points) (now visited) count ⌝ }
+    ensures { λ r. ⌜ Met (nearEnd (now (points .entry)) (now (visited .entry)) first end t) starts choices count r ⌝ }
+{
+    let mut any = false;
+    let mut best = best::none_yet();
+    let mut j = 0;
+    while j < count {
+        if !is_candidate(points, visited, first, end, t, j) {
+            j += 1;
+            continue;
+        }
+        let class = class::class_of(starts, j);
+        best = best::offer(best, choices, j, class);
+        any = true;
+        j += 1;
+    }
+    Seen { any, best }
+}

@@ -1,0 +1,11 @@
+pub mod Run
+pub mod Stitch
+pub mod Demand3
+pub mod SumLaws
+pub mod TallyLaws
+pub mod RunLaws
+pub mod NeedLaws
+pub mod StitchLaws
+pub mod ReportLaws
+pub mod Demand3Theorems
+pub mod StitchExamples
