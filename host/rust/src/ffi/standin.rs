@@ -1,0 +1,267 @@
+//! A stand-in for the archive, for the tests of this crate's own modules. It works nothing out. It
+//! writes down what it was lent, and answers what the test told it to. So these tests show how
+//! lists are laid out and lent, and how answers are taken; what the library answers, the tests in
+//! `tests` show.
+
+use super::{
+    CountAnswer, PruneAnswer, StitchAnswer, VerdictAnswer, VertexAnswer, View, ViewAnswer,
+};
+use crate::{Point, Split, Vertex};
+use std::cell::RefCell;
+use std::collections::VecDeque;
+
+/// An argument of a call.
+#[derive(Debug, Clone, PartialEq)]
+pub(crate) enum Lent {
+    Code(u32),
+    Count(usize),
+    Number(f64),
+    Point(Point),
+    Vertex(Vertex),
+    Split(Split),
+    View(View),
+    Counts(Vec<usize>),
+    Numbers(Vec<f64>),
+    Answers(Vec<u8>),
+    /// A list to be written: its length.
+    Room(usize),
+}
+
+/// A call that was made.
+#[derive(Debug)]
+pub(crate) struct Call {
+    pub entry: &'static str,
+    lent: Vec<(&'static str, Lent)>,
+}
+
+impl Call {
+    /// The argument of this name.
+    pub fn lent(&self, name: &str) -> Lent {
+        let found = self.lent.iter().find(|(known, _)| *known == name);
+        let (_, lent) = found.unwrap_or_else(|| panic!("{} has no {name}", self.entry));
+        lent.clone()
+    }
+}
+
+/// What to answer to the next call, and what to write into the lists lent for it.
+#[derive(Debug)]
+pub(crate) struct Reply {
+    answer: Answer,
+    counts: Vec<Vec<usize>>,
+    numbers: Vec<Vec<f64>>,
+}
+
+impl Reply {
+    /// An answer that writes nothing.
+    pub fn of(answer: impl Into<Answer>) -> Reply {
+        Reply::writing(answer, vec![], vec![])
+    }
+
+    /// An answer that writes the fronts of the lists of counts, and those of the lists of numbers.
+    pub fn writing(
+        answer: impl Into<Answer>,
+        counts: Vec<Vec<usize>>,
+        numbers: Vec<Vec<f64>>,
+    ) -> Reply {
+        Reply {
+            answer: answer.into(),
+            counts,
+            numbers,
+        }
+    }
+}
+
+thread_local! {
+    static REPLIES: RefCell<VecDeque<Reply>> = RefCell::default();
+    static CALLS: RefCell<Vec<Call>> = RefCell::default();
+}
+
+/// Makes the calls of `test`, answers them as told, and gives what it gave and what was lent.
+pub(crate) fn told<T>(
+    replies: impl IntoIterator<Item = Reply>,
+    test: impl FnOnce() -> T,
+) -> (T, Vec<Call>) {
+    REPLIES.with(|all| *all.borrow_mut() = replies.into_iter().collect());
+    CALLS.with(|all| all.borrow_mut().clear());
+    let given = test();
+    REPLIES.with(|all| assert!(all.borrow().is_empty(), "fewer calls than replies"));
+    (given, CALLS.with(RefCell::take))
+}
+
+/// Writes the call down and gives the next answer.
+fn play(call: Call, counts: &mut [&mut [usize]], numbers: &mut [&mut [f64]]) -> Answer {
+    let entry = call.entry;
+    CALLS.with(|all| all.borrow_mut().push(call));
+    let reply = REPLIES.with(|all| all.borrow_mut().pop_front());
+    let reply = reply.unwrap_or_else(|| panic!("no reply was told for {entry}"));
+    for (list, front) in counts.iter_mut().zip(reply.counts) {
+        list[..front.len()].copy_from_slice(&front);
+    }
+    for (list, front) in numbers.iter_mut().zip(reply.numbers) {
+        list[..front.len()].copy_from_slice(&front);
+    }
+    reply.answer
+}
+
+macro_rules! answers {
+    ($($case:ident $answer:ident),*) => {
+        /// An answer to one of the entries.
+        #[derive(Debug, Clone, Copy)]
+        pub(crate) enum Answer { $($case($answer)),* }
+        $(
+            impl From<$answer> for Answer {
+                fn from(answer: $answer) -> Answer {
+                    Answer::$case(answer)
+                }
+            }
+            impl From<Answer> for $answer {
+                fn from(answer: Answer) -> $answer {
+                    match answer {
+                        Answer::$case(answer) => answer,
+                        other => panic!("{other:?} was told for another entry"),
+                    }
+                }
+            }
+        )*
+    };
+}
+
+answers!(
+    Vertex VertexAnswer,
+    View ViewAnswer,
+    Verdict VerdictAnswer,
+    Count CountAnswer,
+    Prune PruneAnswer,
+    Stitch StitchAnswer
+);
+
+macro_rules! lent_as {
+    ($($case:ident $kind:ty),*) => {
+        $(
+            impl From<$kind> for Lent {
+                fn from(lent: $kind) -> Lent {
+                    Lent::$case(lent.into())
+                }
+            }
+        )*
+    };
+}
+
+lent_as!(
+    Code u32,
+    Count usize,
+    Number f64,
+    Point Point,
+    Vertex Vertex,
+    Split Split,
+    View View,
+    Counts &[usize],
+    Numbers &[f64],
+    Answers &[u8]
+);
+
+macro_rules! call {
+    ($entry:ident: $($read:ident),*; $($room:ident),*) => {
+        Call {
+            entry: stringify!($entry),
+            lent: vec![
+                $((stringify!($read), Lent::from($read)),)*
+                $((stringify!($room), Lent::Room($room.len())),)*
+            ],
+        }
+    };
+}
+
+/// The functions that `archive` has else.
+#[allow(clippy::too_many_arguments)] // those of the header
+#[rustfmt::skip] // one parameter list a paragraph, as the interface has them
+pub(crate) mod entries {
+    use super::{play, Call, Lent};
+    use super::{CountAnswer, PruneAnswer, StitchAnswer, VerdictAnswer, VertexAnswer, ViewAnswer};
+    use super::{Point, Split, Vertex, View};
+
+    pub(crate) fn view_vertex(outline: &[f64], vc: usize, view: View, index: usize) -> VertexAnswer {
+        play(call!(view_vertex: outline, vc, view, index;), &mut [], &mut []).into()
+    }
+
+    pub(crate) fn create(
+        outline: &[f64], vc: usize, start_index: usize, end_intersect: Point, intersect_index: usize,
+        updated_start: Vertex, traverse_count: usize, tolerance: f64, split: Split,
+    ) -> ViewAnswer {
+        let call = call!(create: outline, vc, start_index, end_intersect, intersect_index,
+            updated_start, traverse_count, tolerance, split;);
+        play(call, &mut [], &mut []).into()
+    }
+
+    pub(crate) fn create_on_single_segment(
+        outline: &[f64], vc: usize, start_index: usize, updated_start: Vertex, end_intersect: Point,
+        tolerance: f64,
+    ) -> ViewAnswer {
+        let call = call!(create_on_single_segment: outline, vc, start_index, updated_start,
+            end_intersect, tolerance;);
+        play(call, &mut [], &mut []).into()
+    }
+
+    pub(crate) fn from_entire_pline(outline: &[f64], vc: usize, closed: u32) -> ViewAnswer {
+        play(call!(from_entire_pline: outline, vc, closed;), &mut [], &mut []).into()
+    }
+
+    pub(crate) fn validate_for_source(
+        outline: &[f64], vc: usize, view: View, start_on_segment: u32, end_on_segment: u32,
+    ) -> VerdictAnswer {
+        let call = call!(validate_for_source: outline, vc, view, start_on_segment, end_on_segment;);
+        play(call, &mut [], &mut []).into()
+    }
+
+    pub(crate) fn cut_order(
+        outline: &[f64], vc: usize, source: u32, hit_at: &[usize], hit: &[f64], hits: usize,
+        lap_at: &[usize], lap: &[f64], laps: usize, tolerance: f64,
+        cut_at: &mut [usize], cut: &mut [f64],
+    ) -> CountAnswer {
+        let call = call!(cut_order: outline, vc, source, hit_at, hit, hits, lap_at, lap, laps,
+            tolerance; cut_at, cut);
+        play(call, &mut [cut_at], &mut [cut]).into()
+    }
+
+    pub(crate) fn candidates(
+        outline: &[f64], vc: usize, source: u32, hit_at: &[usize], hit: &[f64], hits: usize,
+        lap_at: &[usize], lap: &[f64], laps: usize, splits: &[f64], tolerance: f64,
+        cand_at: &mut [usize], cand: &mut [f64], probe: &mut [f64],
+    ) -> CountAnswer {
+        let call = call!(candidates: outline, vc, source, hit_at, hit, hits, lap_at, lap, laps,
+            splits, tolerance; cand_at, cand, probe);
+        play(call, &mut [cand_at], &mut [cand, probe]).into()
+    }
+
+    pub(crate) fn prune(
+        mode: u32, opposing: u32, vc1: usize, vc2: usize,
+        cand_at1: &[usize], cand1: &[f64], inside1: &[u8], count1: usize,
+        cand_at2: &[usize], cand2: &[f64], inside2: &[u8], count2: usize,
+        lap_at: &[usize], lap: &[f64], laps: usize,
+        slice_at: &mut [usize], slice: &mut [f64],
+    ) -> PruneAnswer {
+        let call = call!(prune: mode, opposing, vc1, vc2, cand_at1, cand1, inside1, count1,
+            cand_at2, cand2, inside2, count2, lap_at, lap, laps; slice_at, slice);
+        play(call, &mut [slice_at], &mut [slice]).into()
+    }
+
+    pub(crate) fn stitch(
+        outline1: &[f64], vc1: usize, outline2: &[f64], vc2: usize,
+        slice_at: &[usize], slice: &[f64], slices: usize,
+        pline2: usize, pline1_overlapping: usize, pline2_overlapping: usize,
+        selector: u32, tolerance: f64,
+        room: &mut [f64], ends: &mut [usize], chain: &mut [usize], chain_ends: &mut [usize],
+        chain_how: &mut [usize],
+    ) -> StitchAnswer {
+        let call = call!(stitch: outline1, vc1, outline2, vc2, slice_at, slice, slices, pline2,
+            pline1_overlapping, pline2_overlapping, selector, tolerance;
+            room, ends, chain, chain_ends, chain_how);
+        play(call, &mut [ends, chain, chain_ends, chain_how], &mut [room]).into()
+    }
+
+    pub(crate) fn area_pass(
+        areas: &[f64], loops: usize, limit: f64, kept: &mut [usize],
+    ) -> CountAnswer {
+        play(call!(area_pass: areas, loops, limit; kept), &mut [kept], &mut []).into()
+    }
+}

@@ -1,0 +1,223 @@
+//! The entries that write lists, with room that the caller lends. A caller who makes the same call
+//! again and again can lend the same room each time; nothing is allocated here.
+//!
+//! The lists to be written are flat, laid out as `include/mask.h` says. Where a call is accepted,
+//! the items are written from the start on, then 0 up to the need; what lies beyond the need is
+//! left as it was. Where the room is smaller than the need, the call is refused with
+//! [`Refusal::Room`]; a refused call writes nothing.
+//!
+//! The functions of the same names at the top of this crate lend room of their own.
+
+use crate::ffi;
+use crate::{
+    Candidates, Intersections, Mode, Outline, Overlaps, Refusal, Selector, Slices, Source, Splits,
+    Starts, Tolerance,
+};
+
+/// The need of [`cut_order`] and of [`candidates`] in items: one for each cut.
+pub fn cuts_needed(intersections: &Intersections, overlaps: &Overlaps) -> usize {
+    intersections.len() + 2 * overlaps.len()
+}
+
+/// The need of [`prune`] in slices.
+pub fn slices_needed(candidates: [&Candidates; 2], overlaps: &Overlaps) -> usize {
+    candidates[0].len() + candidates[1].len() + 2 * overlaps.len()
+}
+
+/// The need of [`stitch`] in vertices: one more than the sum of (offset + 1), and 0 where there
+/// are no slices.
+pub fn vertices_needed(slices: &Slices) -> usize {
+    let first = usize::from(!slices.is_empty());
+    slices.iter().fold(first, |need, slice| {
+        need.saturating_add(slice.view.end_index_offset.saturating_add(1))
+    })
+}
+
+/// Writes the cuts of one outline in their order, and gives their number.
+///
+/// Room for a cut: `cut_at` 3 (segment, overlap mark, number of arrival), `cut` 2 (x, y).
+pub fn cut_order(
+    outline: &Outline,
+    source: Source,
+    intersections: &Intersections,
+    overlaps: &Overlaps,
+    tolerance: Tolerance,
+    cut_at: &mut [usize],
+    cut: &mut [f64],
+) -> Result<usize, Refusal> {
+    let answer = ffi::cut_order(
+        outline.numbers(),
+        outline.vertex_count(),
+        source.code(),
+        intersections.indexes(),
+        intersections.numbers(),
+        intersections.len(),
+        overlaps.indexes(),
+        overlaps.numbers(),
+        overlaps.len(),
+        tolerance.get(),
+        cut_at,
+        cut,
+    );
+    Refusal::check(answer.refusal, answer.count)
+}
+
+/// Room for candidates, for each cut:
+#[derive(Debug)]
+pub struct CandidateRoom<'a> {
+    /// 2: start, offset.
+    pub cand_at: &'a mut [usize],
+    /// 6: updated start x, y, bulge, end bulge, end x, y.
+    pub cand: &'a mut [f64],
+    /// 6: the two vertices whose midpoint the host tests, x, y, bulge each.
+    pub probe: &'a mut [f64],
+}
+
+/// Writes the candidates of one outline, and gives their number.
+pub fn candidates(
+    outline: &Outline,
+    source: Source,
+    intersections: &Intersections,
+    overlaps: &Overlaps,
+    splits: &Splits,
+    tolerance: Tolerance,
+    room: CandidateRoom<'_>,
+) -> Result<usize, Refusal> {
+    let answer = ffi::candidates(
+        outline.numbers(),
+        outline.vertex_count(),
+        source.code(),
+        intersections.indexes(),
+        intersections.numbers(),
+        intersections.len(),
+        overlaps.indexes(),
+        overlaps.numbers(),
+        overlaps.len(),
+        splits.numbers(),
+        tolerance.get(),
+        room.cand_at,
+        room.cand,
+        room.probe,
+    );
+    Refusal::check(answer.refusal, answer.count)
+}
+
+/// What [`prune`] wrote.
+#[derive(Debug, Clone, Copy, PartialEq, Eq)]
+pub struct Pruned {
+    /// How many slices.
+    pub slices: usize,
+    /// Where the classes begin.
+    pub starts: Starts,
+}
+
+/// Writes the slices that `mode` keeps. Beside the candidates of each outline stand the host's
+/// answers, 1 for inside and 0 for outside; any other number is refused with [`Refusal::Code`].
+///
+/// Room for a slice: `slice_at` 4 (source, inverted, start, offset), `slice` 6 (updated start x, y,
+/// bulge, end bulge, end x, y).
+pub fn prune(
+    mode: Mode,
+    opposing: bool,
+    vertex_counts: [usize; 2],
+    answered: [(&Candidates, &[u8]); 2],
+    overlaps: &Overlaps,
+    slice_at: &mut [usize],
+    slice: &mut [f64],
+) -> Result<Pruned, Refusal> {
+    let [(candidates1, inside1), (candidates2, inside2)] = answered;
+    let answer = ffi::prune(
+        mode.code(),
+        u32::from(opposing),
+        vertex_counts[0],
+        vertex_counts[1],
+        candidates1.indexes(),
+        candidates1.numbers(),
+        inside1,
+        candidates1.len(),
+        candidates2.indexes(),
+        candidates2.numbers(),
+        inside2,
+        candidates2.len(),
+        overlaps.indexes(),
+        overlaps.numbers(),
+        overlaps.len(),
+        slice_at,
+        slice,
+    );
+    let pruned = Pruned {
+        slices: answer.slices,
+        starts: answer.starts,
+    };
+    Refusal::check(answer.refusal, pruned)
+}
+
+/// Room for a stitch.
+#[derive(Debug)]
+pub struct StitchRoom<'a> {
+    /// 3 for each vertex of [`vertices_needed`]: x, y, bulge; loop after loop.
+    pub room: &'a mut [f64],
+    /// 1 for each slice: of each loop, how many vertices all loops up to and with it have.
+    pub ends: &'a mut [usize],
+    /// 1 for each slice: the numbers of the slices, chain after chain.
+    pub chain: &'a mut [usize],
+    /// 1 for each slice: of each chain, how many slices all chains up to and with it have.
+    pub chain_ends: &'a mut [usize],
+    /// 1 for each slice: how each chain ended. 0 closed, 1 too small, 2 no candidate, 3 not
+    /// selected.
+    pub chain_how: &'a mut [usize],
+}
+
+/// What [`stitch`] wrote.
+#[derive(Debug, Clone, Copy, PartialEq, Eq)]
+pub struct StitchCounts {
+    /// How many rounds were made: as many as there are slices.
+    pub rounds: usize,
+    /// How many loops.
+    pub loops: usize,
+    /// How many chains.
+    pub chains: usize,
+}
+
+/// Writes the loops that the slices make, and the chains.
+pub fn stitch(
+    pline1: &Outline,
+    pline2: &Outline,
+    slices: &Slices,
+    selector: Selector,
+    tolerance: Tolerance,
+    room: StitchRoom<'_>,
+) -> Result<StitchCounts, Refusal> {
+    let answer = ffi::stitch(
+        pline1.numbers(),
+        pline1.vertex_count(),
+        pline2.numbers(),
+        pline2.vertex_count(),
+        slices.list.indexes(),
+        slices.list.numbers(),
+        slices.len(),
+        slices.starts.pline2,
+        slices.starts.pline1_overlapping,
+        slices.starts.pline2_overlapping,
+        selector.code(),
+        tolerance.get(),
+        room.room,
+        room.ends,
+        room.chain,
+        room.chain_ends,
+        room.chain_how,
+    );
+    let counts = StitchCounts {
+        rounds: answer.rounds,
+        loops: answer.loops,
+        chains: answer.chains,
+    };
+    Refusal::check(answer.refusal, counts)
+}
+
+/// Writes the numbers of the loops whose area is not less than `limit`, and gives their number.
+/// Room: one for each area.
+pub fn area_pass(areas: &[f64], limit: f64, kept: &mut [usize]) -> Result<usize, Refusal> {
+    let answer = ffi::area_pass(areas, areas.len(), limit, kept);
+    Refusal::check(answer.refusal, answer.count)
+}

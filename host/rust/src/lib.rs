@@ -1,0 +1,111 @@
+//! Solofanju: proved mask tools, from Rust.
+//!
+//! A mask is a closed [`Outline`]: vertices, and between them straight segments or arcs. This
+//! crate makes the union, the intersection and the differences of two masks. The work is done by
+//! the archive `libmask.a`, whose entries are proved. This crate lends them their lists, gives
+//! their answers as Rust's types, and a refusal as an error ([`Refusal`]). It has no unsafe code
+//! but at the boundary.
+//!
+//! # Two masks
+//!
+//! The library cuts, prunes and stitches. The host keeps what needs roots or angles: it finds
+//! where the outlines meet, splits segments, says what lies inside, and measures areas. It does
+//! the last three through the trait [`Host`]. [`StraightHost`] is ready for outlines without arcs.
+//!
+//! ```
+//! use mask_tools::{
+//!     Intersection, Intersections, Masks, Mode, Outline, Overlaps, Point, StraightHost,
+//!     Tolerance,
+//! };
+//!
+//! # fn main() -> Result<(), mask_tools::Refusal> {
+//! let a = Outline::straight(&[(0.0, 0.0), (4.0, 0.0), (4.0, 4.0), (0.0, 4.0)]);
+//! let b = Outline::straight(&[(2.0, 2.0), (6.0, 2.0), (6.0, 6.0), (2.0, 6.0)]);
+//! let crossing = |start_index1, start_index2, x, y| Intersection {
+//!     start_index1,
+//!     start_index2,
+//!     point: Point::new(x, y),
+//! };
+//!
+//! let masks = Masks {
+//!     pline1: &a,
+//!     pline2: &b,
+//!     intersections: &Intersections::from([crossing(1, 0, 4.0, 2.0), crossing(2, 3, 2.0, 4.0)]),
+//!     overlaps: &Overlaps::new(),
+//!     tolerance: Tolerance::new(1.0 / 1024.0),
+//!     area_limit: None,
+//! };
+//!
+//! let both = masks.combine(Mode::Intersection, &mut StraightHost)?;
+//! let corners: Vec<(f64, f64)> = both.loops().flatten().map(|v| (v.x, v.y)).collect();
+//! assert_eq!(corners, [(4.0, 2.0), (4.0, 4.0), (2.0, 4.0), (2.0, 2.0)]);
+//!
+//! let either = masks.combine(Mode::Union, &mut StraightHost)?;
+//! assert_eq!(either.loops().next().map(|lp| lp.len()), Some(8));
+//! # Ok(())
+//! # }
+//! ```
+//!
+//! # Step by step
+//!
+//! [`Masks::combine`] makes these calls. Each can be made alone:
+//!
+//! 1. [`cut_order`]: the cuts of an outline, in order.
+//! 2. [`split_cuts`]: the host's split at each cut.
+//! 3. [`candidates`]: the parts between the cuts, and what the host tests of each.
+//! 4. [`prune`]: which of them stay, as slices.
+//! 5. [`stitch`]: the loops that the slices make.
+//! 6. [`area_pass`]: which loops are not below an area limit.
+//!
+//! [`View`] has the entries over a single part of an outline. [`lent`] has the calls that write
+//! lists with room that the caller lends.
+//!
+//! # Masks that do not meet
+//!
+//! Outlines that share no point are not cut, so there are no slices and no loops.
+//! [`Masks::any_intersects`] tells. Then one vertex of each decides, by the host's inside answer:
+//!
+//! | | union | intersection | first minus second |
+//! |---|---|---|---|
+//! | 1 lies in 2 | 2 | 1 | nothing |
+//! | 2 lies in 1 | 1 | 2 | 1, with 2 for a hole |
+//! | they lie apart | both | nothing | 1 |
+//!
+//! Where the two outlines run on each other all the way, the union and the intersection are
+//! outline 2, and the differences are empty. That too is for the host to see.
+//!
+//! # Linking
+//!
+//! The build script takes `libmask.a` from the folder that `MASK_ARCHIVE_DIR` names, else from
+//! `target/staticlib` of the repository, where `rt staticlib mask` puts it. The archive is for
+//! x86-64. Elsewhere `cargo test --lib` still tests what lies above the boundary.
+
+#![deny(missing_docs)]
+#![deny(unsafe_code)]
+#![warn(rust_2018_idioms)]
+
+mod cuts;
+#[allow(unsafe_code)]
+mod ffi;
+mod host;
+pub mod lent;
+mod list;
+mod masks;
+mod outline;
+mod refusal;
+mod slices;
+mod stitch;
+mod view;
+
+pub use cuts::{
+    candidates, cut_order, Candidate, Candidates, Cut, CutSplit, Cuts, Intersection, Intersections,
+    Overlap, Overlaps, Probe, Splits,
+};
+pub use host::{split_cuts, Host, StraightHost};
+pub use list::{Iter, List};
+pub use masks::{Combined, Masks};
+pub use outline::{Outline, Point, Source, Split, Tolerance, Vertex};
+pub use refusal::Refusal;
+pub use slices::{prune, Answered, Mode, Slice, Slices, Starts};
+pub use stitch::{area_pass, stitch, Chain, ChainEnd, Selector, Stitched};
+pub use view::{OnSegment, Verdict, View, Walk};

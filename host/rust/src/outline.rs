@@ -1,0 +1,217 @@
+//! Points, vertices and outlines.
+
+use crate::ffi;
+
+/// A position.
+#[repr(C)]
+#[derive(Debug, Clone, Copy, PartialEq, Default)]
+pub struct Point {
+    /// Azimuth, or what the host takes for it.
+    pub x: f64,
+    /// Elevation, or what the host takes for it.
+    pub y: f64,
+}
+
+impl Point {
+    /// The point at this position.
+    pub const fn new(x: f64, y: f64) -> Self {
+        Point { x, y }
+    }
+}
+
+/// A vertex of an outline: a position, and the bulge of the segment that starts there. The bulge
+/// is 0 for a straight segment, else the segment is an arc.
+#[repr(C)]
+#[derive(Debug, Clone, Copy, PartialEq, Default)]
+pub struct Vertex {
+    /// Of its position.
+    pub x: f64,
+    /// Of its position.
+    pub y: f64,
+    /// Of the segment from here to the next vertex.
+    pub bulge: f64,
+}
+
+impl Vertex {
+    /// The vertex at this position with this bulge.
+    pub const fn new(x: f64, y: f64, bulge: f64) -> Self {
+        Vertex { x, y, bulge }
+    }
+
+    /// Where it lies.
+    pub const fn pos(self) -> Point {
+        Point::new(self.x, self.y)
+    }
+}
+
+/// The host's split of a segment at a point.
+#[repr(C)]
+#[derive(Debug, Clone, Copy, PartialEq, Default)]
+pub struct Split {
+    /// The segment's start, with the bulge up to the point.
+    pub updated_start: Vertex,
+    /// The point, with the bulge from there on.
+    pub split_vertex: Vertex,
+}
+
+/// Which of the two outlines.
+#[derive(Debug, Clone, Copy, PartialEq, Eq, Hash)]
+pub enum Source {
+    /// The first one.
+    Pline1,
+    /// The second one.
+    Pline2,
+}
+
+impl Source {
+    /// The other outline.
+    pub const fn other(self) -> Source {
+        match self {
+            Source::Pline1 => Source::Pline2,
+            Source::Pline2 => Source::Pline1,
+        }
+    }
+
+    pub(crate) const fn code(self) -> u32 {
+        match self {
+            Source::Pline1 => 1,
+            Source::Pline2 => 2,
+        }
+    }
+}
+
+/// How near two points lie that count as one: closer than this in both coordinates.
+///
+/// It is above 0 and at most 1; else the library refuses with [`Tolerance`](crate::Refusal).
+#[derive(Debug, Clone, Copy, PartialEq)]
+pub struct Tolerance(f64);
+
+impl Tolerance {
+    /// The same tolerance on both axes.
+    pub const fn new(tolerance: f64) -> Self {
+        Tolerance(tolerance)
+    }
+
+    /// The number that it was made of.
+    pub const fn get(self) -> f64 {
+        self.0
+    }
+}
+
+/// An outline: the vertices of a mask, in order. The last is followed by the first.
+///
+/// The library takes outlines of 2 to 1,024 vertices, with numbers of magnitude at most 2^30.
+///
+/// ```
+/// use mask_tools::{Outline, Vertex};
+///
+/// let square = Outline::straight(&[(0.0, 0.0), (4.0, 0.0), (4.0, 4.0), (0.0, 4.0)]);
+/// assert_eq!(square.vertex_count(), 4);
+/// assert_eq!(square.vertices()[2], Vertex::new(4.0, 4.0, 0.0));
+///
+/// // A circle: two arcs of bulge 1, each half of it.
+/// let circle: Outline = [Vertex::new(0.0, 0.0, 1.0), Vertex::new(2.0, 0.0, 1.0)].into();
+/// assert!(!circle.is_straight());
+/// ```
+#[derive(Debug, Clone, PartialEq, Default)]
+pub struct Outline {
+    vertices: Vec<Vertex>,
+}
+
+impl Outline {
+    /// The outline of these vertices.
+    pub const fn new(vertices: Vec<Vertex>) -> Self {
+        Outline { vertices }
+    }
+
+    /// The outline of straight segments between these positions.
+    pub fn straight(positions: &[(f64, f64)]) -> Self {
+        positions
+            .iter()
+            .map(|&(x, y)| Vertex::new(x, y, 0.0))
+            .collect()
+    }
+
+    /// Its vertices.
+    pub fn vertices(&self) -> &[Vertex] {
+        &self.vertices
+    }
+
+    /// How many vertices it has. It has as many segments.
+    pub fn vertex_count(&self) -> usize {
+        self.vertices.len()
+    }
+
+    /// Whether every bulge is 0.
+    pub fn is_straight(&self) -> bool {
+        self.vertices.iter().all(|vertex| vertex.bulge == 0.0)
+    }
+
+    /// The two vertices of the segment that starts at `index`; none where there is no such vertex.
+    pub fn segment(&self, index: usize) -> Option<(Vertex, Vertex)> {
+        let start = *self.vertices.get(index)?;
+        let end = *self.vertices.get(index + 1).unwrap_or(&self.vertices[0]);
+        Some((start, end))
+    }
+
+    pub(crate) fn numbers(&self) -> &[f64] {
+        ffi::numbers_of(&self.vertices)
+    }
+}
+
+impl From<Vec<Vertex>> for Outline {
+    fn from(vertices: Vec<Vertex>) -> Self {
+        Outline::new(vertices)
+    }
+}
+
+impl<const N: usize> From<[Vertex; N]> for Outline {
+    fn from(vertices: [Vertex; N]) -> Self {
+        Outline::new(vertices.to_vec())
+    }
+}
+
+impl FromIterator<Vertex> for Outline {
+    fn from_iter<I: IntoIterator<Item = Vertex>>(vertices: I) -> Self {
+        Outline::new(vertices.into_iter().collect())
+    }
+}
+
+#[cfg(test)]
+mod tests {
+    use super::*;
+
+    fn triangle() -> Outline {
+        [
+            Vertex::new(0.0, 0.0, 0.25),
+            Vertex::new(4.0, 0.0, 0.5),
+            Vertex::new(0.0, 3.0, 0.75),
+        ]
+        .into()
+    }
+
+    #[test]
+    fn an_outline_lies_flat() {
+        let flat = [0.0, 0.0, 0.25, 4.0, 0.0, 0.5, 0.0, 3.0, 0.75];
+        assert_eq!(triangle().numbers(), flat);
+        assert!(Outline::default().numbers().is_empty());
+    }
+
+    #[test]
+    fn the_last_segment_ends_at_the_first_vertex() {
+        let t = triangle();
+        let v = t.vertices();
+        assert_eq!(t.segment(1), Some((v[1], v[2])));
+        assert_eq!(t.segment(2), Some((v[2], v[0])));
+        assert_eq!(t.segment(3), None);
+        assert_eq!(t.segment(usize::MAX), None);
+        assert_eq!(Outline::default().segment(0), None);
+    }
+
+    #[test]
+    fn sources_and_their_codes() {
+        assert_eq!(Source::Pline1.other(), Source::Pline2);
+        assert_eq!(Source::Pline2.other(), Source::Pline1);
+        assert_eq!((Source::Pline1.code(), Source::Pline2.code()), (1, 2));
+    }
+}

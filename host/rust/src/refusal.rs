@@ -1,0 +1,159 @@
+//! Why the library refuses a call.
+
+use std::error::Error;
+use std::fmt;
+
+/// Why a call is refused. The library gives the lowest number that applies, and has then written
+/// nothing.
+///
+/// ```
+/// use mask_tools::Refusal;
+///
+/// assert_eq!(Refusal::Outline.number(), 2);
+/// assert_eq!(Refusal::from_number(2), Some(Refusal::Outline));
+/// assert_eq!(
+///     Refusal::Outline.to_string(),
+///     "refusal 2: an outline is too short or too long"
+/// );
+/// ```
+#[derive(Debug, Clone, Copy, PartialEq, Eq, Hash)]
+#[non_exhaustive]
+pub enum Refusal {
+    /// 1: a list's length disagrees with its count, or a count is above its most.
+    Length,
+    /// 2: an outline has fewer than 2 or more than 1,024 vertices.
+    Outline,
+    /// 3: a mode, selector, source or yes/no code is unknown. The types of this crate leave no
+    /// way to write such a code.
+    Code,
+    /// 4: a tolerance is not finite, not above 0 or above 1; or an area limit is not finite or
+    /// below 0.
+    Tolerance,
+    /// 5: a number is not finite or beyond 2^30 in magnitude; of areas: not finite.
+    Number,
+    /// 6: a segment or start index is not below its outline's vertex count.
+    Index,
+    /// 7: an offset is above the vertex count; or a traverse count is 0 or above it.
+    Count,
+    /// 8: the starts of the classes of slices fall back, or lie past the slices.
+    Starts,
+    /// 9: lent room is smaller than the need. Only the calls of [`lent`](crate::lent) can give it.
+    Room,
+    /// 10: a walk or a chain took too many steps. It is proved that this never happens.
+    Steps,
+    /// A number that this wrapper does not know: the archive is a later one.
+    Other(u32),
+}
+
+impl Refusal {
+    /// The refusal of this number; none for 0, which stands for "accepted".
+    pub fn from_number(number: u32) -> Option<Refusal> {
+        Some(match number {
+            0 => return None,
+            1 => Refusal::Length,
+            2 => Refusal::Outline,
+            3 => Refusal::Code,
+            4 => Refusal::Tolerance,
+            5 => Refusal::Number,
+            6 => Refusal::Index,
+            7 => Refusal::Count,
+            8 => Refusal::Starts,
+            9 => Refusal::Room,
+            10 => Refusal::Steps,
+            other => Refusal::Other(other),
+        })
+    }
+
+    /// Its number.
+    pub fn number(self) -> u32 {
+        self.number_and_reason().0
+    }
+
+    fn number_and_reason(self) -> (u32, &'static str) {
+        match self {
+            Refusal::Length => (
+                1,
+                "a list's length disagrees with its count, or a count is above its most",
+            ),
+            Refusal::Outline => (2, "an outline is too short or too long"),
+            Refusal::Code => (3, "a mode, selector, source or yes/no code is unknown"),
+            Refusal::Tolerance => (
+                4,
+                "a tolerance or an area limit is not finite or is out of range",
+            ),
+            Refusal::Number => (5, "a number is not finite or is too large"),
+            Refusal::Index => (6, "an index is not below its outline's vertex count"),
+            Refusal::Count => (7, "an offset or a traverse count is out of range"),
+            Refusal::Starts => (
+                8,
+                "the starts of the classes fall back, or lie past the slices",
+            ),
+            Refusal::Room => (9, "lent room is smaller than the need"),
+            Refusal::Steps => (10, "a walk or a chain took too many steps"),
+            Refusal::Other(number) => (number, "a reason that this wrapper does not know"),
+        }
+    }
+
+    /// Passes an answer on where its call was accepted.
+    pub(crate) fn check<T>(number: u32, answer: T) -> Result<T, Refusal> {
+        match Refusal::from_number(number) {
+            None => Ok(answer),
+            Some(refusal) => Err(refusal),
+        }
+    }
+}
+
+impl fmt::Display for Refusal {
+    fn fmt(&self, f: &mut fmt::Formatter<'_>) -> fmt::Result {
+        let (number, reason) = self.number_and_reason();
+        write!(f, "refusal {number}: {reason}")
+    }
+}
+
+impl Error for Refusal {}
+
+#[cfg(test)]
+mod tests {
+    use super::*;
+
+    #[test]
+    fn numbers_there_and_back() {
+        assert_eq!(Refusal::from_number(0), None);
+        for number in 1..=40 {
+            let refusal = Refusal::from_number(number).unwrap();
+            assert_eq!(refusal.number(), number);
+            assert_eq!(matches!(refusal, Refusal::Other(_)), number > 10);
+        }
+    }
+
+    #[test]
+    fn every_refusal_has_a_sentence_of_its_own() {
+        let mut sentences: Vec<String> = (1..=11)
+            .map(|number| Refusal::from_number(number).unwrap().to_string())
+            .collect();
+        assert_eq!(
+            sentences[8],
+            "refusal 9: lent room is smaller than the need"
+        );
+        assert_eq!(
+            sentences[10],
+            "refusal 11: a reason that this wrapper does not know"
+        );
+        sentences.sort();
+        sentences.dedup();
+        assert_eq!(sentences.len(), 11);
+    }
+
+    #[test]
+    fn a_refusal_is_an_error() {
+        let error: Box<dyn Error> = Box::new(Refusal::Starts);
+        assert!(error.to_string().starts_with("refusal 8: "));
+    }
+
+    #[test]
+    fn check_passes_an_accepted_answer_on() {
+        assert_eq!(Refusal::check(0, 'a'), Ok('a'));
+        assert_eq!(Refusal::check(6, 'a'), Err(Refusal::Index));
+        assert_eq!(Refusal::check(77, 'a'), Err(Refusal::Other(77)));
+    }
+}

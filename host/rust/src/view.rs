@@ -1,0 +1,463 @@
+//! Views of an outline: their constructors, their vertices, and the verdict on them.
+
+use crate::ffi;
+use crate::{Outline, Point, Refusal, Split, Tolerance, Vertex};
+
+/// A part of an outline, or the whole of it, forward or inverted. It holds no outline: hand it
+/// the one that it was made of.
+#[derive(Debug, Clone, Copy, PartialEq, Default)]
+pub struct View {
+    /// The segment on which it starts.
+    pub start_index: usize,
+    /// How many segments on it ends; at most the outline's vertex count.
+    pub end_index_offset: usize,
+    /// Its first vertex.
+    pub updated_start: Vertex,
+    /// The bulge of its last segment.
+    pub updated_end_bulge: f64,
+    /// Its last point.
+    pub end_point: Point,
+    /// Whether it runs against the outline. The other fields stay as they are for that.
+    pub inverted_direction: bool,
+}
+
+/// A walk along an outline, from a point on one segment to a point on another one: what
+/// [`View::create`] is made of.
+#[derive(Debug, Clone, Copy, PartialEq, Default)]
+pub struct Walk {
+    /// The segment on which the walk starts.
+    pub start_index: usize,
+    /// Its first vertex.
+    pub updated_start: Vertex,
+    /// Where it ends.
+    pub end_intersect: Point,
+    /// The segment on which it ends.
+    pub intersect_index: usize,
+    /// How many segments on that is: 1 to the vertex count.
+    pub traverse_count: usize,
+    /// The host's split of the segment `intersect_index` at `end_intersect`.
+    pub split: Split,
+}
+
+/// The host's word on where a view's ends lie. It counts for an end that is near neither vertex
+/// of its segment.
+#[derive(Debug, Clone, Copy, PartialEq, Eq, Default)]
+pub struct OnSegment {
+    /// The view's start lies on its segment.
+    pub start: bool,
+    /// The view's end lies on its segment.
+    pub end: bool,
+}
+
+/// Whether view data fits an outline, and if not, why. The questions are asked in this order.
+#[derive(Debug, Clone, Copy, PartialEq)]
+pub enum Verdict {
+    /// The outline has fewer than 2 vertices.
+    SourceHasNoSegments,
+    /// The offset is above the outline's vertex count.
+    OffsetOutOfRange {
+        /// The view's offset.
+        offset: usize,
+        /// The outline's vertex count.
+        source_length: usize,
+    },
+    /// The start lies off its segment.
+    UpdatedStartNotOnSegment {
+        /// The view's start.
+        start_point: Point,
+    },
+    /// The end lies off its segment.
+    EndPointNotOnSegment {
+        /// The view's end.
+        end_point: Point,
+    },
+    /// The end lies on the vertex with which its segment starts.
+    EndPointOnFinalOffsetVertex {
+        /// The view's end.
+        end_point: Point,
+        /// That vertex.
+        final_offset_vertex: Vertex,
+    },
+    /// The view is on one segment, and its end bulge is not its start's bulge.
+    UpdatedBulgeDoesNotMatch {
+        /// The view's end bulge.
+        updated_bulge: f64,
+        /// The bulge of its start.
+        expected: f64,
+    },
+    /// The view fits.
+    IsValid,
+}
+
+impl View {
+    /// The view of a walk from one segment to another, or all the way round to the same one.
+    ///
+    /// Refusals: `Outline`, `Tolerance`, `Number`, `Index`, `Count`.
+    pub fn create(source: &Outline, walk: &Walk, tolerance: Tolerance) -> Result<View, Refusal> {
+        let answer = ffi::create(
+            source.numbers(),
+            source.vertex_count(),
+            walk.start_index,
+            walk.end_intersect,
+            walk.intersect_index,
+            walk.updated_start,
+            walk.traverse_count,
+            tolerance.get(),
+            walk.split,
+        );
+        Refusal::check(answer.refusal, answer.view.into())
+    }
+
+    /// The view between two points of one segment. There is none where the two agree.
+    ///
+    /// Refusals: `Outline`, `Tolerance`, `Number`, `Index`.
+    pub fn create_on_single_segment(
+        source: &Outline,
+        start_index: usize,
+        updated_start: Vertex,
+        end_intersect: Point,
+        tolerance: Tolerance,
+    ) -> Result<Option<View>, Refusal> {
+        let answer = ffi::create_on_single_segment(
+            source.numbers(),
+            source.vertex_count(),
+            start_index,
+            updated_start,
+            end_intersect,
+            tolerance.get(),
+        );
+        let view = (answer.found != 0).then(|| answer.view.into());
+        Refusal::check(answer.refusal, view)
+    }
+
+    /// The view of a whole outline, taken as closed or as open.
+    ///
+    /// Refusals: `Outline`, `Number`.
+    ///
+    /// ```
+    /// use mask_tools::{Outline, Vertex, View};
+    ///
+    /// # fn main() -> Result<(), mask_tools::Refusal> {
+    /// let square = Outline::straight(&[(0.0, 0.0), (4.0, 0.0), (4.0, 4.0), (0.0, 4.0)]);
+    /// let all = View::from_entire_pline(&square, true)?;
+    /// assert_eq!(all.vertex_count(), 5);
+    /// assert_eq!(all.get_vertex(&square, 4)?, Some(Vertex::new(0.0, 0.0, 0.0)));
+    /// assert_eq!(all.get_vertex(&square, 5)?, None);
+    /// # Ok(())
+    /// # }
+    /// ```
+    pub fn from_entire_pline(source: &Outline, closed: bool) -> Result<View, Refusal> {
+        let answer =
+            ffi::from_entire_pline(source.numbers(), source.vertex_count(), u32::from(closed));
+        Refusal::check(answer.refusal, answer.view.into())
+    }
+
+    /// How many vertices it has: two more than its offset.
+    pub const fn vertex_count(&self) -> usize {
+        self.end_index_offset.saturating_add(2)
+    }
+
+    /// Its vertex number `index`; none from [`vertex_count`](View::vertex_count) on.
+    ///
+    /// Refusals: `Outline`, `Number`, `Index`, `Count`.
+    pub fn get_vertex(&self, source: &Outline, index: usize) -> Result<Option<Vertex>, Refusal> {
+        let answer = ffi::view_vertex(
+            source.numbers(),
+            source.vertex_count(),
+            (*self).into(),
+            index,
+        );
+        Refusal::check(answer.refusal, (answer.found != 0).then_some(answer.vertex))
+    }
+
+    /// Whether it fits this outline, and if not, why.
+    ///
+    /// Refusals: `Outline` (too long only), `Number`, `Index`.
+    pub fn validate_for_source(
+        &self,
+        source: &Outline,
+        on_segment: OnSegment,
+    ) -> Result<Verdict, Refusal> {
+        let answer = ffi::validate_for_source(
+            source.numbers(),
+            source.vertex_count(),
+            (*self).into(),
+            u32::from(on_segment.start),
+            u32::from(on_segment.end),
+        );
+        Refusal::check(answer.refusal, answer)?;
+        Ok(verdict_of(&answer))
+    }
+
+    /// Its numbers as they lie in a list.
+    pub(crate) fn numbers(&self) -> [f64; 6] {
+        [
+            self.updated_start.x,
+            self.updated_start.y,
+            self.updated_start.bulge,
+            self.updated_end_bulge,
+            self.end_point.x,
+            self.end_point.y,
+        ]
+    }
+
+    /// The view whose numbers lie in a list.
+    pub(crate) fn of_numbers(start_index: usize, end_index_offset: usize, n: &[f64]) -> View {
+        View {
+            start_index,
+            end_index_offset,
+            updated_start: Vertex::new(n[0], n[1], n[2]),
+            updated_end_bulge: n[3],
+            end_point: Point::new(n[4], n[5]),
+            inverted_direction: false,
+        }
+    }
+}
+
+/// What an accepted answer says.
+fn verdict_of(answer: &ffi::VerdictAnswer) -> Verdict {
+    match answer.verdict {
+        1 => Verdict::SourceHasNoSegments,
+        2 => Verdict::OffsetOutOfRange {
+            offset: answer.offset,
+            source_length: answer.source_length,
+        },
+        3 => Verdict::UpdatedStartNotOnSegment {
+            start_point: answer.point,
+        },
+        4 => Verdict::EndPointNotOnSegment {
+            end_point: answer.point,
+        },
+        5 => Verdict::EndPointOnFinalOffsetVertex {
+            end_point: answer.point,
+            final_offset_vertex: answer.vertex,
+        },
+        6 => Verdict::UpdatedBulgeDoesNotMatch {
+            updated_bulge: answer.updated_bulge,
+            expected: answer.expected,
+        },
+        7 => Verdict::IsValid,
+        other => panic!("the archive gave verdict {other}: it is not the one of this wrapper"),
+    }
+}
+
+impl From<View> for ffi::View {
+    fn from(view: View) -> Self {
+        ffi::View {
+            start_index: view.start_index,
+            end_index_offset: view.end_index_offset,
+            updated_start: view.updated_start,
+            updated_end_bulge: view.updated_end_bulge,
+            end_point: view.end_point,
+            inverted_direction: u32::from(view.inverted_direction),
+        }
+    }
+}
+
+impl From<ffi::View> for View {
+    fn from(view: ffi::View) -> Self {
+        View {
+            start_index: view.start_index,
+            end_index_offset: view.end_index_offset,
+            updated_start: view.updated_start,
+            updated_end_bulge: view.updated_end_bulge,
+            end_point: view.end_point,
+            inverted_direction: view.inverted_direction != 0,
+        }
+    }
+}
+
+#[cfg(test)]
+mod tests {
+    use super::*;
+    use crate::ffi::standin::{told, Lent, Reply};
+    use crate::ffi::{VerdictAnswer, VertexAnswer, ViewAnswer};
+
+    const T: Tolerance = Tolerance::new(0.25);
+
+    fn outline() -> Outline {
+        [Vertex::new(1.0, 2.0, 0.5), Vertex::new(3.0, 4.0, 0.0)].into()
+    }
+
+    fn view() -> View {
+        View {
+            start_index: 1,
+            end_index_offset: 2,
+            updated_start: Vertex::new(3.0, 4.0, 5.0),
+            updated_end_bulge: 6.0,
+            end_point: Point::new(7.0, 8.0),
+            inverted_direction: true,
+        }
+    }
+
+    #[test]
+    fn a_view_crosses_the_boundary_and_comes_back() {
+        let lent = ffi::View::from(view());
+        assert_eq!(lent.inverted_direction, 1);
+        assert_eq!(View::from(lent), view());
+        let numbers = [3.0, 4.0, 5.0, 6.0, 7.0, 8.0];
+        assert_eq!(view().numbers(), numbers);
+        let forward = View {
+            inverted_direction: false,
+            ..view()
+        };
+        assert_eq!(View::of_numbers(1, 2, &numbers), forward);
+    }
+
+    #[test]
+    fn create_lends_the_walk() {
+        let walk = Walk {
+            start_index: 1,
+            updated_start: Vertex::new(1.0, 2.0, 3.0),
+            end_intersect: Point::new(4.0, 5.0),
+            intersect_index: 6,
+            traverse_count: 7,
+            split: Split {
+                updated_start: Vertex::new(8.0, 9.0, 10.0),
+                split_vertex: Vertex::new(11.0, 12.0, 13.0),
+            },
+        };
+        let answer = ViewAnswer {
+            found: 1,
+            view: view().into(),
+            ..ViewAnswer::default()
+        };
+        let (found, calls) = told([Reply::of(answer)], || View::create(&outline(), &walk, T));
+        assert_eq!(found, Ok(view()));
+        let call = &calls[0];
+        assert_eq!(call.entry, "create");
+        let numbers = vec![1.0, 2.0, 0.5, 3.0, 4.0, 0.0];
+        assert_eq!(call.lent("outline"), Lent::Numbers(numbers));
+        assert_eq!(call.lent("vc"), Lent::Count(2));
+        assert_eq!(call.lent("start_index"), Lent::Count(1));
+        assert_eq!(call.lent("end_intersect"), Lent::Point(walk.end_intersect));
+        assert_eq!(call.lent("intersect_index"), Lent::Count(6));
+        assert_eq!(call.lent("updated_start"), Lent::Vertex(walk.updated_start));
+        assert_eq!(call.lent("traverse_count"), Lent::Count(7));
+        assert_eq!(call.lent("tolerance"), Lent::Number(0.25));
+        assert_eq!(call.lent("split"), Lent::Split(walk.split));
+    }
+
+    #[test]
+    fn no_view_and_no_vertex_are_none() {
+        let (found, _) = told([Reply::of(ViewAnswer::default())], || {
+            View::create_on_single_segment(&outline(), 0, Vertex::default(), Point::default(), T)
+        });
+        assert_eq!(found, Ok(None));
+        let (found, calls) = told([Reply::of(VertexAnswer::default())], || {
+            view().get_vertex(&outline(), 9)
+        });
+        assert_eq!(found, Ok(None));
+        assert_eq!(calls[0].lent("view"), Lent::View(view().into()));
+        assert_eq!(calls[0].lent("index"), Lent::Count(9));
+    }
+
+    #[test]
+    fn a_vertex_is_some() {
+        let answer = VertexAnswer {
+            found: 1,
+            vertex: Vertex::new(1.0, 2.0, 3.0),
+            ..VertexAnswer::default()
+        };
+        let (found, _) = told([Reply::of(answer)], || view().get_vertex(&outline(), 0));
+        assert_eq!(found, Ok(Some(answer.vertex)));
+    }
+
+    #[test]
+    fn closed_is_a_code() {
+        for (closed, code) in [(true, 1), (false, 0)] {
+            let (_, calls) = told([Reply::of(ViewAnswer::default())], || {
+                View::from_entire_pline(&outline(), closed)
+            });
+            assert_eq!(calls[0].lent("closed"), Lent::Code(code));
+        }
+    }
+
+    #[test]
+    fn refusals_come_through() {
+        for number in 1..=11 {
+            let refusal = Refusal::from_number(number).unwrap();
+            let refused = ViewAnswer {
+                refusal: number,
+                ..ViewAnswer::default()
+            };
+            let (found, _) = told([Reply::of(refused)], || {
+                View::from_entire_pline(&outline(), true)
+            });
+            assert_eq!(found, Err(refusal));
+            let refused = VerdictAnswer {
+                refusal: number,
+                ..VerdictAnswer::default()
+            };
+            let (found, _) = told([Reply::of(refused)], || {
+                view().validate_for_source(&outline(), OnSegment::default())
+            });
+            assert_eq!(found, Err(refusal));
+        }
+    }
+
+    /// An answer in which every field differs.
+    fn verdict(number: u32) -> VerdictAnswer {
+        VerdictAnswer {
+            refusal: 0,
+            verdict: number,
+            offset: 1,
+            source_length: 2,
+            point: Point::new(3.0, 4.0),
+            vertex: Vertex::new(5.0, 6.0, 7.0),
+            updated_bulge: 8.0,
+            expected: 9.0,
+        }
+    }
+
+    #[test]
+    fn a_verdict_carries_what_it_is_about() {
+        let at = Point::new(3.0, 4.0);
+        let expected = [
+            Verdict::SourceHasNoSegments,
+            Verdict::OffsetOutOfRange {
+                offset: 1,
+                source_length: 2,
+            },
+            Verdict::UpdatedStartNotOnSegment { start_point: at },
+            Verdict::EndPointNotOnSegment { end_point: at },
+            Verdict::EndPointOnFinalOffsetVertex {
+                end_point: at,
+                final_offset_vertex: Vertex::new(5.0, 6.0, 7.0),
+            },
+            Verdict::UpdatedBulgeDoesNotMatch {
+                updated_bulge: 8.0,
+                expected: 9.0,
+            },
+            Verdict::IsValid,
+        ];
+        for (number, expected) in (1..).zip(expected) {
+            let on_segment = OnSegment {
+                start: number % 2 == 0,
+                end: number % 2 == 1,
+            };
+            let (found, calls) = told([Reply::of(verdict(number))], || {
+                view().validate_for_source(&outline(), on_segment)
+            });
+            assert_eq!(found, Ok(expected));
+            let code = |yes| Lent::Code(u32::from(yes));
+            assert_eq!(calls[0].lent("start_on_segment"), code(on_segment.start));
+            assert_eq!(calls[0].lent("end_on_segment"), code(on_segment.end));
+        }
+    }
+
+    #[test]
+    #[should_panic(expected = "not the one of this wrapper")]
+    fn an_unknown_verdict_is_another_archive() {
+        verdict_of(&verdict(8));
+    }
+
+    #[test]
+    fn the_vertex_count_does_not_overflow() {
+        let far = View {
+            end_index_offset: usize::MAX,
+            ..view()
+        };
+        assert_eq!((view().vertex_count(), far.vertex_count()), (4, usize::MAX));
+    }
+}
