@@ -1,0 +1,666 @@
+//! The archive: each entry as the header declares it, and a call of it.
+
+use crate::call::{Call, Entry, Kind, Outcome, Param, Reader};
+
+#[repr(C)]
+#[derive(Debug, Clone, Copy)]
+pub struct Point {
+    pub x: f64,
+    pub y: f64,
+}
+
+#[repr(C)]
+#[derive(Debug, Clone, Copy)]
+pub struct Vertex {
+    pub x: f64,
+    pub y: f64,
+    pub bulge: f64,
+}
+
+#[repr(C)]
+#[derive(Debug, Clone, Copy)]
+pub struct View {
+    pub start_index: usize,
+    pub end_index_offset: usize,
+    pub updated_start: Vertex,
+    pub updated_end_bulge: f64,
+    pub end_point: Point,
+    pub inverted_direction: u32,
+}
+
+#[repr(C)]
+#[derive(Debug, Clone, Copy)]
+pub struct Split {
+    pub updated_start: Vertex,
+    pub split_vertex: Vertex,
+}
+
+#[repr(C)]
+#[derive(Debug, Clone, Copy)]
+pub struct Starts {
+    pub pline2: usize,
+    pub pline1_overlapping: usize,
+    pub pline2_overlapping: usize,
+}
+
+#[repr(C)]
+pub struct VertexAnswer {
+    pub refusal: u32,
+    pub found: u32,
+    pub vertex: Vertex,
+}
+
+#[repr(C)]
+pub struct ViewAnswer {
+    pub refusal: u32,
+    pub found: u32,
+    pub view: View,
+}
+
+#[repr(C)]
+pub struct VerdictAnswer {
+    pub refusal: u32,
+    pub verdict: u32,
+    pub offset: usize,
+    pub source_length: usize,
+    pub point: Point,
+    pub vertex: Vertex,
+    pub updated_bulge: f64,
+    pub expected: f64,
+}
+
+#[repr(C)]
+pub struct CountAnswer {
+    pub refusal: u32,
+    pub count: usize,
+}
+
+#[repr(C)]
+pub struct PruneAnswer {
+    pub refusal: u32,
+    pub slices: usize,
+    pub starts: Starts,
+}
+
+#[repr(C)]
+pub struct StitchAnswer {
+    pub refusal: u32,
+    pub rounds: usize,
+    pub loops: usize,
+    pub chains: usize,
+}
+
+unsafe extern "C" {
+    pub fn mask_view_vertex(
+        outline: *const f64,
+        outline_len: usize,
+        vc: usize,
+        view: View,
+        index: usize,
+    ) -> VertexAnswer;
+
+    pub fn mask_create(
+        outline: *const f64,
+        outline_len: usize,
+        vc: usize,
+        start_index: usize,
+        end_intersect: Point,
+        intersect_index: usize,
+        updated_start: Vertex,
+        traverse_count: usize,
+        tolerance: f64,
+        split: Split,
+    ) -> ViewAnswer;
+
+    pub fn mask_create_on_single_segment(
+        outline: *const f64,
+        outline_len: usize,
+        vc: usize,
+        start_index: usize,
+        updated_start: Vertex,
+        end_intersect: Point,
+        tolerance: f64,
+    ) -> ViewAnswer;
+
+    pub fn mask_from_entire_pline(
+        outline: *const f64,
+        outline_len: usize,
+        vc: usize,
+        closed: u32,
+    ) -> ViewAnswer;
+
+    pub fn mask_validate_for_source(
+        outline: *const f64,
+        outline_len: usize,
+        vc: usize,
+        view: View,
+        start_on_segment: u32,
+        end_on_segment: u32,
+    ) -> VerdictAnswer;
+
+    pub fn mask_cut_order(
+        outline: *const f64,
+        outline_len: usize,
+        vc: usize,
+        source: u32,
+        hit_at: *const usize,
+        hit_at_len: usize,
+        hit: *const f64,
+        hit_len: usize,
+        hits: usize,
+        lap_at: *const usize,
+        lap_at_len: usize,
+        lap: *const f64,
+        lap_len: usize,
+        laps: usize,
+        tolerance: f64,
+        cut_at: *mut usize,
+        cut_at_len: usize,
+        cut: *mut f64,
+        cut_len: usize,
+    ) -> CountAnswer;
+
+    pub fn mask_candidates(
+        outline: *const f64,
+        outline_len: usize,
+        vc: usize,
+        source: u32,
+        hit_at: *const usize,
+        hit_at_len: usize,
+        hit: *const f64,
+        hit_len: usize,
+        hits: usize,
+        lap_at: *const usize,
+        lap_at_len: usize,
+        lap: *const f64,
+        lap_len: usize,
+        laps: usize,
+        splits: *const f64,
+        splits_len: usize,
+        tolerance: f64,
+        cand_at: *mut usize,
+        cand_at_len: usize,
+        cand: *mut f64,
+        cand_len: usize,
+        probe: *mut f64,
+        probe_len: usize,
+    ) -> CountAnswer;
+
+    pub fn mask_prune(
+        mode: u32,
+        opposing: u32,
+        vc1: usize,
+        vc2: usize,
+        cand_at1: *const usize,
+        cand_at1_len: usize,
+        cand1: *const f64,
+        cand1_len: usize,
+        inside1: *const u8,
+        inside1_len: usize,
+        count1: usize,
+        cand_at2: *const usize,
+        cand_at2_len: usize,
+        cand2: *const f64,
+        cand2_len: usize,
+        inside2: *const u8,
+        inside2_len: usize,
+        count2: usize,
+        lap_at: *const usize,
+        lap_at_len: usize,
+        lap: *const f64,
+        lap_len: usize,
+        laps: usize,
+        slice_at: *mut usize,
+        slice_at_len: usize,
+        slice: *mut f64,
+        slice_len: usize,
+    ) -> PruneAnswer;
+
+    pub fn mask_stitch(
+        outline1: *const f64,
+        outline1_len: usize,
+        vc1: usize,
+        outline2: *const f64,
+        outline2_len: usize,
+        vc2: usize,
+        slice_at: *const usize,
+        slice_at_len: usize,
+        slice: *const f64,
+        slice_len: usize,
+        slices: usize,
+        pline2: usize,
+        pline1_overlapping: usize,
+        pline2_overlapping: usize,
+        selector: u32,
+        tolerance: f64,
+        room: *mut f64,
+        room_len: usize,
+        ends: *mut usize,
+        ends_len: usize,
+        chain: *mut usize,
+        chain_len: usize,
+        chain_ends: *mut usize,
+        chain_ends_len: usize,
+        chain_how: *mut usize,
+        chain_how_len: usize,
+    ) -> StitchAnswer;
+
+    pub fn mask_area_pass(
+        areas: *const f64,
+        areas_len: usize,
+        loops: usize,
+        limit: f64,
+        kept: *mut usize,
+        kept_len: usize,
+    ) -> CountAnswer;
+}
+
+/// Words kept on each side of every list. A write past a list shows in them.
+const GUARD: usize = 8;
+const GUARD_WORD: u64 = 0xa5c3_96e1_5a3c_691e;
+
+/// A list between two guards, as 8-byte words or as bytes.
+struct Guarded {
+    words: Vec<u64>,
+    bytes: Vec<u8>,
+    length: usize,
+    is_bytes: bool,
+}
+
+impl Guarded {
+    fn new(list: &[u64], kind: Kind) -> Guarded {
+        let is_bytes = kind == Kind::Bytes;
+        let mut words = Vec::new();
+        let mut bytes = Vec::new();
+        if is_bytes {
+            bytes.resize(GUARD, GUARD_WORD as u8);
+            bytes.extend(list.iter().map(|w| *w as u8));
+            bytes.resize(bytes.len() + GUARD, GUARD_WORD as u8);
+        } else {
+            words.reserve_exact(list.len() + 2 * GUARD);
+            words.resize(GUARD, GUARD_WORD);
+            words.extend_from_slice(list);
+            words.resize(words.len() + GUARD, GUARD_WORD);
+        }
+        Guarded {
+            words,
+            bytes,
+            length: list.len(),
+            is_bytes,
+        }
+    }
+
+    fn start<T>(&mut self) -> *mut T {
+        if self.is_bytes {
+            self.bytes[GUARD..].as_mut_ptr().cast()
+        } else {
+            self.words[GUARD..].as_mut_ptr().cast()
+        }
+    }
+
+    fn content(&self) -> Vec<u64> {
+        if self.is_bytes {
+            let bytes = &self.bytes[GUARD..GUARD + self.length];
+            bytes.iter().map(|b| u64::from(*b)).collect()
+        } else {
+            self.words[GUARD..GUARD + self.length].to_vec()
+        }
+    }
+
+    fn guards_hold(&self) -> bool {
+        let (first, last) = (GUARD, GUARD + self.length);
+        if self.is_bytes {
+            let untouched = |side: &[u8]| side.iter().all(|b| *b == GUARD_WORD as u8);
+            untouched(&self.bytes[..first]) && untouched(&self.bytes[last..])
+        } else {
+            let untouched = |side: &[u64]| side.iter().all(|w| *w == GUARD_WORD);
+            untouched(&self.words[..first]) && untouched(&self.words[last..])
+        }
+    }
+}
+
+fn point(r: &mut Reader) -> Point {
+    let [x, y] = r.some();
+    Point { x, y }
+}
+
+fn vertex(r: &mut Reader) -> Vertex {
+    let [x, y, bulge] = r.some();
+    Vertex { x, y, bulge }
+}
+
+fn view(r: &mut Reader) -> View {
+    View {
+        start_index: r.count(),
+        end_index_offset: r.count(),
+        updated_start: vertex(r),
+        updated_end_bulge: r.number(),
+        end_point: point(r),
+        inverted_direction: r.code(),
+    }
+}
+
+fn vertex_words(v: &Vertex) -> [u64; 3] {
+    [v.x.to_bits(), v.y.to_bits(), v.bulge.to_bits()]
+}
+
+fn view_words(a: &ViewAnswer) -> Vec<u64> {
+    let v = &a.view;
+    let mut words = vec![u64::from(a.refusal), u64::from(a.found)];
+    words.extend([v.start_index as u64, v.end_index_offset as u64]);
+    words.extend(vertex_words(&v.updated_start));
+    words.push(v.updated_end_bulge.to_bits());
+    words.extend([v.end_point.x.to_bits(), v.end_point.y.to_bits()]);
+    words.push(u64::from(v.inverted_direction));
+    words
+}
+
+fn verdict_words(a: &VerdictAnswer) -> Vec<u64> {
+    let mut words = vec![u64::from(a.refusal), u64::from(a.verdict)];
+    words.extend([a.offset as u64, a.source_length as u64]);
+    words.extend([a.point.x.to_bits(), a.point.y.to_bits()]);
+    words.extend(vertex_words(&a.vertex));
+    words.extend([a.updated_bulge.to_bits(), a.expected.to_bits()]);
+    words
+}
+
+fn count_words(a: &CountAnswer) -> Vec<u64> {
+    vec![u64::from(a.refusal), a.count as u64]
+}
+
+/// Calls the archive. Says `Err` where it wrote to a list that is only read, or past a list's end.
+pub fn answer(call: &Call) -> Result<Outcome, String> {
+    let mut inputs: Vec<Guarded> = Vec::new();
+    for (param, (_, kind)) in call.inputs.iter().zip(call.entry.shape()) {
+        if let Param::List(words) = param {
+            inputs.push(Guarded::new(words, *kind));
+        }
+    }
+    let mut lent: Vec<Guarded> = Vec::new();
+    for (content, (_, kind)) in call.lent.iter().zip(call.entry.room()) {
+        lent.push(Guarded::new(content, *kind));
+    }
+    let answer = enter(call, &mut inputs, &mut lent);
+    let mut inputs = inputs.iter();
+    for param in &call.inputs {
+        let Param::List(words) = param else { continue };
+        let held = inputs.next().unwrap();
+        if !held.guards_hold() || held.content() != *words {
+            return Err("a list that is only read was written to".into());
+        }
+    }
+    if !lent.iter().all(Guarded::guards_hold) {
+        return Err("memory beside a lent list was written to".into());
+    }
+    Ok(Outcome {
+        answer,
+        lent: lent.iter().map(Guarded::content).collect(),
+    })
+}
+
+/// The call itself. Lists are taken from the guarded copies, in the order of the parameters.
+fn enter(call: &Call, inputs: &mut [Guarded], lent: &mut [Guarded]) -> Vec<u64> {
+    let r = &mut call.read();
+    let mut lists = inputs.iter_mut();
+    macro_rules! list {
+        () => {{
+            r.list();
+            let held = lists.next().unwrap();
+            (held.start(), held.length)
+        }};
+    }
+    let mut rooms = lent.iter_mut();
+    macro_rules! room {
+        () => {{
+            let held = rooms.next().unwrap();
+            (held.start(), held.length)
+        }};
+    }
+    // Each pointer and length is of a list that lives until the call is over; nothing else is lent.
+    unsafe {
+        match call.entry {
+            Entry::ViewVertex => {
+                let (outline, length) = list!();
+                let a = mask_view_vertex(outline, length, r.count(), view(r), r.count());
+                let mut words = vec![u64::from(a.refusal), u64::from(a.found)];
+                words.extend(vertex_words(&a.vertex));
+                words
+            }
+            Entry::Create => {
+                let (outline, length) = list!();
+                view_words(&mask_create(
+                    outline,
+                    length,
+                    r.count(),
+                    r.count(),
+                    point(r),
+                    r.count(),
+                    vertex(r),
+                    r.count(),
+                    r.number(),
+                    Split {
+                        updated_start: vertex(r),
+                        split_vertex: vertex(r),
+                    },
+                ))
+            }
+            Entry::CreateOnSingleSegment => {
+                let (outline, length) = list!();
+                view_words(&mask_create_on_single_segment(
+                    outline,
+                    length,
+                    r.count(),
+                    r.count(),
+                    vertex(r),
+                    point(r),
+                    r.number(),
+                ))
+            }
+            Entry::FromEntirePline => {
+                let (outline, length) = list!();
+                view_words(&mask_from_entire_pline(
+                    outline,
+                    length,
+                    r.count(),
+                    r.code(),
+                ))
+            }
+            Entry::ValidateForSource => {
+                let (outline, length) = list!();
+                verdict_words(&mask_validate_for_source(
+                    outline,
+                    length,
+                    r.count(),
+                    view(r),
+                    r.code(),
+                    r.code(),
+                ))
+            }
+            Entry::CutOrder => {
+                let (outline, outline_len) = list!();
+                let (vc, source) = (r.count(), r.code());
+                let (hit_at, hit_at_len) = list!();
+                let (hit, hit_len) = list!();
+                let hits = r.count();
+                let (lap_at, lap_at_len) = list!();
+                let (lap, lap_len) = list!();
+                let (laps, tolerance) = (r.count(), r.number());
+                let (cut_at, cut_at_len) = room!();
+                let (cut, cut_len) = room!();
+                count_words(&mask_cut_order(
+                    outline,
+                    outline_len,
+                    vc,
+                    source,
+                    hit_at,
+                    hit_at_len,
+                    hit,
+                    hit_len,
+                    hits,
+                    lap_at,
+                    lap_at_len,
+                    lap,
+                    lap_len,
+                    laps,
+                    tolerance,
+                    cut_at,
+                    cut_at_len,
+                    cut,
+                    cut_len,
+                ))
+            }
+            Entry::Candidates => {
+                let (outline, outline_len) = list!();
+                let (vc, source) = (r.count(), r.code());
+                let (hit_at, hit_at_len) = list!();
+                let (hit, hit_len) = list!();
+                let hits = r.count();
+                let (lap_at, lap_at_len) = list!();
+                let (lap, lap_len) = list!();
+                let laps = r.count();
+                let (splits, splits_len) = list!();
+                let tolerance = r.number();
+                let (cand_at, cand_at_len) = room!();
+                let (cand, cand_len) = room!();
+                let (probe, probe_len) = room!();
+                count_words(&mask_candidates(
+                    outline,
+                    outline_len,
+                    vc,
+                    source,
+                    hit_at,
+                    hit_at_len,
+                    hit,
+                    hit_len,
+                    hits,
+                    lap_at,
+                    lap_at_len,
+                    lap,
+                    lap_len,
+                    laps,
+                    splits,
+                    splits_len,
+                    tolerance,
+                    cand_at,
+                    cand_at_len,
+                    cand,
+                    cand_len,
+                    probe,
+                    probe_len,
+                ))
+            }
+            Entry::Prune => {
+                let (mode, opposing) = (r.code(), r.code());
+                let (vc1, vc2) = (r.count(), r.count());
+                let (cand_at1, cand_at1_len) = list!();
+                let (cand1, cand1_len) = list!();
+                let (inside1, inside1_len) = list!();
+                let count1 = r.count();
+                let (cand_at2, cand_at2_len) = list!();
+                let (cand2, cand2_len) = list!();
+                let (inside2, inside2_len) = list!();
+                let count2 = r.count();
+                let (lap_at, lap_at_len) = list!();
+                let (lap, lap_len) = list!();
+                let laps = r.count();
+                let (slice_at, slice_at_len) = room!();
+                let (slice, slice_len) = room!();
+                let a = mask_prune(
+                    mode,
+                    opposing,
+                    vc1,
+                    vc2,
+                    cand_at1,
+                    cand_at1_len,
+                    cand1,
+                    cand1_len,
+                    inside1,
+                    inside1_len,
+                    count1,
+                    cand_at2,
+                    cand_at2_len,
+                    cand2,
+                    cand2_len,
+                    inside2,
+                    inside2_len,
+                    count2,
+                    lap_at,
+                    lap_at_len,
+                    lap,
+                    lap_len,
+                    laps,
+                    slice_at,
+                    slice_at_len,
+                    slice,
+                    slice_len,
+                );
+                vec![
+                    u64::from(a.refusal),
+                    a.slices as u64,
+                    a.starts.pline2 as u64,
+                    a.starts.pline1_overlapping as u64,
+                    a.starts.pline2_overlapping as u64,
+                ]
+            }
+            Entry::Stitch => {
+                let (outline1, outline1_len) = list!();
+                let vc1 = r.count();
+                let (outline2, outline2_len) = list!();
+                let vc2 = r.count();
+                let (slice_at, slice_at_len) = list!();
+                let (slice, slice_len) = list!();
+                let slices = r.count();
+                let (pline2, pline1_overlapping, pline2_overlapping) =
+                    (r.count(), r.count(), r.count());
+                let (selector, tolerance) = (r.code(), r.number());
+                let (room, room_len) = room!();
+                let (ends, ends_len) = room!();
+                let (chain, chain_len) = room!();
+                let (chain_ends, chain_ends_len) = room!();
+                let (chain_how, chain_how_len) = room!();
+                let a = mask_stitch(
+                    outline1,
+                    outline1_len,
+                    vc1,
+                    outline2,
+                    outline2_len,
+                    vc2,
+                    slice_at,
+                    slice_at_len,
+                    slice,
+                    slice_len,
+                    slices,
+                    pline2,
+                    pline1_overlapping,
+                    pline2_overlapping,
+                    selector,
+                    tolerance,
+                    room,
+                    room_len,
+                    ends,
+                    ends_len,
+                    chain,
+                    chain_len,
+                    chain_ends,
+                    chain_ends_len,
+                    chain_how,
+                    chain_how_len,
+                );
+                vec![
+                    u64::from(a.refusal),
+                    a.rounds as u64,
+                    a.loops as u64,
+                    a.chains as u64,
+                ]
+            }
+            Entry::AreaPass => {
+                let (areas, areas_len) = list!();
+                let (loops, limit) = (r.count(), r.number());
+                let (kept, kept_len) = room!();
+                count_words(&mask_area_pass(
+                    areas, areas_len, loops, limit, kept, kept_len,
+                ))
+            }
+        }
+    }
+}

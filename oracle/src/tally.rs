@@ -1,0 +1,278 @@
+//! Compares one call after the other, and counts.
+
+use crate::call::{Call, ENTRIES, Entry, Outcome};
+use crate::record::{Origin, Record};
+use crate::{ours, print, refusal, theirs};
+use std::collections::BTreeMap;
+use std::panic::{AssertUnwindSafe, catch_unwind};
+
+#[derive(Debug, Clone, Copy, PartialEq, Eq)]
+pub enum Family {
+    Realistic,
+    Hostile,
+    Damaged,
+    Limits,
+}
+
+pub const FAMILIES: [Family; 4] = [
+    Family::Realistic,
+    Family::Hostile,
+    Family::Damaged,
+    Family::Limits,
+];
+
+/// Differences that are written out. The others are only counted.
+const SHOWN: u64 = 20;
+
+#[derive(Default)]
+pub struct Tally {
+    compared: [[u64; 10]; 4],
+    refused: [[u64; 11]; 10],
+    ended: [u64; 4],
+    extra: BTreeMap<&'static str, u64>,
+    explained: BTreeMap<&'static str, u64>,
+    unexplained: u64,
+    pub record: Option<Record>,
+}
+
+impl Tally {
+    /// Compares a call with the refusal table, or where that accepts it with the original. Gives our
+    /// outcome back.
+    pub fn compare(&mut self, family: Family, call: &Call) -> Outcome {
+        self.compare_with(family, call, || theirs::answer(call))
+    }
+
+    /// As `compare`, where the original needs more than the call.
+    pub fn compare_with(
+        &mut self,
+        family: Family,
+        call: &Call,
+        original: impl FnOnce() -> Outcome,
+    ) -> Outcome {
+        let number = refusal::expected(call);
+        let (expected, origin) = match number {
+            0 => (self.run(call, original), Origin::Original),
+            _ => (Some(Outcome::refused(call, number)), Origin::Table),
+        };
+        self.compared[family as usize][call.entry.number()] += 1;
+        self.refused[call.entry.number()][number as usize] += 1;
+        let ours = self.ours(call);
+        let Some(expected) = expected else {
+            return ours;
+        };
+        if self.judge(call, &expected, &ours) {
+            if number == 0 && call.entry == Entry::Stitch {
+                self.count_ends(&ours);
+            }
+            if let Some(record) = &mut self.record {
+                record.offer(family, call, &expected, origin);
+            }
+        }
+        ours
+    }
+
+    /// One more check of a call already compared: the same outcome by another road.
+    pub fn check(&mut self, name: &'static str, call: &Call, road: impl FnOnce() -> Outcome) {
+        if refusal::expected(call) != 0 {
+            return;
+        }
+        *self.extra.entry(name).or_default() += 1;
+        let ours = self.ours(call);
+        if let Some(expected) = self.run(call, road) {
+            self.judge(call, &expected, &ours);
+        }
+    }
+
+    /// One more check that is not of one call.
+    pub fn claim(&mut self, name: &'static str, holds: bool, tell: impl FnOnce() -> String) {
+        *self.extra.entry(name).or_default() += 1;
+        if !holds {
+            self.complain(name, &tell());
+        }
+    }
+
+    fn count_ends(&mut self, stitched: &Outcome) {
+        let chains = stitched.answer[3] as usize;
+        for how in &stitched.lent[4][..chains] {
+            self.ended[*how as usize] += 1;
+        }
+    }
+
+    fn ours(&mut self, call: &Call) -> Outcome {
+        ours::answer(call).unwrap_or_else(|fault| {
+            self.complain(&fault, &print::call(call));
+            Outcome::refused(call, u64::MAX)
+        })
+    }
+
+    /// The original's outcome, or none where it panicked. A panic is a difference.
+    fn run(&mut self, call: &Call, original: impl FnOnce() -> Outcome) -> Option<Outcome> {
+        let outcome = catch_unwind(AssertUnwindSafe(original)).ok();
+        if outcome.is_none() {
+            self.complain("the original panicked", &print::call(call));
+        }
+        outcome
+    }
+
+    /// Whether the two are equal, bit for bit.
+    fn judge(&mut self, call: &Call, expected: &Outcome, ours: &Outcome) -> bool {
+        if expected == ours {
+            return true;
+        }
+        if let Some(name) = explanation(call, expected, ours) {
+            *self.explained.entry(name).or_default() += 1;
+            return false;
+        }
+        let text = print::call(call) + "\n" + &print::difference(call, expected, ours);
+        self.complain("another outcome", &text);
+        false
+    }
+
+    fn complain(&mut self, what: &str, text: &str) {
+        self.unexplained += 1;
+        if self.unexplained <= SHOWN {
+            println!("difference {}: {what}: {text}", self.unexplained);
+        }
+    }
+
+    pub fn total(&self) -> u64 {
+        self.compared.iter().flatten().sum()
+    }
+
+    /// Prints the counts. Gives the number of unexplained differences.
+    pub fn report(&self) -> u64 {
+        println!(
+            "{:30} {:>10} {:>10} {:>10} {:>10} {:>10}",
+            "entry calls compared", "realistic", "hostile", "damaged", "limits", "all"
+        );
+        for entry in ENTRIES {
+            self.report_row(entry.name(), |family| {
+                self.compared[family as usize][entry.number()]
+            });
+        }
+        self.report_row("all", |family| self.compared[family as usize].iter().sum());
+        println!("\nrefusals, all families (0: accepted)");
+        for entry in ENTRIES {
+            let counts = self.refused[entry.number()].iter().enumerate();
+            let shown = counts.filter(|(_, count)| **count > 0);
+            let row: Vec<String> = shown.map(|(n, count)| format!("{n}: {count}")).collect();
+            println!("{:30} {}", entry.name(), row.join(", "));
+        }
+        let [closed, small, no_candidate, not_selected] = self.ended;
+        println!(
+            "\nchains: {closed} closed, {small} too small, {no_candidate} with no candidate, \
+             {not_selected} with none selected"
+        );
+        println!("\nthe same by another road, beside the calls above");
+        for (name, count) in &self.extra {
+            println!("{count:>10} {name}");
+        }
+        println!("\nexplained differences");
+        for (name, count) in &self.explained {
+            println!("{count:>10} {name}");
+        }
+        if self.explained.is_empty() {
+            println!("{:>10}", "none");
+        }
+        self.unexplained
+    }
+
+    fn report_row(&self, name: &str, count: impl Fn(Family) -> u64) {
+        print!("{name:30}");
+        for family in FAMILIES {
+            print!(" {:>10}", count(family));
+        }
+        let all: u64 = FAMILIES.iter().map(|family| count(*family)).sum();
+        println!(" {all:>10}");
+    }
+}
+
+pub const AREA_SIGN: &str = "area sign: the original drops by the area without its sign";
+pub const TIES: &str = "ties: 33 or more cuts on one segment, equal distances";
+
+/// The name of a known difference, where it accounts for all that differs.
+fn explanation(call: &Call, expected: &Outcome, ours: &Outcome) -> Option<&'static str> {
+    match call.entry {
+        Entry::AreaPass if is_area_sign(call, expected, ours) => Some(AREA_SIGN),
+        Entry::CutOrder if is_tie(call, expected, ours) => Some(TIES),
+        Entry::Candidates if order_is_tie(call) => Some(TIES),
+        _ => None,
+    }
+}
+
+/// The original keeps exactly those loops more that have a negative area of the limit's size or more.
+fn is_area_sign(call: &Call, expected: &Outcome, ours: &Outcome) -> bool {
+    let mut r = call.read();
+    let areas = r.list();
+    r.count();
+    let limit = r.number();
+    let kept = |outcome: &Outcome| outcome.lent[0][..outcome.answer[1] as usize].to_vec();
+    let not_negative = |number: &u64| {
+        let area = f64::from_bits(areas[*number as usize]);
+        area >= 0.0 || area.abs() < limit
+    };
+    let mut theirs = kept(expected);
+    theirs.retain(not_negative);
+    theirs == kept(ours)
+}
+
+/// The cuts of an outcome: segment, mark, arrival and point of each.
+fn cuts_of(outcome: &Outcome) -> Vec<(u64, u64, u64, [f64; 2])> {
+    let count = outcome.answer[1] as usize;
+    let at = outcome.lent[0].chunks_exact(3).take(count);
+    let points = outcome.lent[1].chunks_exact(2);
+    at.zip(points)
+        .map(|(c, p)| {
+            (
+                c[0],
+                c[1],
+                c[2],
+                [f64::from_bits(p[0]), f64::from_bits(p[1])],
+            )
+        })
+        .collect()
+}
+
+/// Both have the same segments and distances; where a cut differs, its segment has 33 or more; and
+/// ours keeps the order of arrival among equal distances.
+fn is_tie(call: &Call, expected: &Outcome, ours: &Outcome) -> bool {
+    if expected.answer != ours.answer {
+        return false;
+    }
+    let mut r = call.read();
+    let outline = r.list();
+    let distance = |segment: u64, p: [f64; 2]| {
+        let corner = &outline[3 * segment as usize..];
+        let dx = p[0] - f64::from_bits(corner[0]);
+        let dy = p[1] - f64::from_bits(corner[1]);
+        dx * dx + dy * dy
+    };
+    let theirs = cuts_of(expected);
+    let ours = cuts_of(ours);
+    let on_segment = |segment: u64| ours.iter().filter(|cut| cut.0 == segment).count();
+    let same_up_to_ties = theirs.iter().zip(&ours).all(|(a, b)| {
+        a.0 == b.0
+            && distance(a.0, a.3) == distance(b.0, b.3)
+            && (a.2 == b.2 || on_segment(a.0) >= 33)
+    });
+    let stable = ours.windows(2).all(|pair| {
+        pair[0].0 != pair[1].0
+            || distance(pair[0].0, pair[0].3) != distance(pair[1].0, pair[1].3)
+            || pair[0].2 < pair[1].2
+    });
+    same_up_to_ties && stable
+}
+
+/// Whether the order of the same cuts already differs by ties. Then the splits are of other cuts.
+fn order_is_tie(call: &Call) -> bool {
+    let mut order = Call::new(Entry::CutOrder);
+    order.inputs = call.inputs.clone();
+    order.inputs.remove(9);
+    let cuts = call.lent[0].len();
+    order.lent = vec![vec![1; 3 * cuts], vec![1; 2 * cuts]];
+    let Ok(ours) = ours::answer(&order) else {
+        return false;
+    };
+    let expected = theirs::answer(&order);
+    expected != ours && is_tie(&order, &expected, &ours)
+}

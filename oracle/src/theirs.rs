@@ -1,0 +1,998 @@
+//! What the original makes of a call that is accepted, in the form of the archive's outcome.
+//!
+//! Compared directly, value by value as the original returns them: the vertices of a view, the three
+//! constructors, the verdict, the candidates, the pruned slices with their starts, the loops.
+//! The order of cuts is asked of the private function itself, in a second copy of its file.
+//! Compared through what can be seen:
+//! - number of arrival of a cut: the original does not keep it. Each intersection and overlap is asked
+//!   alone, which tells its segment and marks; then each cut in order is given the lowest number not
+//!   yet given whose segment, point and mark are its own. So two cuts alike in all three are told
+//!   apart by the rule of document 01, not by the original.
+//! - probes: the two vertices handed to `seg_midpoint`.
+//! - rounds: one query of the spatial index each.
+//! - chains: from what the selector is asked and answers, round by round. The first slice of a chain
+//!   is the lowest one in no chain before; where the selector is asked, it must be that one.
+//! - how a chain ended: no selector asked (no candidate), none selected, or back at its first slice;
+//!   then it is closed where the loop was set closed in that round, else too small.
+//! - area pass: slices that each close on themselves, whose loops answer the areas of the call.
+
+use crate::call::{Call, Entry, Outcome, Reader, numbers_of};
+use crate::refusal::stitch_vertices;
+use crate::stages::{self, Info, Selector, Slice};
+use cavalier_contours::core::math::Vector2;
+use cavalier_contours::polyline::internal::pline_boolean::{
+    PrunedSlices, SliceStarts, StitchSelector,
+};
+use cavalier_contours::polyline::internal::pline_boolean_and_lookup as opened;
+use cavalier_contours::polyline::watch::{Host, set_host};
+use cavalier_contours::polyline::{
+    PlineCreation, PlineSource, PlineSourceMut, PlineVertex, PlineView, PlineViewData, Polyline,
+    SplitResult, ViewDataValidation,
+};
+use static_aabb2d_index::queries;
+use std::cell::{Cell, RefCell};
+use std::collections::VecDeque;
+use std::rc::Rc;
+
+/// The original's outcome of an accepted call. The prune is not here: see `prune`.
+pub fn answer(call: &Call) -> Outcome {
+    let r = &mut call.read();
+    match call.entry {
+        Entry::ViewVertex => view_vertex(r),
+        Entry::Create => create(r),
+        Entry::CreateOnSingleSegment => create_on_single_segment(r),
+        Entry::FromEntirePline => from_entire_pline(r),
+        Entry::ValidateForSource => validate_for_source(r),
+        Entry::CutOrder => cut_order(r, &call.lent),
+        Entry::Candidates => candidates(r, &call.lent, true),
+        Entry::Prune => panic!("the original prunes what it sliced itself"),
+        Entry::Stitch => stitch(r, &call.lent),
+        Entry::AreaPass => area_pass(r, &call.lent),
+    }
+}
+
+/// Runs with a host in place of the crate's helpers.
+fn with_host<A>(host: impl Host + 'static, run: impl FnOnce() -> A) -> A {
+    struct Unset;
+    impl Drop for Unset {
+        fn drop(&mut self) {
+            set_host(None);
+        }
+    }
+    set_host(Some(Box::new(host)));
+    let _unset = Unset;
+    run()
+}
+
+fn counts_of(words: &[u64]) -> Vec<usize> {
+    words.iter().map(|w| *w as usize).collect()
+}
+
+fn vertex(r: &mut Reader) -> PlineVertex {
+    let [x, y, bulge] = r.some();
+    PlineVertex::new(x, y, bulge)
+}
+
+fn point(r: &mut Reader) -> Vector2 {
+    let [x, y] = r.some();
+    Vector2::new(x, y)
+}
+
+fn view(r: &mut Reader) -> PlineViewData {
+    let (start, offset) = (r.count(), r.count());
+    let numbers: [f64; 6] = r.some();
+    stages::view_data(start, offset, &numbers, r.code() == 1)
+}
+
+fn vertex_words(v: PlineVertex) -> [u64; 3] {
+    [v.x.to_bits(), v.y.to_bits(), v.bulge.to_bits()]
+}
+
+fn view_answer(view: Option<PlineViewData>) -> Outcome {
+    let mut answer = vec![0, u64::from(view.is_some())];
+    if let Some(view) = view {
+        answer.extend([view.start_index as u64, view.end_index_offset as u64]);
+        answer.extend(stages::view_numbers(&view).map(f64::to_bits));
+        answer.push(u64::from(view.inverted_direction));
+    }
+    answer.resize(11, 0);
+    Outcome {
+        answer,
+        lent: Vec::new(),
+    }
+}
+
+/// A lent list at exit: the items, 0 up to the need, and beyond it what was there.
+fn written(at_entry: &[u64], items: &[u64], need: usize) -> Vec<u64> {
+    let mut list = items.to_vec();
+    assert!(list.len() <= need, "more items than the need");
+    list.resize(need, 0);
+    list.extend_from_slice(&at_entry[need..]);
+    list
+}
+
+fn view_vertex(r: &mut Reader) -> Outcome {
+    let pline = stages::outline(&numbers_of(r.list()));
+    r.count();
+    let view = PlineView::new(&pline, view(r));
+    let vertex = view.get(r.count());
+    let mut answer = vec![0, u64::from(vertex.is_some())];
+    answer.extend(vertex.map_or([0; 3], vertex_words));
+    Outcome {
+        answer,
+        lent: Vec::new(),
+    }
+}
+
+/// Answers every split with the one that the call supplies.
+struct OneSplit(SplitResult);
+
+impl Host for OneSplit {
+    fn split(&mut self, _: PlineVertex, _: PlineVertex, _: Vector2) -> Option<SplitResult> {
+        Some(self.0)
+    }
+
+    fn closest(&mut self, _: PlineVertex, _: PlineVertex, _: Vector2) -> Option<Vector2> {
+        None
+    }
+
+    fn midpoint(&mut self, _: PlineVertex, _: PlineVertex) {}
+}
+
+fn create(r: &mut Reader) -> Outcome {
+    let pline = stages::outline(&numbers_of(r.list()));
+    r.count();
+    let start_index = r.count();
+    let end_intersect = point(r);
+    let intersect_index = r.count();
+    let updated_start = vertex(r);
+    let (traverse_count, tolerance) = (r.count(), r.number());
+    let split = SplitResult {
+        updated_start: vertex(r),
+        split_vertex: vertex(r),
+    };
+    let view = with_host(OneSplit(split), || {
+        PlineViewData::create(
+            &pline,
+            start_index,
+            end_intersect,
+            intersect_index,
+            updated_start,
+            traverse_count,
+            tolerance,
+        )
+    });
+    view_answer(Some(view))
+}
+
+fn create_on_single_segment(r: &mut Reader) -> Outcome {
+    let pline = stages::outline(&numbers_of(r.list()));
+    r.count();
+    let start_index = r.count();
+    let updated_start = vertex(r);
+    let end_intersect = point(r);
+    view_answer(PlineViewData::create_on_single_segment(
+        &pline,
+        start_index,
+        updated_start,
+        end_intersect,
+        r.number(),
+    ))
+}
+
+fn from_entire_pline(r: &mut Reader) -> Outcome {
+    let vertices = stages::vertices(&numbers_of(r.list()));
+    r.count();
+    let pline = Polyline::from_vertexes(vertices, r.code() == 1);
+    view_answer(Some(PlineViewData::from_entire_pline(&pline)))
+}
+
+/// An outline that the host stands behind: it counts how often a vertex is read, and it may answer
+/// in place of the winding number.
+pub struct HostOutline {
+    pline: Polyline,
+    reads: Rc<Cell<usize>>,
+    inside: RefCell<Option<VecDeque<bool>>>,
+}
+
+impl HostOutline {
+    pub fn new(numbers: &[f64]) -> HostOutline {
+        HostOutline {
+            pline: stages::outline(numbers),
+            reads: Rc::new(Cell::new(0)),
+            inside: RefCell::new(None),
+        }
+    }
+
+    /// The answers to give, one for each question in turn.
+    pub fn answering(numbers: &[f64], inside: Vec<bool>) -> HostOutline {
+        let outline = HostOutline::new(numbers);
+        outline.inside.replace(Some(inside.into()));
+        outline
+    }
+}
+
+impl PlineSource for HostOutline {
+    type Num = f64;
+    type OutputPolyline = Polyline;
+
+    fn get_userdata_count(&self) -> usize {
+        0
+    }
+
+    fn get_userdata_values(&self) -> impl Iterator<Item = u64> + '_ {
+        std::iter::empty()
+    }
+
+    fn vertex_count(&self) -> usize {
+        self.pline.vertex_count()
+    }
+
+    fn is_closed(&self) -> bool {
+        true
+    }
+
+    fn get(&self, index: usize) -> Option<PlineVertex> {
+        self.pline.get(index)
+    }
+
+    fn at(&self, index: usize) -> PlineVertex {
+        self.reads.set(self.reads.get() + 1);
+        self.pline.at(index)
+    }
+
+    fn winding_number(&self, point: Vector2) -> i32 {
+        match self.inside.borrow_mut().as_mut() {
+            Some(answers) => i32::from(answers.pop_front().expect("one answer per candidate")),
+            None => self.pline.winding_number(point),
+        }
+    }
+}
+
+/// Answers "on the segment" with the point itself, and "not on it" with a point far away. The start
+/// is asked after two vertices were read, the end after four.
+struct OnSegment {
+    reads: Rc<Cell<usize>>,
+    start: bool,
+    end: bool,
+}
+
+impl Host for OnSegment {
+    fn split(&mut self, _: PlineVertex, _: PlineVertex, _: Vector2) -> Option<SplitResult> {
+        None
+    }
+
+    fn closest(&mut self, _: PlineVertex, _: PlineVertex, point: Vector2) -> Option<Vector2> {
+        let yes = match self.reads.get() {
+            2 => self.start,
+            4 => self.end,
+            other => panic!("the closest point is asked after {other} reads"),
+        };
+        let far = Vector2::new(f64::INFINITY, f64::INFINITY);
+        Some(if yes { point } else { far })
+    }
+
+    fn midpoint(&mut self, _: PlineVertex, _: PlineVertex) {}
+}
+
+fn validate_for_source(r: &mut Reader) -> Outcome {
+    let pline = HostOutline::new(&numbers_of(r.list()));
+    r.count();
+    let view = view(r);
+    let host = OnSegment {
+        reads: pline.reads.clone(),
+        start: r.code() == 1,
+        end: r.code() == 1,
+    };
+    verdict_answer(with_host(host, || view.validate_for_source(&pline)))
+}
+
+/// The verdict as the archive's answer.
+pub fn verdict_answer(verdict: ViewDataValidation<f64>) -> Outcome {
+    let mut answer = vec![0; 11];
+    match verdict {
+        ViewDataValidation::SourceHasNoSegments => answer[1] = 1,
+        ViewDataValidation::OffsetOutOfRange {
+            offset,
+            source_length,
+        } => answer[1..4].copy_from_slice(&[2, offset as u64, source_length as u64]),
+        ViewDataValidation::UpdatedStartNotOnSegment { start_point } => {
+            answer[1] = 3;
+            answer[4..6].copy_from_slice(&[start_point.x.to_bits(), start_point.y.to_bits()]);
+        }
+        ViewDataValidation::EndPointNotOnSegment { end_point } => {
+            answer[1] = 4;
+            answer[4..6].copy_from_slice(&[end_point.x.to_bits(), end_point.y.to_bits()]);
+        }
+        ViewDataValidation::EndPointOnFinalOffsetVertex {
+            end_point,
+            final_offset_vertex,
+        } => {
+            answer[1] = 5;
+            answer[4..6].copy_from_slice(&[end_point.x.to_bits(), end_point.y.to_bits()]);
+            answer[6..9].copy_from_slice(&vertex_words(final_offset_vertex));
+        }
+        ViewDataValidation::UpdatedBulgeDoesNotMatch {
+            updated_bulge,
+            expected,
+        } => {
+            answer[1] = 6;
+            answer[9..11].copy_from_slice(&[updated_bulge.to_bits(), expected.to_bits()]);
+        }
+        ViewDataValidation::IsValid => answer[1] = 7,
+    }
+    Outcome {
+        answer,
+        lent: Vec::new(),
+    }
+}
+
+/// One cut, as the original's lookup holds it, with the number of arrival that we found for it.
+#[derive(Debug, Clone, Copy)]
+pub struct Cut {
+    pub segment: usize,
+    pub marked: bool,
+    pub arrival: usize,
+    pub point: Vector2,
+}
+
+/// What the two entries of one outline share, read from a call.
+struct OneOutline {
+    pline: Polyline,
+    second: bool,
+    hit_at: Vec<usize>,
+    hit: Vec<f64>,
+    lap_at: Vec<usize>,
+    lap: Vec<f64>,
+}
+
+impl OneOutline {
+    fn read(r: &mut Reader) -> OneOutline {
+        let pline = stages::outline(&numbers_of(r.list()));
+        r.count();
+        let second = r.code() == 2;
+        let (hit_at, hit) = (counts_of(r.list()), numbers_of(r.list()));
+        r.count();
+        let (lap_at, lap) = (counts_of(r.list()), numbers_of(r.list()));
+        r.count();
+        OneOutline {
+            pline,
+            second,
+            hit_at,
+            hit,
+            lap_at,
+            lap,
+        }
+    }
+
+    fn info(&self) -> Info {
+        stages::info(&self.hit_at, &self.hit, &self.lap_at, &self.lap, false)
+    }
+
+    fn need(&self) -> usize {
+        self.hit_at.len() / 2 + 2 * (self.lap_at.len() / 7)
+    }
+}
+
+/// The same content, as the type of the second copy.
+fn as_opened(info: Info) -> opened::ProcessForBooleanResult<f64> {
+    opened::ProcessForBooleanResult {
+        overlapping_slices: info.overlapping_slices,
+        intersects: info.intersects,
+        pline1_orientation: info.pline1_orientation,
+        pline2_orientation: info.pline2_orientation,
+    }
+}
+
+type Lookup = Vec<(usize, Vec<(Vector2, bool)>)>;
+
+fn lookup(pline: &Polyline, info: Info, second: bool, tolerance: f64) -> Lookup {
+    opened::cuts_in_order(pline, &as_opened(info), second, tolerance)
+}
+
+/// Segment, point and mark of a cut. Two cuts that agree here are alike to the original.
+type Alike = (usize, [u64; 2], bool);
+
+fn alike(segment: usize, point: Vector2, marked: bool) -> Alike {
+    (segment, [point.x.to_bits(), point.y.to_bits()], marked)
+}
+
+/// What each arrival becomes, in order of arrival: each intersection and each overlap asked alone.
+fn arrivals(pline: &Polyline, info: &Info, second: bool, tolerance: f64) -> Vec<Alike> {
+    let ask = |hits, laps| {
+        let alone = Info {
+            intersects: hits,
+            overlapping_slices: laps,
+            ..*info
+        };
+        let mut cuts = Vec::new();
+        for (segment, list) in lookup(pline, alone, second, tolerance) {
+            cuts.extend(list.iter().map(|(p, marked)| alike(segment, *p, *marked)));
+        }
+        cuts
+    };
+    let mut all = Vec::new();
+    for hit in &info.intersects {
+        all.extend(ask(vec![*hit], Vec::new()));
+    }
+    for lap in &info.overlapping_slices {
+        // Of the two cuts exactly one is marked. The start comes first: on outline 2 and where the
+        // overlap is not opposing it is the marked one.
+        let mut both = ask(Vec::new(), vec![*lap]);
+        let start_is_marked = second || !lap.opposing_directions;
+        both.sort_by_key(|cut| cut.2 != start_is_marked);
+        all.extend(both);
+    }
+    all
+}
+
+/// The cuts of one outline in the original's order.
+pub fn cuts(pline: &Polyline, info: &Info, second: bool, tolerance: f64) -> Vec<Cut> {
+    let arrivals = arrivals(pline, info, second, tolerance);
+    let whole = Info {
+        intersects: info.intersects.clone(),
+        overlapping_slices: info.overlapping_slices.clone(),
+        ..*info
+    };
+    let mut given = vec![false; arrivals.len()];
+    let mut cuts = Vec::new();
+    for (segment, list) in lookup(pline, whole, second, tolerance) {
+        for (point, marked) in list {
+            let kind = alike(segment, point, marked);
+            let arrival = (0..arrivals.len())
+                .find(|i| !given[*i] && arrivals[*i] == kind)
+                .expect("every cut has arrived");
+            given[arrival] = true;
+            cuts.push(Cut {
+                segment,
+                marked,
+                arrival,
+                point,
+            });
+        }
+    }
+    cuts
+}
+
+fn cut_order(r: &mut Reader, lent: &[Vec<u64>]) -> Outcome {
+    let one = OneOutline::read(r);
+    let cuts = cuts(&one.pline, &one.info(), one.second, r.number());
+    let mut cut_at = Vec::new();
+    let mut cut = Vec::new();
+    for c in &cuts {
+        cut_at.extend([c.segment as u64, u64::from(c.marked), c.arrival as u64]);
+        cut.extend([c.point.x.to_bits(), c.point.y.to_bits()]);
+    }
+    let need = one.need();
+    Outcome {
+        answer: vec![0, cuts.len() as u64],
+        lent: vec![
+            written(&lent[0], &cut_at, 3 * need),
+            written(&lent[1], &cut, 2 * need),
+        ],
+    }
+}
+
+/// A split that the slicing will ask for.
+enum Ask {
+    /// Of the running vertex at a cut.
+    Own(Vector2, SplitResult),
+    /// Of the whole segment at its last cut. A walk follows, and may ask for the split of the segment
+    /// where it ends, at that segment's first cut.
+    Whole(Vector2, SplitResult, SplitResult),
+}
+
+/// The splits that one outline's slicing asks for, in the order in which it asks.
+fn asks(cuts: &[Cut], splits: &[f64]) -> VecDeque<Ask> {
+    let own = |k: usize| {
+        let v = stages::vertices(&splits[9 * k..9 * k + 6]);
+        SplitResult {
+            updated_start: v[0],
+            split_vertex: v[1],
+        }
+    };
+    let groups: Vec<(usize, usize)> = groups(cuts);
+    let mut asks = VecDeque::new();
+    for (g, (first, last)) in groups.iter().enumerate() {
+        if first != last {
+            asks.extend((*first..=*last).map(|k| Ask::Own(cuts[k].point, own(k))));
+        }
+        if !cuts[*last].marked {
+            let whole = SplitResult {
+                updated_start: own(*last).updated_start,
+                split_vertex: stages::vertices(&splits[9 * last + 6..9 * last + 9])[0],
+            };
+            let (end, _) = groups[(g + 1) % groups.len()];
+            asks.push_back(Ask::Whole(cuts[*last].point, whole, own(end)));
+        }
+    }
+    asks
+}
+
+/// First and last cut of each segment that has one.
+pub fn groups(cuts: &[Cut]) -> Vec<(usize, usize)> {
+    let mut groups: Vec<(usize, usize)> = Vec::new();
+    for (k, cut) in cuts.iter().enumerate() {
+        match groups.last_mut() {
+            Some((first, last)) if cuts[*first].segment == cut.segment => *last = k,
+            _ => groups.push((k, k)),
+        }
+    }
+    groups
+}
+
+/// Answers the splits of a slicing from a list, and keeps the probes.
+struct Splitter {
+    asks: VecDeque<Ask>,
+    /// Between the split of a walk's start and its probe: the split at the walk's end.
+    walk_end: Option<SplitResult>,
+    probes: Rc<RefCell<Vec<[PlineVertex; 2]>>>,
+    from_list: bool,
+}
+
+impl Host for Splitter {
+    fn split(&mut self, _: PlineVertex, _: PlineVertex, point: Vector2) -> Option<SplitResult> {
+        if !self.from_list {
+            return None;
+        }
+        if let Some(split) = self.walk_end {
+            return Some(split);
+        }
+        let (asked, split) = match self
+            .asks
+            .pop_front()
+            .expect("one more split than cuts tell")
+        {
+            Ask::Own(point, split) => (point, split),
+            Ask::Whole(point, split, end) => {
+                self.walk_end = Some(end);
+                (point, split)
+            }
+        };
+        assert!(asked == point, "the split of another cut is asked");
+        Some(split)
+    }
+
+    fn closest(&mut self, _: PlineVertex, _: PlineVertex, _: Vector2) -> Option<Vector2> {
+        None
+    }
+
+    fn midpoint(&mut self, v1: PlineVertex, v2: PlineVertex) {
+        self.walk_end = None;
+        self.probes.borrow_mut().push([v1, v2]);
+    }
+}
+
+/// The candidates of a call. The splits are the call's, or else the crate's own.
+fn candidates(r: &mut Reader, lent: &[Vec<u64>], from_list: bool) -> Outcome {
+    let one = OneOutline::read(r);
+    let splits = numbers_of(r.list());
+    let tolerance = r.number();
+    let info = one.info();
+    let cuts = cuts(&one.pline, &info, one.second, tolerance);
+    let probes = Rc::new(RefCell::new(Vec::new()));
+    let host = Splitter {
+        asks: asks(&cuts, &splits),
+        walk_end: None,
+        probes: probes.clone(),
+        from_list,
+    };
+    let slices = with_host(host, || {
+        stages::slice(&one.pline, &info, one.second, tolerance)
+    });
+    let probes = probes.take();
+    assert!(slices.len() == probes.len(), "one probe per candidate");
+
+    let mut cand_at = Vec::new();
+    let mut cand = Vec::new();
+    for slice in &slices {
+        let view = &slice.view_data;
+        assert!(slice.source_is_pline1 != one.second && !view.inverted_direction);
+        cand_at.extend([view.start_index as u64, view.end_index_offset as u64]);
+        cand.extend(stages::view_numbers(view).map(f64::to_bits));
+    }
+    let probe: Vec<u64> = probes
+        .iter()
+        .flatten()
+        .flat_map(|v| vertex_words(*v))
+        .collect();
+    let need = one.need();
+    Outcome {
+        answer: vec![0, slices.len() as u64],
+        lent: vec![
+            written(&lent[0], &cand_at, 2 * need),
+            written(&lent[1], &cand, 6 * need),
+            written(&lent[2], &probe, 6 * need),
+        ],
+    }
+}
+
+/// The candidates with the splits that the crate computes itself. What the call supplies is not read.
+pub fn candidates_with_own_splits(call: &Call) -> Outcome {
+    candidates(&mut call.read(), &call.lent, false)
+}
+
+/// What the original needs to prune, beside the call: it slices the outlines itself.
+pub struct PruneSource<'a> {
+    pub outline1: &'a [f64],
+    pub outline2: &'a [f64],
+    pub hit_at: &'a [usize],
+    pub hit: &'a [f64],
+    pub splits1: &'a [f64],
+    pub splits2: &'a [f64],
+    pub tolerance: f64,
+}
+
+/// The prune of a call whose candidates came of `source`. Splits and inside answers are the call's.
+pub fn prune(call: &Call, source: &PruneSource) -> Outcome {
+    let r = &mut call.read();
+    let (mode, opposing) = (r.word(), r.code() == 1);
+    let mut inside = Vec::new();
+    r.word();
+    r.word();
+    for _ in 0..2 {
+        r.list();
+        r.list();
+        let answers: Vec<bool> = r.list().iter().map(|code| *code == 1).collect();
+        inside.push(answers);
+        r.word();
+    }
+    let (lap_at, lap) = (counts_of(r.list()), numbers_of(r.list()));
+    let info = stages::info(source.hit_at, source.hit, &lap_at, &lap, opposing);
+    let t = source.tolerance;
+
+    // A candidate of one outline is looked up in the other.
+    let in_first = inside.pop().unwrap();
+    let in_second = inside.pop().unwrap();
+    let need = in_first.len() + in_second.len() + 2 * (lap_at.len() / 7);
+    let pline1 = HostOutline::answering(source.outline1, in_first);
+    let pline2 = HostOutline::answering(source.outline2, in_second);
+    let mut all = asks(&cuts(&pline1.pline, &info, false, t), source.splits1);
+    all.extend(asks(&cuts(&pline2.pline, &info, true, t), source.splits2));
+    let host = Splitter {
+        asks: all,
+        walk_end: None,
+        probes: Rc::default(),
+        from_list: true,
+    };
+    let pruned = with_host(host, || stages::prune(&pline1, &pline2, &info, mode, t));
+    prune_outcome(&pruned, need, &call.lent)
+}
+
+/// The pruned slices as the archive's outcome.
+pub fn prune_outcome(pruned: &PrunedSlices<f64>, need: usize, lent: &[Vec<u64>]) -> Outcome {
+    let mut slice_at = Vec::new();
+    let mut slice = Vec::new();
+    for s in &pruned.slices_remaining {
+        let view = &s.view_data;
+        slice_at.extend([
+            if s.source_is_pline1 { 1 } else { 2 },
+            u64::from(view.inverted_direction),
+            view.start_index as u64,
+            view.end_index_offset as u64,
+        ]);
+        slice.extend(stages::view_numbers(view).map(f64::to_bits));
+    }
+    let starts = pruned.starts;
+    Outcome {
+        answer: vec![
+            0,
+            pruned.slices_remaining.len() as u64,
+            starts.pline2 as u64,
+            starts.pline1_overlapping as u64,
+            starts.pline2_overlapping as u64,
+        ],
+        lent: vec![
+            written(&lent[0], &slice_at, 4 * need),
+            written(&lent[1], &slice, 6 * need),
+        ],
+    }
+}
+
+thread_local! {
+    /// The query after which each loop was set closed.
+    static CLOSED_AFTER: RefCell<Vec<usize>> = const { RefCell::new(Vec::new()) };
+    /// How many loops were begun, and the areas that they answer, by number.
+    static BEGUN: Cell<usize> = const { Cell::new(0) };
+    static AREAS: RefCell<Vec<f64>> = const { RefCell::new(Vec::new()) };
+}
+
+/// A loop in the making: a polyline that tells when it is closed, and answers the host's area.
+#[derive(Debug, Clone)]
+struct Loop {
+    pline: Polyline,
+    number: usize,
+}
+
+impl PlineSource for Loop {
+    type Num = f64;
+    type OutputPolyline = Polyline;
+
+    fn get_userdata_count(&self) -> usize {
+        0
+    }
+
+    fn get_userdata_values(&self) -> impl Iterator<Item = u64> + '_ {
+        std::iter::empty()
+    }
+
+    fn vertex_count(&self) -> usize {
+        self.pline.vertex_count()
+    }
+
+    fn is_closed(&self) -> bool {
+        self.pline.is_closed()
+    }
+
+    fn get(&self, index: usize) -> Option<PlineVertex> {
+        self.pline.get(index)
+    }
+
+    fn at(&self, index: usize) -> PlineVertex {
+        self.pline.at(index)
+    }
+
+    fn area(&self) -> f64 {
+        AREAS.with(|areas| areas.borrow()[self.number])
+    }
+}
+
+impl PlineSourceMut for Loop {
+    fn set_userdata_values(&mut self, _: impl IntoIterator<Item = u64>) {}
+
+    fn add_userdata_values(&mut self, _: impl IntoIterator<Item = u64>) {}
+
+    fn set_vertex(&mut self, index: usize, vertex: PlineVertex) {
+        self.pline.set_vertex(index, vertex);
+    }
+
+    fn insert_vertex(&mut self, index: usize, vertex: PlineVertex) {
+        self.pline.insert_vertex(index, vertex);
+    }
+
+    fn remove(&mut self, index: usize) -> PlineVertex {
+        self.pline.remove(index)
+    }
+
+    fn clear(&mut self) {
+        self.pline.clear();
+    }
+
+    fn add_vertex(&mut self, vertex: PlineVertex) {
+        self.pline.add_vertex(vertex);
+    }
+
+    fn extend_vertexes<I>(&mut self, vertexes: I)
+    where
+        I: IntoIterator<Item = PlineVertex>,
+    {
+        self.pline.extend_vertexes(vertexes);
+    }
+
+    fn reserve(&mut self, additional: usize) {
+        self.pline.reserve(additional);
+    }
+
+    fn set_is_closed(&mut self, is_closed: bool) {
+        CLOSED_AFTER.with(|closed| closed.borrow_mut().push(queries()));
+        self.pline.set_is_closed(is_closed);
+    }
+}
+
+impl PlineCreation for Loop {
+    fn with_capacity(capacity: usize, is_closed: bool) -> Self {
+        BEGUN.set(BEGUN.get() + 1);
+        Loop {
+            pline: Polyline::with_capacity(capacity, is_closed),
+            number: BEGUN.get() - 1,
+        }
+    }
+
+    fn from_iter<I>(_: I, _: bool) -> Self
+    where
+        I: Iterator<Item = PlineVertex>,
+    {
+        unreachable!("the stitch begins a loop empty")
+    }
+}
+
+/// A round in which the selector was asked.
+struct Selected {
+    query: usize,
+    current: usize,
+    answer: Option<usize>,
+}
+
+/// Passes every question on to a selector, and keeps it.
+struct Recorder<'a> {
+    selector: &'a Selector,
+    asked: RefCell<Vec<Selected>>,
+}
+
+impl StitchSelector for Recorder<'_> {
+    fn select(&self, current_slice_idx: usize, available_idx: &[usize]) -> Option<usize> {
+        let answer = self.selector.select(current_slice_idx, available_idx);
+        self.asked.borrow_mut().push(Selected {
+            query: queries(),
+            current: current_slice_idx,
+            answer,
+        });
+        answer
+    }
+}
+
+/// A chain's slices in order, and how it ended.
+pub struct Chain {
+    pub slices: Vec<usize>,
+    pub how: u64,
+}
+
+pub struct Stitched {
+    pub rounds: usize,
+    pub loops: Vec<Vec<PlineVertex>>,
+    pub chains: Vec<Chain>,
+}
+
+const CLOSED: u64 = 0;
+const TOO_SMALL: u64 = 1;
+const NO_CANDIDATE: u64 = 2;
+const NOT_SELECTED: u64 = 3;
+
+/// The original's stitch, watched.
+pub fn stitch_watched(
+    slices: &[Slice],
+    pline1: &Polyline,
+    pline2: &Polyline,
+    selector: &Selector,
+    tolerance: f64,
+) -> Stitched {
+    let before = queries();
+    CLOSED_AFTER.with(|closed| closed.borrow_mut().clear());
+    let recorder = Recorder {
+        selector,
+        asked: RefCell::new(Vec::new()),
+    };
+    let results: Vec<_> =
+        stages::stitch::<_, Loop>(slices, pline1, pline2, &recorder, tolerance, None);
+    let rounds = queries() - before;
+    let closed_after = CLOSED_AFTER.with(|closed| closed.borrow().clone());
+    let mut asked = recorder.asked.into_inner().into_iter().peekable();
+
+    let mut chained = vec![false; slices.len()];
+    let mut chains: Vec<Chain> = Vec::new();
+    let mut running: Option<Chain> = None;
+    for query in before + 1..=before + rounds {
+        let chain = running.get_or_insert_with(|| {
+            let first = chained.iter().position(|c| !c).expect("an unchained slice");
+            chained[first] = true;
+            Chain {
+                slices: vec![first],
+                how: NO_CANDIDATE,
+            }
+        });
+        let (first, current) = (chain.slices[0], *chain.slices.last().unwrap());
+        let ended = match asked.next_if(|round| round.query == query) {
+            None => Some(NO_CANDIDATE),
+            Some(round) => {
+                assert!(round.current == current, "the selector sees another slice");
+                match round.answer {
+                    None => Some(NOT_SELECTED),
+                    Some(next) if next == first => Some(if closed_after.contains(&query) {
+                        CLOSED
+                    } else {
+                        TOO_SMALL
+                    }),
+                    Some(next) => {
+                        assert!(!chained[next], "a slice is taken twice");
+                        chained[next] = true;
+                        chain.slices.push(next);
+                        None
+                    }
+                }
+            }
+        };
+        if let Some(how) = ended {
+            chain.how = how;
+            chains.extend(running.take());
+        }
+    }
+    assert!(running.is_none() && chained.iter().all(|c| *c));
+    let closed = chains.iter().filter(|chain| chain.how == CLOSED);
+    for (chain, result) in closed.zip(&results) {
+        assert!(chain.slices.len() == result.subslices.len());
+    }
+    Stitched {
+        rounds,
+        loops: results
+            .into_iter()
+            .map(|r| r.pline.pline.vertex_data)
+            .collect(),
+        chains,
+    }
+}
+
+fn stitch(r: &mut Reader, lent: &[Vec<u64>]) -> Outcome {
+    let pline1 = stages::outline(&numbers_of(r.list()));
+    r.count();
+    let pline2 = stages::outline(&numbers_of(r.list()));
+    r.count();
+    let slice_at = r.list();
+    let slices = stages::slices(&counts_of(slice_at), &numbers_of(r.list()));
+    r.count();
+    let starts = SliceStarts {
+        pline2: r.count(),
+        pline1_overlapping: r.count(),
+        pline2_overlapping: r.count(),
+    };
+    let selector = Selector::new(r.word(), starts);
+    let stitched = stitch_watched(&slices, &pline1, &pline2, &selector, r.number());
+
+    let mut room = Vec::new();
+    let mut ends = Vec::new();
+    for l in &stitched.loops {
+        room.extend(l.iter().flat_map(|v| vertex_words(*v)));
+        ends.push(room.len() as u64 / 3);
+    }
+    let mut chain = Vec::new();
+    let mut chain_ends = Vec::new();
+    let mut chain_how = Vec::new();
+    for c in &stitched.chains {
+        chain.extend(c.slices.iter().map(|s| *s as u64));
+        chain_ends.push(chain.len() as u64);
+        chain_how.push(c.how);
+    }
+    let need = slices.len();
+    Outcome {
+        answer: vec![
+            0,
+            stitched.rounds as u64,
+            stitched.loops.len() as u64,
+            stitched.chains.len() as u64,
+        ],
+        lent: vec![
+            written(&lent[0], &room, 3 * stitch_vertices(slice_at) as usize),
+            written(&lent[1], &ends, need),
+            written(&lent[2], &chain, need),
+            written(&lent[3], &chain_ends, need),
+            written(&lent[4], &chain_how, need),
+        ],
+    }
+}
+
+/// Closes every chain at once.
+struct Itself;
+
+impl StitchSelector for Itself {
+    fn select(&self, current_slice_idx: usize, _: &[usize]) -> Option<usize> {
+        Some(current_slice_idx)
+    }
+}
+
+/// The original drops loops at the end of its stitch. So here are as many slices as areas, each the
+/// whole of one triangle, and the loops answer the call's areas.
+fn area_pass(r: &mut Reader, lent: &[Vec<u64>]) -> Outcome {
+    let areas = numbers_of(r.list());
+    let loops = r.count();
+    let limit = r.number();
+    let triangle = stages::outline(&[0.0, 0.0, 0.0, 4.0, 0.0, 0.0, 0.0, 4.0, 0.0]);
+    let whole = Slice {
+        view_data: PlineViewData::from_entire_pline(&triangle),
+        source_is_pline1: true,
+        overlapping: false,
+    };
+    AREAS.with(|held| held.replace(areas));
+    BEGUN.set(0);
+    let kept = stages::stitch::<_, Loop>(
+        &vec![whole; loops],
+        &triangle,
+        &triangle,
+        &Itself,
+        0.5,
+        Some(limit),
+    );
+    let numbers: Vec<u64> = kept.iter().map(|l| l.pline.number as u64).collect();
+    Outcome {
+        answer: vec![0, numbers.len() as u64],
+        lent: vec![written(&lent[0], &numbers, loops)],
+    }
+}
