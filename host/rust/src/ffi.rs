@@ -584,3 +584,25 @@ mod archive {
         }
     }
 }
+
+#[cfg(test)]
+mod tests {
+    use super::*;
+
+    #[test]
+    fn vertices_and_numbers_are_the_same_memory() {
+        let vertices = [Vertex::new(1.0, 2.0, 3.0), Vertex::new(4.0, 5.0, 6.0)];
+        let numbers = numbers_of(&vertices);
+        assert_eq!(numbers, [1.0, 2.0, 3.0, 4.0, 5.0, 6.0]);
+        assert_eq!(vertices_of(numbers), vertices);
+        assert_eq!(numbers.as_ptr(), vertices.as_ptr().cast());
+    }
+
+    #[test]
+    fn a_rest_is_no_vertex() {
+        for (numbers, vertices) in [(0, 0), (1, 0), (2, 0), (3, 1), (5, 1), (6, 2)] {
+            assert_eq!(vertices_of(&vec![0.0; numbers]).len(), vertices);
+        }
+        assert!(numbers_of(&[]).is_empty());
+    }
+}
