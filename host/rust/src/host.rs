@@ -9,10 +9,11 @@ use crate::{CutSplit, Cuts, Outline, Point, Probe, Refusal, Source, Split, Split
 /// the call that takes them is refused with [`Refusal::Number`].
 pub trait Host {
     /// Splits the segment from `from`, with its bulge, to `to` at the point `at`, which lies on it
-    /// within the tolerance.
+    /// within the tolerance. In cavalier_contours this is `seg_split_at_point`.
     fn split(&mut self, from: Vertex, to: Vertex, at: Point) -> Split;
 
-    /// Whether the middle of `probe` lies inside `outline`, which is outline `source` of the two.
+    /// Whether the middle of `probe` lies inside `outline`, which is outline `source` of the two. In
+    /// cavalier_contours: whether its winding number about `seg_midpoint` is not 0.
     fn inside(&mut self, source: Source, outline: &Outline, probe: Probe) -> bool;
 
     /// The signed area of a closed loop: positive where it runs anticlockwise.
