@@ -231,6 +231,21 @@ impl Entry {
         }
     }
 
+    /// The refusal numbers that the entry can give.
+    pub fn refusals(self) -> &'static [usize] {
+        match self {
+            Entry::ViewVertex => &[1, 2, 3, 5, 6, 7],
+            Entry::Create => &[1, 2, 4, 5, 6, 7],
+            Entry::CreateOnSingleSegment => &[1, 2, 4, 5, 6],
+            Entry::FromEntirePline => &[1, 2, 3, 5],
+            Entry::ValidateForSource => &[1, 2, 3, 5, 6],
+            Entry::CutOrder | Entry::Candidates => &[1, 2, 3, 4, 5, 6, 9],
+            Entry::Prune => &[1, 2, 3, 5, 6, 7, 9],
+            Entry::Stitch => &[1, 2, 3, 4, 5, 6, 7, 8, 9],
+            Entry::AreaPass => &[1, 4, 5, 9],
+        }
+    }
+
     /// How many words the answer has, the refusal among them.
     pub fn answer_words(self) -> usize {
         match self {

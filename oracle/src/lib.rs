@@ -14,6 +14,12 @@ pub mod shapes;
 pub mod stages;
 
 #[cfg(watched)]
+pub mod damaged;
+#[cfg(watched)]
+pub mod hostile;
+#[cfg(watched)]
+pub mod limits;
+#[cfg(watched)]
 pub mod realistic;
 #[cfg(watched)]
 pub mod record;

@@ -1,21 +1,113 @@
-//! Answers every ported stage with the archive and with the original, and compares.
+//! Answers every ported stage with the archive and with the original, and compares bit for bit.
 
+use oracle::call::Outcome;
 use oracle::random::Random;
 use oracle::record::Record;
 use oracle::tally::Tally;
-use oracle::{print, realistic};
+use oracle::{damaged, hostile, limits, ours, print, realistic, refusal, theirs};
+use std::process::ExitCode;
 
-fn main() {
+const USAGE: &str = "usage:
+  compare N SEED                    N generated scenarios, each of many entry calls
+  compare --record FILE COUNT SEED  writes about COUNT of the compared calls to FILE (RECORD.md)
+  compare --paste 'WORDS'           one call, as a difference prints it, answered both ways";
+
+fn main() -> ExitCode {
+    // A panic of the original is caught, counted and told as a difference.
     std::panic::set_hook(Box::new(|_| {}));
     let arguments: Vec<String> = std::env::args().skip(1).collect();
-    let count: u64 = arguments[0].parse().unwrap();
-    let seed: u64 = arguments[1].parse().unwrap();
-    let mut tally = Tally::default();
-    for i in 0..count {
-        let mut rng = Random::new(seed.wrapping_mul(0x1_0000_0001).wrapping_add(i));
-        realistic::scenario(&mut tally, &mut rng);
+    let arguments: Vec<&str> = arguments.iter().map(String::as_str).collect();
+    let done = match arguments[..] {
+        ["--record", file, count, seed] => record(file, count, seed),
+        ["--paste", words] => paste(words),
+        [count, seed] => compare(count, seed),
+        _ => None,
+    };
+    done.unwrap_or_else(|| {
+        eprintln!("{USAGE}");
+        ExitCode::from(2)
+    })
+}
+
+/// One scenario. Its family follows from its number, its content from seed and number.
+fn scenario(tally: &mut Tally, seed: u64, number: u64) {
+    let mut rng = Random::new(seed.wrapping_mul(0x0100_0000_01b3).wrapping_add(number));
+    match number % 10 {
+        0..=4 => realistic::scenario(tally, &mut rng),
+        5..=8 => hostile::scenario(tally, &mut rng),
+        _ => damaged::scenario(tally, &mut rng),
     }
-    tally.report();
-    println!("{}", tally.total());
-    let _ = (Record::new, print::parse);
+    if number % 500 == 0 {
+        limits::scenario(tally, &mut rng);
+    }
+}
+
+fn compare(count: &str, seed: &str) -> Option<ExitCode> {
+    let count: u64 = count.parse().ok()?;
+    let seed: u64 = seed.parse().ok()?;
+    let mut tally = Tally::default();
+    for number in 0..count {
+        scenario(&mut tally, seed, number);
+    }
+    println!("{count} scenarios, seed {seed}\n");
+    let unexplained = tally.report();
+    println!(
+        "\ncompare: {} cases, {unexplained} unexplained differences",
+        tally.total()
+    );
+    Some(ExitCode::from(u8::from(unexplained > 0)))
+}
+
+fn record(file: &str, count: &str, seed: &str) -> Option<ExitCode> {
+    let count: usize = count.parse().ok()?;
+    let seed: u64 = seed.parse().ok()?;
+    let mut tally = Tally::default();
+    tally.record = Some(Record::new(count, seed));
+    let full = |tally: &Tally| tally.record.as_ref().is_some_and(Record::full);
+    for number in (1..100_000).filter(|number| number % 500 != 0) {
+        scenario(&mut tally, seed, number);
+        if full(&tally) {
+            break;
+        }
+    }
+    let record = tally.record.take()?;
+    let bytes = record.bytes();
+    if let Err(fault) = std::fs::write(file, &bytes) {
+        eprintln!("compare: {file}: {fault}");
+        return Some(ExitCode::from(2));
+    }
+    println!(
+        "compare: {} cases written, {} bytes",
+        record.count(),
+        bytes.len()
+    );
+    Some(ExitCode::SUCCESS)
+}
+
+fn paste(words: &str) -> Option<ExitCode> {
+    let call = match print::parse(words) {
+        Ok(call) => call,
+        Err(fault) => {
+            eprintln!("compare: {fault}");
+            return Some(ExitCode::from(2));
+        }
+    };
+    println!("{}", print::call(&call));
+    let ours = match ours::answer(&call) {
+        Ok(ours) => ours,
+        Err(fault) => {
+            println!("{fault}");
+            return Some(ExitCode::from(1));
+        }
+    };
+    let expected = match refusal::expected(&call) {
+        0 => theirs::answer(&call),
+        number => Outcome::refused(&call, number),
+    };
+    if ours == expected {
+        println!("  answer of both  {:x?}", ours.answer);
+        return Some(ExitCode::SUCCESS);
+    }
+    print!("{}", print::difference(&call, &expected, &ours));
+    Some(ExitCode::from(1))
 }

@@ -1,12 +1,19 @@
 //! Writes compared cases to a file of words. RECORD.md describes the layout.
 
-use crate::call::{Call, Outcome};
+use crate::call::{Call, ENTRIES, Outcome};
 use crate::print::input_words;
 use crate::random::Random;
 use crate::tally::Family;
 
 /// "MASKVEC1", as bytes in the order of the file.
 const MAGIC: u64 = u64::from_le_bytes(*b"MASKVEC1");
+
+/// The longest case kept, in words, by entry.
+const LONGEST: [usize; 10] = [70, 90, 60, 50, 70, 140, 230, 230, 330, 60];
+
+/// `mask_validate_for_source` gives 2 for an outline that is too long, and for no other. So one long
+/// case is kept.
+const TOO_LONG: (usize, usize) = (4, 2);
 
 /// Where an expected outcome comes from.
 #[derive(Debug, Clone, Copy, PartialEq, Eq)]
@@ -15,23 +22,34 @@ pub enum Origin {
     Table = 1,
 }
 
-/// Keeps some of the cases offered: as many of each entry, from every family, small ones.
+/// Keeps some of the cases offered: as many of each entry, from every family, with every refusal.
 pub struct Record {
-    wanted: [[usize; 4]; 10],
-    longest: [usize; 10],
+    /// How many are still wanted, by entry, family and refusal number.
+    wanted: [[[usize; 10]; 4]; 10],
     cases: Vec<Vec<u64>>,
     choice: Random,
 }
 
 impl Record {
-    /// Room for `count` cases: one in ten for each entry; of those three in ten realistic, three
-    /// hostile, four damaged.
+    /// Room for about `count` cases: one in ten for each entry. Of those three in ten are realistic,
+    /// three hostile, four damaged; and the damaged ones are shared out over the refusal numbers.
     pub fn new(count: usize, seed: u64) -> Record {
         let each = count.div_ceil(10);
-        let realistic = each * 3 / 10;
+        let accepted = each * 3 / 10;
+        let mut wanted = [[[0; 10]; 4]; 10];
+        for entry in ENTRIES {
+            let of_entry = &mut wanted[entry.number()];
+            of_entry[Family::Realistic as usize][0] = accepted;
+            of_entry[Family::Hostile as usize][0] = accepted;
+            let damaged = &mut of_entry[Family::Damaged as usize];
+            let numbers = entry.refusals();
+            let share = (each - 2 * accepted) / (numbers.len() + 1);
+            numbers.iter().for_each(|number| damaged[*number] = share);
+            damaged[0] = each - 2 * accepted - share * numbers.len();
+        }
+        wanted[TOO_LONG.0][Family::Damaged as usize][TOO_LONG.1] = 1;
         Record {
-            wanted: [[realistic, realistic, each - 2 * realistic, 0]; 10],
-            longest: [70, 90, 60, 50, 70, 140, 260, 260, 400, 60],
+            wanted,
             cases: Vec::new(),
             choice: Random::new(seed),
         }
@@ -39,20 +57,26 @@ impl Record {
 
     pub fn offer(&mut self, family: Family, call: &Call, expected: &Outcome, origin: Origin) {
         let number = call.entry.number();
-        if self.wanted[number][family as usize] == 0 {
+        let left = &mut self.wanted[number][family as usize][expected.answer[0] as usize];
+        if *left == 0 || !self.choice.once_in(5) {
             return;
         }
         let words = case_words(call, expected, origin);
-        if words.len() > self.longest[number] || !self.choice.once_in(5) {
+        let is_too_long = (number, expected.answer[0] as usize) == TOO_LONG;
+        if words.len() > LONGEST[number] && !is_too_long {
             return;
         }
-        self.wanted[number][family as usize] -= 1;
+        *left -= 1;
         self.cases.push(words);
     }
 
     /// Whether every place is taken.
     pub fn full(&self) -> bool {
-        self.wanted.iter().flatten().all(|left| *left == 0)
+        self.wanted
+            .as_flattened()
+            .as_flattened()
+            .iter()
+            .all(|left| *left == 0)
     }
 
     pub fn count(&self) -> usize {

@@ -1,0 +1,268 @@
+//! The damaged family: an accepted call, then every single fault, and pairs of faults. The refusal
+//! table tells what must come of each. Damage that leaves a call accepted is compared with the
+//! original like any other call.
+
+use crate::call::{Call, ENTRIES, Entry, Kind, Param};
+use crate::hostile::{Prunable, any_call};
+use crate::random::Random;
+use crate::refusal;
+use crate::tally::{Family, Tally};
+
+const FAMILY: Family = Family::Damaged;
+const LARGEST: f64 = 1_073_741_824.0;
+const PAIRS: usize = 150;
+const ITEMS_OF_A_LIST: usize = 8;
+
+/// One change to a call.
+#[derive(Debug, Clone)]
+enum Fault {
+    Word(usize, u64),
+    Item(usize, usize, u64),
+    Shorter(usize),
+    Longer(usize),
+    Emptied(usize),
+    RoomShorter(usize),
+    RoomEmptied(usize),
+    /// A count, and its lists with it.
+    Sized(&'static Counted, usize),
+}
+
+/// A count and the lists that have it: position and width of each.
+#[derive(Debug)]
+struct Counted {
+    count: usize,
+    lists: &'static [(usize, usize)],
+    sizes: &'static [usize],
+}
+
+const VERTICES: &[usize] = &[0, 1, 2, 1024, 1025];
+const OUTLINE: Counted = Counted {
+    count: 1,
+    lists: &[(0, 3)],
+    sizes: VERTICES,
+};
+const SECOND_OUTLINE: Counted = Counted {
+    count: 3,
+    lists: &[(2, 3)],
+    sizes: VERTICES,
+};
+const HITS: Counted = Counted {
+    count: 5,
+    lists: &[(3, 2), (4, 2)],
+    sizes: &[0, 1, 512, 513],
+};
+const LAPS: Counted = Counted {
+    count: 8,
+    lists: &[(6, 7), (7, 6)],
+    sizes: &[0, 1, 128, 129],
+};
+const CANDIDATES1: Counted = Counted {
+    count: 7,
+    lists: &[(4, 2), (5, 6), (6, 1)],
+    sizes: &[0, 1, 768, 769],
+};
+const CANDIDATES2: Counted = Counted {
+    count: 11,
+    lists: &[(8, 2), (9, 6), (10, 1)],
+    sizes: &[0, 1, 768, 769],
+};
+const PRUNE_LAPS: Counted = Counted {
+    count: 14,
+    lists: &[(12, 7), (13, 6)],
+    sizes: &[0, 1, 128, 129],
+};
+const SLICES: Counted = Counted {
+    count: 6,
+    lists: &[(4, 4), (5, 6)],
+    sizes: &[0, 1, 1792, 1793],
+};
+const LOOPS: Counted = Counted {
+    count: 1,
+    lists: &[(0, 1)],
+    sizes: &[0, 1, 1792, 1793],
+};
+
+fn counted(entry: Entry) -> &'static [&'static Counted] {
+    match entry {
+        Entry::CutOrder | Entry::Candidates => &[&OUTLINE, &HITS, &LAPS],
+        Entry::Prune => &[&CANDIDATES1, &CANDIDATES2, &PRUNE_LAPS],
+        Entry::Stitch => &[&OUTLINE, &SECOND_OUTLINE, &SLICES],
+        Entry::AreaPass => &[&LOOPS],
+        _ => &[&OUTLINE],
+    }
+}
+
+/// Values that a word of a kind may be replaced with: faults, and the last values that are none.
+fn replacements(kind: Kind, old: u64) -> Vec<u64> {
+    match kind {
+        Kind::Number | Kind::Numbers => [
+            f64::NAN,
+            -f64::NAN,
+            f64::INFINITY,
+            f64::NEG_INFINITY,
+            LARGEST,
+            -LARGEST,
+            LARGEST.next_up(),
+            -LARGEST.next_up(),
+            f64::MAX,
+            0.0,
+            -0.0,
+            -1e-5,
+            1.0,
+            1f64.next_up(),
+            f64::from_bits(1),
+        ]
+        .map(f64::to_bits)
+        .to_vec(),
+        Kind::Count | Kind::Counts => {
+            let (more, less) = (old.wrapping_add(1), old.wrapping_sub(1));
+            let third = u64::MAX / 3 + 1;
+            vec![0, 1, 2, more, less, 1024, 1025, third, 1 << 63, u64::MAX]
+        }
+        Kind::Code => vec![0, 1, 2, 3, 4, u64::from(u32::MAX)],
+        Kind::Bytes => vec![0, 1, 2, 255],
+    }
+}
+
+/// Every single fault of a call. Of a long list some items are taken.
+fn faults(rng: &mut Random, call: &Call) -> Vec<Fault> {
+    let mut faults = Vec::new();
+    for (at, (_, kind)) in call.entry.shape().iter().enumerate() {
+        match &call.inputs[at] {
+            Param::Word(word) => {
+                let values = replacements(*kind, *word);
+                faults.extend(values.into_iter().map(|value| Fault::Word(at, value)));
+            }
+            Param::List(words) => {
+                faults.extend([Fault::Shorter(at), Fault::Longer(at), Fault::Emptied(at)]);
+                for _ in 0..words.len().min(ITEMS_OF_A_LIST) {
+                    let item = rng.below(words.len());
+                    let values = replacements(*kind, words[item]);
+                    faults.extend(values.into_iter().map(|v| Fault::Item(at, item, v)));
+                }
+            }
+        }
+    }
+    for room in 0..call.lent.len() {
+        faults.extend([Fault::RoomShorter(room), Fault::RoomEmptied(room)]);
+    }
+    for counted in counted(call.entry) {
+        let sizes = counted.sizes.iter();
+        faults.extend(sizes.map(|size| Fault::Sized(counted, *size)));
+    }
+    faults
+}
+
+/// A list of another length: cut off, or its own content over and over.
+fn resized(words: &[u64], length: usize) -> Vec<u64> {
+    if words.is_empty() {
+        return vec![0; length];
+    }
+    words.iter().copied().cycle().take(length).collect()
+}
+
+fn list(call: &mut Call, at: usize) -> &mut Vec<u64> {
+    match &mut call.inputs[at] {
+        Param::List(words) => words,
+        Param::Word(_) => panic!("parameter {at} is a word"),
+    }
+}
+
+fn apply(call: &mut Call, fault: &Fault) {
+    match fault {
+        Fault::Word(at, value) => call.inputs[*at] = Param::Word(*value),
+        Fault::Item(at, item, value) => {
+            if let Some(word) = list(call, *at).get_mut(*item) {
+                *word = *value;
+            }
+        }
+        Fault::Shorter(at) => {
+            list(call, *at).pop();
+        }
+        Fault::Longer(at) => list(call, *at).push(0),
+        Fault::Emptied(at) => list(call, *at).clear(),
+        Fault::RoomShorter(room) => {
+            call.lent[*room].pop();
+        }
+        Fault::RoomEmptied(room) => call.lent[*room].clear(),
+        Fault::Sized(counted, size) => {
+            call.inputs[counted.count] = Param::Word(*size as u64);
+            for (at, width) in counted.lists {
+                let words = list(call, *at);
+                *words = resized(words, width * size);
+            }
+            refit_splits(call);
+        }
+    }
+}
+
+/// The splits follow from the counts of hits and laps. So they are laid out anew with them.
+fn refit_splits(call: &mut Call) {
+    if call.entry != Entry::Candidates {
+        return;
+    }
+    let hits = list(call, 3).len() / 2;
+    let laps = list(call, 6).len() / 7;
+    let splits = list(call, 9);
+    *splits = resized(splits, 9 * (hits + 2 * laps));
+}
+
+/// Room for the largest need, so that a large count is accepted.
+fn widen(rng: &mut Random, call: &mut Call) {
+    for content in &mut call.lent {
+        *content = (0..20_000).map(|_| rng.word() | 1).collect();
+    }
+}
+
+/// One accepted call of an entry and all its damage.
+pub fn scenario(tally: &mut Tally, rng: &mut Random) {
+    let entry = rng.pick(&ENTRIES);
+    if entry == Entry::Prune {
+        let case = Prunable::new(rng);
+        let mode = rng.below(4) as u64;
+        let base = case.call(rng, mode);
+        damage(tally, rng, &base, Some(&case));
+    } else {
+        let base = any_call(rng, entry);
+        damage(tally, rng, &base, None);
+    }
+}
+
+fn damage(tally: &mut Tally, rng: &mut Random, base: &Call, case: Option<&Prunable>) {
+    assert!(refusal::expected(base) == 0, "the call must be accepted");
+    let singles = faults(rng, base);
+    for fault in &singles {
+        let mut call = base.clone();
+        apply(&mut call, fault);
+        judge(tally, base, &call, case);
+        if matches!(fault, Fault::Sized(..)) {
+            widen(rng, &mut call);
+            judge(tally, base, &call, case);
+        }
+    }
+    for _ in 0..PAIRS {
+        let mut call = base.clone();
+        apply(&mut call, &singles[rng.below(singles.len())]);
+        apply(&mut call, &singles[rng.below(singles.len())]);
+        judge(tally, base, &call, case);
+    }
+}
+
+/// Compares a damaged call. A prune that is still accepted is compared only where the candidates and
+/// overlaps are those that the original slices itself; else it is passed over, and not counted.
+fn judge(tally: &mut Tally, base: &Call, call: &Call, case: Option<&Prunable>) {
+    match case {
+        None => {
+            tally.compare(FAMILY, call);
+        }
+        Some(case) => {
+            let same_slicing = (0..base.inputs.len())
+                .filter(|at| ![0, 1, 6, 10].contains(at))
+                .all(|at| base.inputs[at] == call.inputs[at]);
+            let comparable = same_slicing && !case.may_have_ties();
+            if refusal::expected(call) != 0 || comparable {
+                tally.compare_with(FAMILY, call, || case.original(call));
+            }
+        }
+    }
+}
