@@ -1,0 +1,215 @@
+// Pruned, then stitched: T3, T4, T5 and T9. Without slices: T8.
+use crate::corners;
+use crate::print;
+use crate::squares;
+use select::class::Starts;
+
+// The slices of a mode, as they stay: A's first candidate is inside B, B's second inside A. Says where their classes start.
+fn prune(
+    mode: u32,
+    at_a: &[usize],
+    shape_a: &[f64],
+    count_a: usize,
+    at_b: &[usize],
+    shape_b: &[f64],
+    count_b: usize,
+    at: &mut [usize],
+    shape: &mut [f64],
+) -> Starts {
+    let inside_a = [1u8, 0];
+    let inside_b = [0u8, 1];
+    let lap_at = [0usize; 0];
+    let lap = [0.0; 0];
+    let answer = mask::pruning::mask_prune(
+        mode,
+        0,
+        4,
+        4,
+        at_a,
+        shape_a,
+        &inside_a,
+        count_a,
+        at_b,
+        shape_b,
+        &inside_b,
+        count_b,
+        &lap_at,
+        &lap,
+        0,
+        at,
+        shape,
+    );
+    print::whole(answer.slices);
+    print::word(b" slices, starts");
+    print::three(
+        answer.starts.pline2,
+        answer.starts.pline1_overlapping,
+        answer.starts.pline2_overlapping,
+    );
+    answer.starts
+}
+
+// Stitches slices of the two squares and says what came of it: the rounds, and the loop where there is one.
+pub(crate) fn stitch(
+    slice_at: &[usize],
+    slice: &[f64],
+    slices: usize,
+    starts: Starts,
+    selector: u32,
+    tolerance: f64,
+    room: &mut [f64],
+) {
+    let a = squares::a();
+    let b = squares::b();
+    let mut ends = [0usize; 2];
+    let mut chain = [0usize; 2];
+    let mut chain_ends = [0usize; 2];
+    let mut chain_how = [0usize; 2];
+    print::word(b"; room for ");
+    print::whole(room.len() / 3);
+    print::word(b": ");
+    let answer = mask::stitching::mask_stitch(
+        &a,
+        4,
+        &b,
+        4,
+        slice_at,
+        slice,
+        slices,
+        starts.pline2,
+        starts.pline1_overlapping,
+        starts.pline2_overlapping,
+        selector,
+        tolerance,
+        room,
+        &mut ends,
+        &mut chain,
+        &mut chain_ends,
+        &mut chain_how,
+    );
+    if answer.refusal != 0 {
+        print::refused(answer.refusal);
+        return;
+    }
+    print::whole(answer.rounds);
+    print::word(b" rounds, ");
+    print::whole(answer.loops);
+    print::word(b" loops\n");
+    if answer.loops == 0 {
+        return;
+    }
+    print::word(b"   loop of ");
+    print::whole(ends[0]);
+    print::word(b":");
+    corners::list(room, ends[0]);
+}
+
+// The stitch of the first two slices of a list, with room for so many numbers.
+fn stitch_two(
+    at: &[usize],
+    shape: &[f64],
+    starts: Starts,
+    selector: u32,
+    numbers: usize,
+    room: &mut [f64],
+) {
+    if at.len() < 8 {
+        return;
+    }
+    if shape.len() < 12 {
+        return;
+    }
+    if numbers > room.len() {
+        return;
+    }
+    stitch(
+        &at[..8],
+        &shape[..12],
+        2,
+        starts,
+        selector,
+        squares::TOLERANCE,
+        &mut room[..numbers],
+    );
+}
+
+// A mode of the two squares, by its selector, with room for so many numbers, three to a vertex.
+fn of_mode(
+    mode: u32,
+    selector: u32,
+    numbers: usize,
+    at_a: &[usize],
+    shape_a: &[f64],
+    count_a: usize,
+    at_b: &[usize],
+    shape_b: &[f64],
+    count_b: usize,
+) {
+    let mut at = [0usize; 16];
+    let mut shape = [0.0; 24];
+    let starts = prune(
+        mode,
+        at_a,
+        shape_a,
+        count_a,
+        at_b,
+        shape_b,
+        count_b,
+        &mut at,
+        &mut shape,
+    );
+    let mut room = [0.0; 27];
+    stitch_two(&at, &shape, starts, selector, numbers, &mut room);
+}
+
+// T3, T4 and T5, each with the room that it needs.
+pub(crate) fn modes(
+    at_a: &[usize],
+    shape_a: &[f64],
+    count_a: usize,
+    at_b: &[usize],
+    shape_b: &[f64],
+    count_b: usize,
+) {
+    print::word(b"T3 union: ");
+    of_mode(0, 0, 27, at_a, shape_a, count_a, at_b, shape_b, count_b);
+    print::word(b"T4 intersection: ");
+    of_mode(1, 0, 15, at_a, shape_a, count_a, at_b, shape_b, count_b);
+    print::word(b"T5 A without B: ");
+    of_mode(2, 1, 21, at_a, shape_a, count_a, at_b, shape_b, count_b);
+}
+
+// T9: the union with one vertex less.
+pub(crate) fn short_room(
+    at_a: &[usize],
+    shape_a: &[f64],
+    count_a: usize,
+    at_b: &[usize],
+    shape_b: &[f64],
+    count_b: usize,
+) {
+    print::word(b"T9 union: ");
+    of_mode(0, 0, 24, at_a, shape_a, count_a, at_b, shape_b, count_b);
+}
+
+// T8.
+pub(crate) fn nothing() {
+    print::word(b"T8 no slices");
+    let slice_at = [0usize; 0];
+    let slice = [0.0; 0];
+    let mut room = [0.0; 0];
+    let starts = Starts {
+        pline2: 0,
+        pline1_overlapping: 0,
+        pline2_overlapping: 0,
+    };
+    stitch(
+        &slice_at,
+        &slice,
+        0,
+        starts,
+        0,
+        squares::TOLERANCE,
+        &mut room,
+    );
+}
