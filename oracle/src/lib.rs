@@ -16,6 +16,8 @@ pub mod stages;
 #[cfg(watched)]
 pub mod damaged;
 #[cfg(watched)]
+pub mod findings;
+#[cfg(watched)]
 pub mod hostile;
 #[cfg(watched)]
 pub mod limits;

@@ -81,9 +81,9 @@ fn point(rng: &mut Random) -> [f64; 2] {
     [rng.between(-1000.0, 1000.0), rng.between(-1000.0, 1000.0)]
 }
 
-/// Hits and laps spread over the outlines, or all on few segments of them.
+/// Hits and laps spread over the outlines, or on few segments of them, or all on one.
 fn shared(rng: &mut Random, hits: usize, laps: usize) -> Shared {
-    let segments = rng.pick(&[VERTICES, VERTICES, 100]);
+    let segments = rng.pick(&[VERTICES, VERTICES, 100, 1]);
     let mut shared = Shared::default();
     for _ in 0..hits {
         shared

@@ -4,13 +4,14 @@ use oracle::call::Outcome;
 use oracle::random::Random;
 use oracle::record::Record;
 use oracle::tally::Tally;
-use oracle::{damaged, hostile, limits, ours, print, realistic, refusal, theirs};
+use oracle::{damaged, findings, hostile, limits, ours, print, realistic, refusal, theirs};
 use std::process::ExitCode;
 
 const USAGE: &str = "usage:
   compare N SEED                    N generated scenarios, each of many entry calls
   compare --record FILE COUNT SEED  writes about COUNT of the compared calls to FILE (RECORD.md)
-  compare --paste 'WORDS'           one call, as a difference prints it, answered both ways";
+  compare --paste 'WORDS'           one call, as a difference prints it, answered both ways
+  compare --findings                the known differences, each at its smallest input";
 
 fn main() -> ExitCode {
     // A panic of the original is caught, counted and told as a difference.
@@ -20,6 +21,10 @@ fn main() -> ExitCode {
     let done = match arguments[..] {
         ["--record", file, count, seed] => record(file, count, seed),
         ["--paste", words] => paste(words),
+        ["--findings"] => {
+            findings::show();
+            Some(ExitCode::SUCCESS)
+        }
         [count, seed] => compare(count, seed),
         _ => None,
     };

@@ -107,6 +107,35 @@ impl Pair {
         }
     }
 
+    /// Moves each overlap's view to where the overlap starts. The crate leaves the start index as it was
+    /// where it joins the last overlap to the first.
+    pub fn repair_overlaps(&mut self) {
+        let pline2 = &self.plines[1];
+        for at in self.shared.lap_at.chunks_exact_mut(7) {
+            at[5] = at[1];
+            at[6] = pline2.fwd_wrapping_dist(at[1], at[3]);
+        }
+        let shared = &self.shared;
+        self.info = stages::info(
+            &shared.hit_at,
+            &shared.hit,
+            &shared.lap_at,
+            &shared.lap,
+            self.info.opposing_directions(),
+        );
+    }
+
+    /// The archive's union, or the number with which the prune is refused.
+    pub fn union(&self, tally: &mut Tally, rng: &mut Random) -> Result<Vec<Vec<f64>>, u64> {
+        let first = self.slice(tally, rng, 0).ok_or(0u64)?;
+        let second = self.slice(tally, rng, 1).ok_or(0u64)?;
+        let pruned = self.prune(tally, rng, 0, &first, &second);
+        if pruned.answer[0] != 0 {
+            return Err(pruned.answer[0]);
+        }
+        self.loops(tally, rng, &pruned, 0).ok_or(0)
+    }
+
     fn run(&self, tally: &mut Tally, rng: &mut Random, limit: f64) {
         for which in 0..2 {
             self.whole_outline(tally, which);
@@ -312,17 +341,14 @@ impl Pair {
         }
     }
 
-    /// Prune, both stitches and the area pass of one mode. Gives the loops that the mode's own
-    /// selector makes and that the area pass keeps.
-    fn mode(
+    fn prune(
         &self,
         tally: &mut Tally,
         rng: &mut Random,
         mode: u64,
         first: &Sliced,
         second: &Sliced,
-        limit: f64,
-    ) -> Option<Vec<Vec<f64>>> {
+    ) -> Outcome {
         let opposing = self.info.opposing_directions();
         let vc = self.plines.each_ref().map(PlineSource::vertex_count);
         let call = cases::prune(
@@ -353,6 +379,21 @@ impl Pair {
             let need = candidates + 2 * self.shared.laps();
             theirs::prune_outcome(&pruned, need, &call.lent)
         });
+        pruned
+    }
+
+    /// Prune, both stitches and the area pass of one mode. Gives the loops that the mode's own
+    /// selector makes and that the area pass keeps.
+    fn mode(
+        &self,
+        tally: &mut Tally,
+        rng: &mut Random,
+        mode: u64,
+        first: &Sliced,
+        second: &Sliced,
+        limit: f64,
+    ) -> Option<Vec<Vec<f64>>> {
+        let pruned = self.prune(tally, rng, mode, first, second);
         if pruned.answer[0] != 0 {
             return None;
         }
