@@ -1,6 +1,6 @@
 //! Compares one call after the other, and counts.
 
-use crate::call::{Call, ENTRIES, Entry, Outcome};
+use crate::call::{Call, ENTRIES, Entry, Outcome, Param};
 use crate::record::{Origin, Record};
 use crate::{ours, print, refusal, theirs};
 use std::collections::BTreeMap;
@@ -190,89 +190,93 @@ impl Tally {
 pub const AREA_SIGN: &str = "area sign: the original drops by the area without its sign";
 pub const TIES: &str = "ties: 33 or more cuts on one segment, equal distances";
 
-/// The name of a known difference, where it accounts for all that differs.
+/// The name of a known difference, where it accounts for all that differs: with that one thing done as
+/// document 01 says, the original's outcome is ours.
 fn explanation(call: &Call, expected: &Outcome, ours: &Outcome) -> Option<&'static str> {
+    if expected.answer[0] != 0 {
+        return None;
+    }
     match call.entry {
-        Entry::AreaPass if is_area_sign(call, expected, ours) => Some(AREA_SIGN),
-        Entry::CutOrder if is_tie(call, expected, ours) => Some(TIES),
-        Entry::Candidates if order_is_tie(call) => Some(TIES),
+        Entry::AreaPass if without_negative(call, expected) == *ours => Some(AREA_SIGN),
+        Entry::CutOrder if in_order_of_arrival(call, expected) == *ours => Some(TIES),
+        Entry::Candidates if order_is_tied(call) && frame_holds(call, ours) => Some(TIES),
         _ => None,
     }
 }
 
-/// The original keeps exactly those loops more that have a negative area of the limit's size or more.
-fn is_area_sign(call: &Call, expected: &Outcome, ours: &Outcome) -> bool {
+/// The original's area pass, less the loops that it keeps for the size of a negative area.
+fn without_negative(call: &Call, expected: &Outcome) -> Outcome {
     let mut r = call.read();
     let areas = r.list();
-    r.count();
-    let limit = r.number();
-    let kept = |outcome: &Outcome| outcome.lent[0][..outcome.answer[1] as usize].to_vec();
-    let not_negative = |number: &u64| {
-        let area = f64::from_bits(areas[*number as usize]);
-        area >= 0.0 || area.abs() < limit
-    };
-    let mut theirs = kept(expected);
-    theirs.retain(not_negative);
-    theirs == kept(ours)
+    let mut kept = expected.lent[0][..expected.answer[1] as usize].to_vec();
+    kept.retain(|number| f64::from_bits(areas[*number as usize]) >= 0.0);
+    let mut outcome = expected.clone();
+    outcome.answer[1] = kept.len() as u64;
+    outcome.lent[0][..areas.len()].fill(0);
+    outcome.lent[0][..kept.len()].copy_from_slice(&kept);
+    outcome
 }
 
-/// The cuts of an outcome: segment, mark, arrival and point of each.
-fn cuts_of(outcome: &Outcome) -> Vec<(u64, u64, u64, [f64; 2])> {
-    let count = outcome.answer[1] as usize;
-    let at = outcome.lent[0].chunks_exact(3).take(count);
-    let points = outcome.lent[1].chunks_exact(2);
-    at.zip(points)
-        .map(|(c, p)| {
-            (
-                c[0],
-                c[1],
-                c[2],
-                [f64::from_bits(p[0]), f64::from_bits(p[1])],
-            )
-        })
-        .collect()
-}
-
-/// Both have the same segments and distances; where a cut differs, its segment has 33 or more; and
-/// ours keeps the order of arrival among equal distances.
-fn is_tie(call: &Call, expected: &Outcome, ours: &Outcome) -> bool {
-    if expected.answer != ours.answer {
-        return false;
-    }
+/// The original's cuts, with those of equal distance on a segment of 33 or more in order of arrival.
+fn in_order_of_arrival(call: &Call, expected: &Outcome) -> Outcome {
     let mut r = call.read();
     let outline = r.list();
-    let distance = |segment: u64, p: [f64; 2]| {
-        let corner = &outline[3 * segment as usize..];
-        let dx = p[0] - f64::from_bits(corner[0]);
-        let dy = p[1] - f64::from_bits(corner[1]);
+    let count = expected.answer[1] as usize;
+    let at = |k: usize| &expected.lent[0][3 * k..3 * k + 3];
+    let point = |k: usize| &expected.lent[1][2 * k..2 * k + 2];
+    let distance = |k: usize| {
+        let corner = &outline[3 * at(k)[0] as usize..];
+        let dx = f64::from_bits(point(k)[0]) - f64::from_bits(corner[0]);
+        let dy = f64::from_bits(point(k)[1]) - f64::from_bits(corner[1]);
         dx * dx + dy * dy
     };
-    let theirs = cuts_of(expected);
-    let ours = cuts_of(ours);
-    let on_segment = |segment: u64| ours.iter().filter(|cut| cut.0 == segment).count();
-    let same_up_to_ties = theirs.iter().zip(&ours).all(|(a, b)| {
-        a.0 == b.0
-            && distance(a.0, a.3) == distance(b.0, b.3)
-            && (a.2 == b.2 || on_segment(a.0) >= 33)
-    });
-    let stable = ours.windows(2).all(|pair| {
-        pair[0].0 != pair[1].0
-            || distance(pair[0].0, pair[0].3) != distance(pair[1].0, pair[1].3)
-            || pair[0].2 < pair[1].2
-    });
-    same_up_to_ties && stable
+    let mut order: Vec<usize> = (0..count).collect();
+    for segment in order.chunk_by_mut(|a, b| at(*a)[0] == at(*b)[0]) {
+        if segment.len() >= 33 {
+            segment.sort_by(|a, b| {
+                let by_distance = distance(*a).total_cmp(&distance(*b));
+                by_distance.then(at(*a)[2].cmp(&at(*b)[2]))
+            });
+        }
+    }
+    let mut outcome = expected.clone();
+    for (place, k) in order.into_iter().enumerate() {
+        outcome.lent[0][3 * place..3 * place + 3].copy_from_slice(at(k));
+        outcome.lent[1][2 * place..2 * place + 2].copy_from_slice(point(k));
+    }
+    outcome
 }
 
-/// Whether the order of the same cuts already differs by ties. Then the splits are of other cuts.
-fn order_is_tie(call: &Call) -> bool {
+/// Whether the order of the same cuts already differs by ties. Then the splits are of other cuts, and
+/// the original has no answer to compare with.
+fn order_is_tied(call: &Call) -> bool {
     let mut order = Call::new(Entry::CutOrder);
     order.inputs = call.inputs.clone();
     order.inputs.remove(9);
-    let cuts = call.lent[0].len();
-    order.lent = vec![vec![1; 3 * cuts], vec![1; 2 * cuts]];
+    let room = 3 * call.lent[0].len();
+    order.lent = vec![vec![1; room], vec![1; room]];
     let Ok(ours) = ours::answer(&order) else {
         return false;
     };
     let expected = theirs::answer(&order);
-    expected != ours && is_tie(&order, &expected, &ours)
+    expected != ours && in_order_of_arrival(&order, &expected) == ours
+}
+
+/// Whether candidates are accepted, at most one per cut, with 0 up to the need and nothing beyond.
+fn frame_holds(call: &Call, ours: &Outcome) -> bool {
+    let length = |at: usize| match &call.inputs[at] {
+        Param::List(words) => words.len(),
+        Param::Word(_) => 0,
+    };
+    let need = length(3) / 2 + 2 * (length(6) / 7);
+    let count = ours.answer[1] as usize;
+    let widths = [2, 6, 6];
+    ours.answer[0] == 0
+        && count <= need
+        && (0..3).all(|i| {
+            let (list, width) = (&ours.lent[i], widths[i]);
+            let beyond = width * need;
+            list[width * count..beyond].iter().all(|word| *word == 0)
+                && list[beyond..] == call.lent[i][beyond..]
+        })
 }
