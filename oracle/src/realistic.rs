@@ -205,7 +205,7 @@ impl Pair {
             let call = cases::create(outline, &case);
             let made = tally.compare(FAMILY, &call);
             tally.check("create, the crate's own split", &call, || {
-                let view = PlineViewData::create(
+                let view = stages::create(
                     pline,
                     start,
                     end,
@@ -270,7 +270,7 @@ impl Pair {
         let ours = tally.compare(FAMILY, &call);
         tally.check("verdict, the crate's own closest point", &call, || {
             let data = stages::view_data(view.start, view.offset, &n, view.inverted);
-            theirs::verdict_answer(data.validate_for_source(pline))
+            theirs::verdict_answer(stages::validate(pline, &data))
         });
         ours.answer[1]
     }

@@ -7,14 +7,18 @@ use cavalier_contours::polyline::internal::pline_boolean::{
     SliceStarts, StitchSelector, process_for_boolean, prune_slices, slice_at_intersects,
     stitch_slices_into_closed_polylines,
 };
+use cavalier_contours::polyline::internal::pline_boolean_and_lookup as opened;
 use cavalier_contours::polyline::internal::pline_intersects::OverlappingSlice;
 use cavalier_contours::polyline::{
     BooleanPlineSlice, BooleanResultPline, PlineBasicIntersect, PlineCreation, PlineOrientation,
-    PlineSource, PlineVertex, PlineViewData, Polyline,
+    PlineSource, PlineVertex, PlineView, PlineViewData, Polyline, ViewDataValidation,
 };
 
 pub type Info = ProcessForBooleanResult<f64>;
 pub type Slice = BooleanPlineSlice<f64>;
+
+/// Cuts segment by segment; of each cut its point and its overlap mark.
+pub type Lookup = Vec<(usize, Vec<(Vector2, bool)>)>;
 
 /// A closed outline of three numbers to a vertex.
 pub fn outline(numbers: &[f64]) -> Polyline {
@@ -84,6 +88,74 @@ pub fn find_shared(pline1: &Polyline, pline2: &Polyline, tolerance: f64) -> Info
         &pline1.create_approx_aabb_index(),
         tolerance,
     )
+}
+
+/// One vertex of a view.
+pub fn view_vertex(pline: &Polyline, view: PlineViewData, index: usize) -> Option<PlineVertex> {
+    PlineView::new(pline, view).get(index)
+}
+
+/// All vertices of a view.
+pub fn view_vertices(pline: &Polyline, view: PlineViewData) -> Vec<PlineVertex> {
+    PlineView::new(pline, view).iter_vertexes().collect()
+}
+
+pub fn create(
+    pline: &Polyline,
+    start_index: usize,
+    end_intersect: Vector2,
+    intersect_index: usize,
+    updated_start: PlineVertex,
+    traverse_count: usize,
+    tolerance: f64,
+) -> PlineViewData {
+    PlineViewData::create(
+        pline,
+        start_index,
+        end_intersect,
+        intersect_index,
+        updated_start,
+        traverse_count,
+        tolerance,
+    )
+}
+
+pub fn create_on_single_segment(
+    pline: &Polyline,
+    start_index: usize,
+    updated_start: PlineVertex,
+    end_intersect: Vector2,
+    tolerance: f64,
+) -> Option<PlineViewData> {
+    PlineViewData::create_on_single_segment(
+        pline,
+        start_index,
+        updated_start,
+        end_intersect,
+        tolerance,
+    )
+}
+
+pub fn from_entire_pline(pline: &Polyline) -> PlineViewData {
+    PlineViewData::from_entire_pline(pline)
+}
+
+pub fn validate<P>(pline: &P, view: &PlineViewData) -> ViewDataValidation<f64>
+where
+    P: PlineSource<Num = f64>,
+{
+    view.validate_for_source(pline)
+}
+
+/// The cuts of one outline in their order, from the private function in the second copy of its file.
+pub fn cut_order(pline: &Polyline, info: Info, second: bool, tolerance: f64) -> Lookup {
+    let info = opened::ProcessForBooleanResult {
+        overlapping_slices: info.overlapping_slices,
+        intersects: info.intersects,
+        pline1_orientation: info.pline1_orientation,
+        pline2_orientation: info.pline2_orientation,
+    };
+    opened::cuts_in_order(pline, &info, second, tolerance)
 }
 
 /// Every candidate of one outline, whatever its inside answer.

@@ -23,11 +23,10 @@ use cavalier_contours::core::math::Vector2;
 use cavalier_contours::polyline::internal::pline_boolean::{
     PrunedSlices, SliceStarts, StitchSelector,
 };
-use cavalier_contours::polyline::internal::pline_boolean_and_lookup as opened;
 use cavalier_contours::polyline::watch::{Host, set_host};
 use cavalier_contours::polyline::{
-    PlineCreation, PlineSource, PlineSourceMut, PlineVertex, PlineView, PlineViewData, Polyline,
-    SplitResult, ViewDataValidation,
+    PlineCreation, PlineSource, PlineSourceMut, PlineVertex, PlineViewData, Polyline, SplitResult,
+    ViewDataValidation,
 };
 use static_aabb2d_index::queries;
 use std::cell::{Cell, RefCell};
@@ -114,8 +113,8 @@ fn written(at_entry: &[u64], items: &[u64], need: usize) -> Vec<u64> {
 fn view_vertex(r: &mut Reader) -> Outcome {
     let pline = stages::outline(&numbers_of(r.list()));
     r.count();
-    let view = PlineView::new(&pline, view(r));
-    let vertex = view.get(r.count());
+    let view = view(r);
+    let vertex = stages::view_vertex(&pline, view, r.count());
     let mut answer = vec![0, u64::from(vertex.is_some())];
     answer.extend(vertex.map_or([0; 3], vertex_words));
     Outcome {
@@ -152,7 +151,7 @@ fn create(r: &mut Reader) -> Outcome {
         split_vertex: vertex(r),
     };
     let view = with_host(OneSplit(split), || {
-        PlineViewData::create(
+        stages::create(
             &pline,
             start_index,
             end_intersect,
@@ -171,7 +170,7 @@ fn create_on_single_segment(r: &mut Reader) -> Outcome {
     let start_index = r.count();
     let updated_start = vertex(r);
     let end_intersect = point(r);
-    view_answer(PlineViewData::create_on_single_segment(
+    view_answer(stages::create_on_single_segment(
         &pline,
         start_index,
         updated_start,
@@ -184,7 +183,7 @@ fn from_entire_pline(r: &mut Reader) -> Outcome {
     let vertices = stages::vertices(&numbers_of(r.list()));
     r.count();
     let pline = Polyline::from_vertexes(vertices, r.code() == 1);
-    view_answer(Some(PlineViewData::from_entire_pline(&pline)))
+    view_answer(Some(stages::from_entire_pline(&pline)))
 }
 
 /// An outline that the host stands behind: it counts how often a vertex is read, and it may answer
@@ -284,7 +283,7 @@ fn validate_for_source(r: &mut Reader) -> Outcome {
         start: r.code() == 1,
         end: r.code() == 1,
     };
-    verdict_answer(with_host(host, || view.validate_for_source(&pline)))
+    verdict_answer(with_host(host, || stages::validate(&pline, &view)))
 }
 
 /// The verdict as the archive's answer.
@@ -374,22 +373,6 @@ impl OneOutline {
     }
 }
 
-/// The same content, as the type of the second copy.
-fn as_opened(info: Info) -> opened::ProcessForBooleanResult<f64> {
-    opened::ProcessForBooleanResult {
-        overlapping_slices: info.overlapping_slices,
-        intersects: info.intersects,
-        pline1_orientation: info.pline1_orientation,
-        pline2_orientation: info.pline2_orientation,
-    }
-}
-
-type Lookup = Vec<(usize, Vec<(Vector2, bool)>)>;
-
-fn lookup(pline: &Polyline, info: Info, second: bool, tolerance: f64) -> Lookup {
-    opened::cuts_in_order(pline, &as_opened(info), second, tolerance)
-}
-
 /// Segment, point and mark of a cut. Two cuts that agree here are alike to the original.
 type Alike = (usize, [u64; 2], bool);
 
@@ -406,7 +389,7 @@ fn arrivals(pline: &Polyline, info: &Info, second: bool, tolerance: f64) -> Vec<
             ..*info
         };
         let mut cuts = Vec::new();
-        for (segment, list) in lookup(pline, alone, second, tolerance) {
+        for (segment, list) in stages::cut_order(pline, alone, second, tolerance) {
             cuts.extend(list.iter().map(|(p, marked)| alike(segment, *p, *marked)));
         }
         cuts
@@ -436,7 +419,7 @@ pub fn cuts(pline: &Polyline, info: &Info, second: bool, tolerance: f64) -> Vec<
     };
     let mut given = vec![false; arrivals.len()];
     let mut cuts = Vec::new();
-    for (segment, list) in lookup(pline, whole, second, tolerance) {
+    for (segment, list) in stages::cut_order(pline, whole, second, tolerance) {
         for (point, marked) in list {
             let kind = alike(segment, point, marked);
             let arrival = (0..arrivals.len())
@@ -976,7 +959,7 @@ fn area_pass(r: &mut Reader, lent: &[Vec<u64>]) -> Outcome {
     let limit = r.number();
     let triangle = stages::outline(&[0.0, 0.0, 0.0, 4.0, 0.0, 0.0, 0.0, 4.0, 0.0]);
     let whole = Slice {
-        view_data: PlineViewData::from_entire_pline(&triangle),
+        view_data: stages::from_entire_pline(&triangle),
         source_is_pline1: true,
         overlapping: false,
     };
