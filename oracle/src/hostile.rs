@@ -360,7 +360,7 @@ pub struct Prunable {
     shared: Shared,
     splits: [Vec<f64>; 2],
     lists: [CandidateLists; 2],
-    found: [(Call, Outcome); 2],
+    slicing: [Call; 2],
     opposing: bool,
     tolerance: f64,
 }
@@ -372,7 +372,7 @@ impl Prunable {
         let outlines = [outline(rng, t, 2), outline(rng, t, 2)];
         let shared = shared(rng, [&outlines[0], &outlines[1]], t);
         let splits = [splits(rng, shared.cuts(), t), splits(rng, shared.cuts(), t)];
-        let mut found = Vec::new();
+        let mut slicing = Vec::new();
         let mut lists = Vec::new();
         for which in 0..2 {
             let call = cases::candidates(
@@ -390,14 +390,14 @@ impl Prunable {
                 numbers: outcome.lent[1][..6 * count].to_vec(),
                 inside: (0..count).map(|_| rng.below(2) as u64).collect(),
             });
-            found.push((call, outcome));
+            slicing.push(call);
         }
         Prunable {
             outlines,
             shared,
             splits,
             lists: lists.try_into().unwrap(),
-            found: found.try_into().unwrap(),
+            slicing: slicing.try_into().unwrap(),
             opposing: rng.once_in(2),
             tolerance: t,
         }
@@ -443,7 +443,7 @@ fn pair(tally: &mut Tally, rng: &mut Random) {
     if case.may_have_ties() {
         return;
     }
-    for (call, _) in &case.found {
+    for call in &case.slicing {
         tally.compare(FAMILY, call);
     }
     for mode in 0..4 {

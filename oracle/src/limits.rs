@@ -140,7 +140,9 @@ fn prunes(tally: &mut Tally, rng: &mut Random, outlines: &[Vec<f64>; 2]) {
         );
         let found = theirs::answer(&call);
         let count = found.answer[1] as usize;
-        assert!(count == CANDIDATES, "the random points are all apart");
+        tally.claim("768 candidates of one outline", count == CANDIDATES, || {
+            format!("{count} only")
+        });
         lists.push(CandidateLists {
             at: found.lent[0][..2 * count].to_vec(),
             numbers: found.lent[1][..6 * count].to_vec(),

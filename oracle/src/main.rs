@@ -3,7 +3,7 @@
 use oracle::call::Outcome;
 use oracle::random::Random;
 use oracle::record::Record;
-use oracle::tally::Tally;
+use oracle::tally::{Tally, quiet_caught_panics};
 use oracle::{damaged, findings, hostile, limits, ours, print, realistic, refusal, theirs};
 use std::process::ExitCode;
 
@@ -14,8 +14,7 @@ const USAGE: &str = "usage:
   compare --findings                the known differences, each at its smallest input";
 
 fn main() -> ExitCode {
-    // A panic of the original is caught, counted and told as a difference.
-    std::panic::set_hook(Box::new(|_| {}));
+    quiet_caught_panics();
     let arguments: Vec<String> = std::env::args().skip(1).collect();
     let arguments: Vec<&str> = arguments.iter().map(String::as_str).collect();
     let done = match arguments[..] {

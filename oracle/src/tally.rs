@@ -5,6 +5,7 @@ use crate::record::{Origin, Record};
 use crate::{ours, print, refusal, theirs};
 use std::collections::BTreeMap;
 use std::panic::{AssertUnwindSafe, catch_unwind};
+use std::sync::atomic::{AtomicBool, Ordering};
 
 #[derive(Debug, Clone, Copy, PartialEq, Eq)]
 pub enum Family {
@@ -23,6 +24,19 @@ pub const FAMILIES: [Family; 4] = [
 
 /// Differences that are written out. The others are only counted.
 const SHOWN: u64 = 20;
+
+/// Whether a panic is caught and told as a difference.
+static CATCHING: AtomicBool = AtomicBool::new(false);
+
+/// A panic of the original is told once, with its input. Any other panic is told as usual.
+pub fn quiet_caught_panics() {
+    let usual = std::panic::take_hook();
+    std::panic::set_hook(Box::new(move |panic| {
+        if !CATCHING.load(Ordering::Relaxed) {
+            usual(panic);
+        }
+    }));
+}
 
 #[derive(Default)]
 pub struct Tally {
@@ -107,7 +121,9 @@ impl Tally {
 
     /// The original's outcome, or none where it panicked. A panic is a difference.
     fn run(&mut self, call: &Call, original: impl FnOnce() -> Outcome) -> Option<Outcome> {
+        CATCHING.store(true, Ordering::Relaxed);
         let outcome = catch_unwind(AssertUnwindSafe(original)).ok();
+        CATCHING.store(false, Ordering::Relaxed);
         if outcome.is_none() {
             self.complain("the original panicked", &print::call(call));
         }
