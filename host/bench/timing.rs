@@ -1,0 +1,84 @@
+//! Times side by side. The sides take turns, batch after batch, so that other load on the machine
+//! meets all of them. What counts are the ratios of batches that ran next to each other.
+
+use std::time::{Duration, Instant};
+
+/// How long a batch of calls is to take.
+const BATCH: Duration = Duration::from_micros(150);
+/// How long all batches of one case may take, about.
+const CASE: Duration = Duration::from_millis(1200);
+const LEAST_ROUNDS: usize = 41;
+const MOST_ROUNDS: usize = 401;
+
+/// Nanoseconds of a call, by side and round.
+pub struct Times(Vec<Vec<f64>>);
+
+/// The middle of the ratios, and the bounds of their middle half.
+#[derive(Clone, Copy)]
+pub struct Ratio {
+    pub low: f64,
+    pub middle: f64,
+    pub high: f64,
+}
+
+fn sorted(values: impl Iterator<Item = f64>) -> Vec<f64> {
+    let mut values: Vec<f64> = values.collect();
+    values.sort_by(f64::total_cmp);
+    values
+}
+
+impl Times {
+    pub fn middle(&self, side: usize) -> f64 {
+        let values = sorted(self.0[side].iter().copied());
+        values[values.len() / 2]
+    }
+
+    pub fn ratio(&self, side: usize, to: usize) -> Ratio {
+        let pairs = self.0[side].iter().zip(&self.0[to]);
+        let values = sorted(pairs.map(|(a, b)| a / b));
+        let at = |part: usize| values[(values.len() - 1) * part / 4];
+        Ratio {
+            low: at(1),
+            middle: at(2),
+            high: at(3),
+        }
+    }
+}
+
+fn batch(side: &mut dyn FnMut(), calls: usize) -> f64 {
+    let start = Instant::now();
+    for _ in 0..calls {
+        side();
+    }
+    start.elapsed().as_nanos() as f64 / calls as f64
+}
+
+/// How many calls make a batch. The calls made to find out also warm the caches.
+fn calls_in_a_batch(side: &mut dyn FnMut()) -> usize {
+    let mut calls = 1;
+    loop {
+        let each = batch(side, calls).max(1.0);
+        let wanted = (BATCH.as_nanos() as f64 / each).ceil() as usize;
+        if wanted <= 2 * calls {
+            return wanted.max(1);
+        }
+        calls = (2 * calls).min(wanted);
+    }
+}
+
+pub fn measure(sides: &mut [&mut dyn FnMut()]) -> Times {
+    let calls: Vec<usize> = sides.iter_mut().map(|s| calls_in_a_batch(*s)).collect();
+    let mut times = vec![Vec::new(); sides.len()];
+    let start = Instant::now();
+    for round in 0..MOST_ROUNDS {
+        if round >= LEAST_ROUNDS && start.elapsed() > CASE {
+            break;
+        }
+        for turn in 0..sides.len() {
+            let side = (round + turn) % sides.len();
+            let time = batch(sides[side], calls[side]);
+            times[side].push(time);
+        }
+    }
+    Times(times)
+}
