@@ -298,6 +298,14 @@ impl Guarded {
         }
     }
 
+    fn start_or_null<T>(&mut self) -> *const T {
+        if self.length == 0 {
+            std::ptr::null()
+        } else {
+            self.start::<T>()
+        }
+    }
+
     fn content(&self) -> Vec<u64> {
         if self.is_bytes {
             let bytes = &self.bytes[GUARD..GUARD + self.length];
@@ -402,11 +410,12 @@ pub fn answer(call: &Call) -> Result<Outcome, String> {
 fn enter(call: &Call, inputs: &mut [Guarded], lent: &mut [Guarded]) -> Vec<u64> {
     let r = &mut call.read();
     let mut lists = inputs.iter_mut();
+    // A list of no elements may have any pointer. One that is only read gets NULL.
     macro_rules! list {
         () => {{
             r.list();
             let held = lists.next().unwrap();
-            (held.start(), held.length)
+            (held.start_or_null(), held.length)
         }};
     }
     let mut rooms = lent.iter_mut();

@@ -46,6 +46,8 @@ pub struct Tally {
     extra: BTreeMap<&'static str, u64>,
     explained: BTreeMap<&'static str, u64>,
     unexplained: u64,
+    /// The scenario that runs now, for the print of a difference.
+    pub scenario: u64,
     pub record: Option<Record>,
 }
 
@@ -147,7 +149,10 @@ impl Tally {
     fn complain(&mut self, what: &str, text: &str) {
         self.unexplained += 1;
         if self.unexplained <= SHOWN {
-            println!("difference {}: {what}: {text}", self.unexplained);
+            println!(
+                "difference {}, in scenario {}: {what}: {text}",
+                self.unexplained, self.scenario
+            );
         }
     }
 
