@@ -3,7 +3,7 @@
 //! original like any other call.
 
 use crate::call::{Call, ENTRIES, Entry, Kind, Param};
-use crate::hostile::{Prunable, any_call};
+use crate::hostile::any_call;
 use crate::random::Random;
 use crate::refusal;
 use crate::tally::{Family, Tally};
@@ -217,52 +217,22 @@ fn widen(rng: &mut Random, call: &mut Call) {
 /// One accepted call of an entry and all its damage.
 pub fn scenario(tally: &mut Tally, rng: &mut Random) {
     let entry = rng.pick(&ENTRIES);
-    if entry == Entry::Prune {
-        let case = Prunable::new(rng);
-        let mode = rng.below(4) as u64;
-        let base = case.call(rng, mode);
-        damage(tally, rng, &base, Some(&case));
-    } else {
-        let base = any_call(rng, entry);
-        damage(tally, rng, &base, None);
-    }
-}
-
-fn damage(tally: &mut Tally, rng: &mut Random, base: &Call, case: Option<&Prunable>) {
-    assert!(refusal::expected(base) == 0, "the call must be accepted");
-    let singles = faults(rng, base);
+    let base = any_call(rng, entry);
+    assert!(refusal::expected(&base) == 0, "the call must be accepted");
+    let singles = faults(rng, &base);
     for fault in &singles {
         let mut call = base.clone();
         apply(&mut call, fault);
-        judge(tally, base, &call, case);
+        tally.compare(FAMILY, &call);
         if matches!(fault, Fault::Sized(..)) {
             widen(rng, &mut call);
-            judge(tally, base, &call, case);
+            tally.compare(FAMILY, &call);
         }
     }
     for _ in 0..PAIRS {
         let mut call = base.clone();
         apply(&mut call, &singles[rng.below(singles.len())]);
         apply(&mut call, &singles[rng.below(singles.len())]);
-        judge(tally, base, &call, case);
-    }
-}
-
-/// Compares a damaged call. A prune that is still accepted is compared only where the candidates and
-/// overlaps are those that the original slices itself; else it is passed over, and not counted.
-fn judge(tally: &mut Tally, base: &Call, call: &Call, case: Option<&Prunable>) {
-    match case {
-        None => {
-            tally.compare(FAMILY, call);
-        }
-        Some(case) => {
-            let same_slicing = (0..base.inputs.len())
-                .filter(|at| ![0, 1, 6, 10].contains(at))
-                .all(|at| base.inputs[at] == call.inputs[at]);
-            let comparable = same_slicing && !case.may_have_ties();
-            if refusal::expected(call) != 0 || comparable {
-                tally.compare_with(FAMILY, call, || case.original(call));
-            }
-        }
+        tally.compare(FAMILY, &call);
     }
 }

@@ -23,6 +23,7 @@ pub fn scenario(tally: &mut Tally, rng: &mut Random) {
             Entry::ValidateForSource,
             Entry::CutOrder,
             Entry::Candidates,
+            Entry::Prune,
             Entry::Stitch,
             Entry::AreaPass,
         ] {
@@ -33,7 +34,7 @@ pub fn scenario(tally: &mut Tally, rng: &mut Random) {
     pair(tally, rng);
 }
 
-/// An accepted call of an entry. The prune has its own way: see `pair`.
+/// An accepted call of an entry.
 pub fn any_call(rng: &mut Random, entry: Entry) -> Call {
     match entry {
         Entry::ViewVertex => view_vertex(rng),
@@ -46,7 +47,7 @@ pub fn any_call(rng: &mut Random, entry: Entry) -> Call {
         Entry::ValidateForSource => validate(rng),
         Entry::CutOrder => cut_order(rng),
         Entry::Candidates => candidates(rng),
-        Entry::Prune => Prunable::new(rng).call(rng, 0),
+        Entry::Prune => prune(rng),
         Entry::Stitch => stitch(rng),
         Entry::AreaPass => area_pass(rng),
     }
@@ -354,8 +355,31 @@ fn candidates(rng: &mut Random) -> Call {
     cases::candidates(rng, &outline, source, &shared, &splits, t)
 }
 
+/// Candidates that no slicing gives.
+fn any_candidates(rng: &mut Random, vc: usize) -> CandidateLists {
+    let mut lists = CandidateLists::default();
+    for _ in 0..rng.from(0, 6) {
+        let offset = if rng.once_in(4) { vc } else { rng.from(0, vc) };
+        lists.at.extend([rng.below(vc) as u64, offset as u64]);
+        let numbers: [f64; 6] = std::array::from_fn(|_| bulge(rng));
+        lists.numbers.extend(words_of(&numbers));
+        lists.inside.push(rng.below(2) as u64);
+    }
+    lists
+}
+
+fn prune(rng: &mut Random) -> Call {
+    let t = tolerance(rng);
+    let outlines = [outline(rng, t, 2), outline(rng, t, 2)];
+    let vc = outlines.each_ref().map(|o| o.len() / 3);
+    let shared = shared(rng, [&outlines[0], &outlines[1]], t);
+    let lists = vc.map(|vc| any_candidates(rng, vc));
+    let (mode, opposing) = (rng.below(4) as u64, rng.once_in(2));
+    cases::prune(rng, mode, opposing, vc, &lists[0], &lists[1], &shared)
+}
+
 /// Two outlines with hostile splits and inside answers, up to the slices.
-pub struct Prunable {
+struct Prunable {
     outlines: [Vec<f64>; 2],
     shared: Shared,
     splits: [Vec<f64>; 2],
@@ -367,7 +391,7 @@ pub struct Prunable {
 
 impl Prunable {
     /// The candidates are the archive's. The caller compares them.
-    pub fn new(rng: &mut Random) -> Prunable {
+    fn new(rng: &mut Random) -> Prunable {
         let t = tolerance(rng);
         let outlines = [outline(rng, t, 2), outline(rng, t, 2)];
         let shared = shared(rng, [&outlines[0], &outlines[1]], t);
@@ -403,7 +427,7 @@ impl Prunable {
         }
     }
 
-    pub fn call(&self, rng: &mut Random, mode: u64) -> Call {
+    fn call(&self, rng: &mut Random, mode: u64) -> Call {
         let vc = self.outlines.each_ref().map(|o| o.len() / 3);
         cases::prune(
             rng,
@@ -416,9 +440,8 @@ impl Prunable {
         )
     }
 
-    /// The original's prune of a call that has these candidates. Mode, opposing, inside answers and
-    /// overlaps are read from the call.
-    pub fn original(&self, call: &Call) -> Outcome {
+    /// The original's prune of a call that has these candidates.
+    fn original(&self, call: &Call) -> Outcome {
         let source = PruneSource {
             outline1: &self.outlines[0],
             outline2: &self.outlines[1],
@@ -428,11 +451,11 @@ impl Prunable {
             splits2: &self.splits[1],
             tolerance: self.tolerance,
         };
-        theirs::prune(call, &source)
+        theirs::prune_of(call, &source)
     }
 
     /// Whether one segment has so many cuts that the original may order ties in another way.
-    pub fn may_have_ties(&self) -> bool {
+    fn may_have_ties(&self) -> bool {
         self.shared.cuts() >= 33
     }
 }
@@ -449,6 +472,9 @@ fn pair(tally: &mut Tally, rng: &mut Random) {
     for mode in 0..4 {
         let call = case.call(rng, mode);
         let pruned = tally.compare_with(FAMILY, &call, || case.original(&call));
+        tally.check("prune, led by the candidates", &call, || {
+            theirs::answer(&call)
+        });
         let slices = pruned.answer[1] as usize;
         for selector in 0..2 {
             let call = cases::stitch(

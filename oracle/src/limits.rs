@@ -169,7 +169,7 @@ fn prunes(tally: &mut Tally, rng: &mut Random, outlines: &[Vec<f64>; 2]) {
                 splits2: &splits[1],
                 tolerance: TOLERANCE,
             };
-            theirs::prune(&call, &source)
+            theirs::prune_of(&call, &source)
         });
     }
 }

@@ -370,7 +370,7 @@ impl Pair {
                 splits2: &second.splits,
                 tolerance: self.tolerance,
             };
-            theirs::prune(&call, &source)
+            theirs::prune_of(&call, &source)
         });
         tally.check("prune, the crate's own splits and winding", &call, || {
             let [pline1, pline2] = &self.plines;

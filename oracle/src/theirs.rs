@@ -15,6 +15,9 @@
 //! - how a chain ended: no selector asked (no candidate), none selected, or back at its first slice;
 //!   then it is closed where the loop was set closed in that round, else too small.
 //! - area pass: slices that each close on themselves, whose loops answer the areas of the call.
+//! - prune: the original slices and prunes in one go. `prune_of` leaves it both, from the outlines that
+//!   the candidates came of. `prune` makes it slice any candidates: their numbers, order and answers
+//!   go through the original, start and offset are put back by the candidate's number.
 
 use crate::call::{Call, Entry, Outcome, Reader, numbers_of};
 use crate::refusal::stitch_vertices;
@@ -33,7 +36,7 @@ use std::cell::{Cell, RefCell};
 use std::collections::VecDeque;
 use std::rc::Rc;
 
-/// The original's outcome of an accepted call. The prune is not here: see `prune`.
+/// The original's outcome of an accepted call.
 pub fn answer(call: &Call) -> Outcome {
     let r = &mut call.read();
     match call.entry {
@@ -44,7 +47,7 @@ pub fn answer(call: &Call) -> Outcome {
         Entry::ValidateForSource => validate_for_source(r),
         Entry::CutOrder => cut_order(r, &call.lent),
         Entry::Candidates => candidates(r, &call.lent, true),
-        Entry::Prune => panic!("the original prunes what it sliced itself"),
+        Entry::Prune => prune(call),
         Entry::Stitch => stitch(r, &call.lent),
         Entry::AreaPass => area_pass(r, &call.lent),
     }
@@ -606,40 +609,173 @@ pub struct PruneSource<'a> {
     pub tolerance: f64,
 }
 
-/// The prune of a call whose candidates came of `source`. Splits and inside answers are the call's.
-pub fn prune(call: &Call, source: &PruneSource) -> Outcome {
-    let r = &mut call.read();
-    let (mode, opposing) = (r.word(), r.code() == 1);
-    let mut inside = Vec::new();
-    r.word();
-    r.word();
-    for _ in 0..2 {
-        r.list();
-        r.list();
-        let answers: Vec<bool> = r.list().iter().map(|code| *code == 1).collect();
-        inside.push(answers);
-        r.word();
-    }
-    let (lap_at, lap) = (counts_of(r.list()), numbers_of(r.list()));
-    let info = stages::info(source.hit_at, source.hit, &lap_at, &lap, opposing);
-    let t = source.tolerance;
+/// The candidates of one outline in a prune's call.
+struct Given {
+    at: Vec<usize>,
+    numbers: Vec<f64>,
+    inside: Vec<bool>,
+}
 
-    // A candidate of one outline is looked up in the other.
-    let in_first = inside.pop().unwrap();
-    let in_second = inside.pop().unwrap();
-    let need = in_first.len() + in_second.len() + 2 * (lap_at.len() / 7);
-    let pline1 = HostOutline::answering(source.outline1, in_first);
-    let pline2 = HostOutline::answering(source.outline2, in_second);
-    let mut all = asks(&cuts(&pline1.pline, &info, false, t), source.splits1);
-    all.extend(asks(&cuts(&pline2.pline, &info, true, t), source.splits2));
-    let host = Splitter {
-        asks: all,
-        walk_end: None,
-        probes: Rc::default(),
-        from_list: true,
+impl Given {
+    fn read(r: &mut Reader) -> Given {
+        let given = Given {
+            at: counts_of(r.list()),
+            numbers: numbers_of(r.list()),
+            inside: r.list().iter().map(|code| *code == 1).collect(),
+        };
+        r.word();
+        given
+    }
+}
+
+/// A prune's call.
+struct PruneCall {
+    mode: u64,
+    opposing: bool,
+    of1: Given,
+    of2: Given,
+    lap_at: Vec<usize>,
+    lap: Vec<f64>,
+}
+
+impl PruneCall {
+    fn read(call: &Call) -> PruneCall {
+        let r = &mut call.read();
+        let (mode, opposing) = (r.word(), r.code() == 1);
+        r.word();
+        r.word();
+        PruneCall {
+            mode,
+            opposing,
+            of1: Given::read(r),
+            of2: Given::read(r),
+            lap_at: counts_of(r.list()),
+            lap: numbers_of(r.list()),
+        }
+    }
+
+    fn need(&self) -> usize {
+        self.of1.inside.len() + self.of2.inside.len() + 2 * (self.lap_at.len() / 7)
+    }
+
+    /// The original's prune of what it slices from the source. Splits and inside answers are supplied.
+    fn run(&self, source: &PruneSource) -> PrunedSlices<f64> {
+        let t = source.tolerance;
+        let info = stages::info(
+            source.hit_at,
+            source.hit,
+            &self.lap_at,
+            &self.lap,
+            self.opposing,
+        );
+        // A candidate of one outline is looked up in the other.
+        let pline1 = HostOutline::answering(source.outline1, self.of2.inside.clone());
+        let pline2 = HostOutline::answering(source.outline2, self.of1.inside.clone());
+        let mut all = asks(&cuts(&pline1.pline, &info, false, t), source.splits1);
+        all.extend(asks(&cuts(&pline2.pline, &info, true, t), source.splits2));
+        let host = Splitter {
+            asks: all,
+            walk_end: None,
+            probes: Rc::default(),
+            from_list: true,
+        };
+        with_host(host, || {
+            stages::prune(&pline1, &pline2, &info, self.mode, t)
+        })
+    }
+}
+
+/// The prune of a call whose candidates came of `source`.
+pub fn prune_of(call: &Call, source: &PruneSource) -> Outcome {
+    let given = PruneCall::read(call);
+    prune_outcome(&given.run(source), given.need(), &call.lent)
+}
+
+/// The prune of any candidates. Two outlines are made for the purpose: candidate k is the walk from
+/// the only cut of segment k to that of segment k + 1. Behind them, segment count + 1 takes the cuts
+/// that belong to the other outline and the overlaps. Its pieces have no length, and what is walked
+/// from it, or from segment count, gets the answer that drops it.
+fn prune(call: &Call) -> Outcome {
+    let mut given = PruneCall::read(call);
+    let need = given.need();
+    let counts = [given.of1.inside.len(), given.of2.inside.len()];
+    let behind = counts.map(|count| count + 1);
+
+    let mut hit_at = Vec::new();
+    hit_at.extend((0..=counts[0]).flat_map(|k| [k, behind[1]]));
+    hit_at.extend((0..=counts[1]).flat_map(|k| [behind[0], k]));
+    let hit = [ends_of(&given.of1.numbers), ends_of(&given.of2.numbers)].concat();
+    for at in given.lap_at.chunks_exact_mut(7) {
+        at[..4].copy_from_slice(&[behind[0], behind[1], behind[0], behind[1]]);
+    }
+
+    let outlines = counts.map(far_outline);
+    let info = stages::info(&hit_at, &hit, &given.lap_at, &given.lap, given.opposing);
+    let splits = |which: usize, numbers: &[f64]| {
+        let pline = stages::outline(&outlines[which]);
+        let cuts = cuts(&pline, &info, which == 1, CARRIER_TOLERANCE);
+        carrier_splits(&cuts, numbers)
     };
-    let pruned = with_host(host, || stages::prune(&pline1, &pline2, &info, mode, t));
+    let source = PruneSource {
+        outline1: &outlines[0],
+        outline2: &outlines[1],
+        hit_at: &hit_at,
+        hit: &hit,
+        splits1: &splits(0, &given.of1.numbers),
+        splits2: &splits(1, &given.of2.numbers),
+        tolerance: CARRIER_TOLERANCE,
+    };
+    let keeps_inside = [[1, 3], [1, 2]].map(|modes| modes.contains(&given.mode));
+    given.of1.inside.extend([!keeps_inside[0]; 2]);
+    given.of2.inside.extend([!keeps_inside[1]; 2]);
+
+    let mut pruned = given.run(&source);
+    let starts = pruned.starts;
+    for (i, slice) in pruned.slices_remaining.iter_mut().enumerate() {
+        if i < starts.pline1_overlapping {
+            let of = if i < starts.pline2 {
+                &given.of1
+            } else {
+                &given.of2
+            };
+            let view = &mut slice.view_data;
+            assert!(view.end_index_offset == 1, "another walk than was laid out");
+            let number = view.start_index;
+            view.start_index = of.at[2 * number];
+            view.end_index_offset = of.at[2 * number + 1];
+        }
+    }
     prune_outcome(&pruned, need, &call.lent)
+}
+
+const CARRIER_TOLERANCE: f64 = 0.5;
+
+/// The points of the cuts on segments 0, 1, ..: any for the first, then each candidate's end.
+fn ends_of(numbers: &[f64]) -> Vec<f64> {
+    let mut points = vec![0.0, 0.0];
+    points.extend(numbers.chunks_exact(6).flat_map(|n| [n[4], n[5]]));
+    points
+}
+
+/// An outline with a segment for each candidate and two more. No allowed number is near its vertices.
+fn far_outline(count: usize) -> Vec<f64> {
+    [1e300, 1e300, 0.0].repeat(count + 2)
+}
+
+/// Splits by which the walk from segment k has candidate k's numbers. All others have no length.
+fn carrier_splits(cuts: &[Cut], numbers: &[f64]) -> Vec<f64> {
+    let count = numbers.len() / 6;
+    let mut splits = vec![0.0; 9 * cuts.len()];
+    for (cut, split) in cuts.iter().zip(splits.chunks_exact_mut(9)) {
+        let k = cut.segment;
+        if (1..=count).contains(&k) {
+            split[2] = numbers[6 * (k - 1) + 3];
+        }
+        if k < count {
+            split[6..9].copy_from_slice(&numbers[6 * k..6 * k + 3]);
+        }
+    }
+    splits
 }
 
 /// The pruned slices as the archive's outcome.
