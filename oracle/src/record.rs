@@ -9,7 +9,7 @@ use crate::tally::Family;
 const MAGIC: u64 = u64::from_le_bytes(*b"MASKVEC1");
 
 /// The longest case kept, in words, by entry.
-const LONGEST: [usize; 10] = [70, 90, 60, 50, 70, 140, 230, 230, 330, 60];
+const LONGEST: [usize; 10] = [70, 90, 60, 50, 70, 140, 210, 190, 300, 60];
 
 /// `mask_validate_for_source` gives 2 for an outline that is too long, and for no other. So one long
 /// case is kept.
