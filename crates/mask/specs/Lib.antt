@@ -1,2 +1,4 @@
 pub mod Accept
 pub mod Pipeline
+pub mod OneAnswer
+pub mod Lowest

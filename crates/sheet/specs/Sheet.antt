@@ -69,7 +69,7 @@ Holds (verticesAre o vc v n) = (vertexCount (viewData v) ≡ n) × (viewVertexRe
 Holds (slicesAre c p) = (prunedOf (c .pruned) ≡ p) × (pruneRefusal c (4 * needOf (c .pruned)) (6 * needOf (c .pruned)) ≡ 0)
 Holds (loopsAre g rounds ends loops room) =
     (roundCount g ≡ rounds)
-    × (endItems g ≡ ends)
+    × ((stitch.loopCount g ≡ length ends) × (endItems g ≡ ends))
     × (roomItems g ≡ loops)
     × (stitch.needOf (g .sliceAt) (g .slices) ≡ room)
     × (stitchRefusal g (3 * room) (g .slices) (g .slices) (g .slices) (g .slices) ≡ 0)
@@ -116,7 +116,7 @@ Answers (slicesAre c p) = (l : prune.Rooms) (r : PruneAnswer) (left : prune.Room
 -- `mask_stitch`
 Answers (loopsAre g rounds ends loops room) =
     (x : Lists) (r : StitchAnswer) (left : Lists) → LoopRooms g room x → StitchLeft g x r left
-    → (r .refusal ≡ 0) × (r .rounds ≡ rounds) × (take (length ends) (left .ends) ≡ ends) × (take (length loops) (left .room) ≡ loops)
+    → (r .refusal ≡ 0) × (r .rounds ≡ rounds) × (r .loops ≡ length ends) × (take (length ends) (left .ends) ≡ ends) × (take (length loops) (left .room) ≡ loops)
 Answers (refusedWith g room number) =
     (x : Lists) (r : StitchAnswer) (left : Lists) → LoopRooms g room x → StitchLeft g x r left → (r ≡ stitchRefused number) × Untouched x left
 -- `mask_create_on_single_segment`: there is a view between the two

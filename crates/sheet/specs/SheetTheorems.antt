@@ -50,7 +50,7 @@ use Rattle.run.specs.Run.{passing, free, candidate, taken, answered, asked, nex
 use Rattle.run.specs.Run.{stopped, walk, chainFrom, added, begun, turn, turns, roundsOf}
 use Rattle.run.specs.Stitch as stitch
 use Rattle.run.specs.Stitch.{ofFirst, sliceOffset, sliceEnd, sliceView, sliceOutline, sliceCount, sliceVertex, startPoint, addSlice}
-use Rattle.run.specs.Stitch.{offersTo, rulesOf, runOf, loopOf, loopsOf, howOf, totals, roundCount, roomItems}
+use Rattle.run.specs.Stitch.{offersTo, rulesOf, runOf, loopOf, loopsOf, howOf, totals, roundCount, loopCount, roomItems}
 use Rattle.run.specs.Stitch.{endItems, isSpent, anySpent, roundsFault, sumBelow, weightAt, needFor}
 use Rattle.stitch.specs.Between.{Lists}
 use Rattle.stitch_entries.specs.StitchRows.{knownSource, sourcesKnown, startsInside, offsetsInside, startsFault}
@@ -87,7 +87,7 @@ unfolding passing free candidate run.candidatesOf taken answered asked nextOf ro
 rounds = tt
 
 stitching : Unit {0}
-unfolding views pruning rounds addVertex addFirst addView dropLast ofFirst sliceOffset sliceEnd sliceView sliceOutline sliceCount sliceVertex startPoint addSlice offersTo rulesOf runOf loopOf loopsOf howOf totals roundCount roomItems endItems roundsOf isSpent anySpent roundsFault sumBelow weightAt needFor stitch.needOf run.slicesOf run.orderOf
+unfolding views pruning rounds addVertex addFirst addView dropLast ofFirst sliceOffset sliceEnd sliceView sliceOutline sliceCount sliceVertex startPoint addSlice offersTo rulesOf runOf loopOf loopsOf howOf totals roundCount loopCount roomItems endItems roundsOf isSpent anySpent roundsFault sumBelow weightAt needFor stitch.needOf run.slicesOf run.orderOf
 stitching = tt
 
 refusals : Unit {0}
@@ -102,21 +102,21 @@ sheet-holds = (
   (
     ((refl, refl), tt),
     (
-      ((refl, refl), ((refl, refl, refl, refl, refl), tt)),
+      ((refl, refl), ((refl, (refl, refl), refl, refl, refl), tt)),
       (
-        ((refl, refl), ((refl, refl, refl, refl, refl), tt)),
+        ((refl, refl), ((refl, (refl, refl), refl, refl, refl), tt)),
         (
-          ((refl, refl), ((refl, refl, refl, refl, refl), tt)),
+          ((refl, refl), ((refl, (refl, refl), refl, refl, refl), tt)),
           (
             ((refl, refl), tt),
             (
               ((refl, refl), ((refl, refl), tt)),
               (
-                ((refl, refl, refl, refl, refl), tt),
+                ((refl, (refl, refl), refl, refl, refl), tt),
                 (
                   ((refl, omega arith), tt),
                   (
-                    ((refl, refl, refl, refl, refl), ((refl, refl, refl, refl, refl), tt)),
+                    ((refl, refl, refl, refl, refl), ((refl, (refl, refl), refl, refl, refl), tt)),
                     tt,
                   ),
                 ),
@@ -175,7 +175,8 @@ loops-answer g n ends loops room h x r left rooms holds =
     let told : r ≡ stitchGiven (roundCount g) (stitch.loopCount g) (stitch.chainCount g) = answer-accepted stitchRefused k _ r (holds .answers) none in (
       ap (λ (a : StitchAnswer). a .refusal) told,
       ap (λ (a : StitchAnswer). a .rounds) told ∙ h .0,
-      in-front 0 1 (g .slices) (endItems g) ends (x .ends) (left .ends) (answer-accepted (λ _. x .ends) k _ (left .ends) (holds .ends) none) (h .1),
+      ap (λ (a : StitchAnswer). a .loops) told ∙ h .1 .0,
+      in-front 0 1 (g .slices) (endItems g) ends (x .ends) (left .ends) (answer-accepted (λ _. x .ends) k _ (left .ends) (holds .ends) none) (h .1 .1),
       in-front +0 3 (stitch.needOf (g .sliceAt) (g .slices)) (roomItems g) loops (x .room) (left .room) (answer-accepted (λ _. x .room) k _ (left .room) (holds .room) none) (h .2),
     )
 

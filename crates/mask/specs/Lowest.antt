@@ -1,0 +1,79 @@
+-- "The lowest number that applies is given, and none otherwise", entry by entry: the number given applies, and no lower one does.
+use Prim.Native.Nat.{ℕ, _≤_}
+use mathlib.Core.Path.{_≡_}
+use mathlib.Core.List.{List, _++_}
+use lib.Dec.{T}
+use lib.ListN.{length}
+use lib.Ieee.{Float}
+use Rattle.basis.specs.Number.{Tolerance}
+use Rattle.basis.specs.Refuse.{Row, firstOf}
+use Rattle.basis.specs.RefuseLaws.{Applies, ascendingFrom, first-applies, first-lowest}
+use Rattle.outline.specs.declared.point.Point.{Point}
+use Rattle.outline.specs.declared.point.Vertex.{Vertex}
+use Rattle.view.specs.declared.create.Walk.{Walk}
+use Rattle.view_entries.specs.declared.input.View.{View}
+use Rattle.view_entries.specs.declared.input.Split.{Split}
+use Rattle.view_entries.specs.ViewVertex.{viewVertexRows, viewVertexRefusal}
+use Rattle.view_entries.specs.CreateEntry.{createRows, createRefusal}
+use Rattle.view_entries.specs.SingleEntry.{singleRows, singleRefusal}
+use Rattle.view_entries.specs.EntireEntry.{entireRows, entireRefusal}
+use Rattle.view_entries.specs.ValidateEntry.{validateRows, validateRefusal}
+use Rattle.cuts.specs.Cuts as cuts
+use Rattle.cut_entries.specs.CutOrder.{cutOrderRows, cutOrderRefusal}
+use Rattle.cut_entries.specs.Candidates.{candOpenRows, guardRows, candidatesRefusal}
+use Rattle.prune_entries.specs.PruneEntry.{Called, inputRows, lentRows, pruneRefusal}
+use Rattle.run.specs.Stitch as stitch
+use Rattle.stitch_entries.specs.StitchRows.{roomRows}
+use Rattle.stitch_entries.specs.StitchEntry as stitched
+use Rattle.stitch_entries.specs.StitchEntry.{shapeRows, stitchRefusal}
+use Rattle.stitch_entries.specs.AreaEntry.{areaRows, areaRefusal}
+
+-- a number and the table that it was looked up in
+pub record Lowest (rows : List Row) (number : ℕ) : Type 0 where
+  pub applies : (number ≡ 0 → ⊥) → Applies number rows
+  pub least : (n : ℕ) → Applies n rows → number ≤ n
+
+lowest : (rows : List Row) → T (ascendingFrom 0 rows) → Lowest rows (firstOf rows)
+lowest rows up = record { applies = first-applies rows; least = first-lowest rows up }
+
+pub vertex-lowest : (o : List Float) (vc : ℕ) (v : View) → Lowest (viewVertexRows o vc v) (viewVertexRefusal o vc v)
+unfolding viewVertexRefusal
+vertex-lowest o vc v = lowest (viewVertexRows o vc v) tt
+
+pub create-lowest : (o : List Float) (vc : ℕ) (w : Walk) (t : Tolerance) (split : Split) → Lowest (createRows o vc w t split) (createRefusal o vc w t split)
+unfolding createRefusal
+create-lowest o vc w t split = lowest (createRows o vc w t split) tt
+
+pub single-lowest : (o : List Float) (vc start : ℕ) (first : Vertex) (end : Point) (t : Tolerance) → Lowest (singleRows o vc start first end t) (singleRefusal o vc start first end t)
+unfolding singleRefusal
+single-lowest o vc start first end t = lowest (singleRows o vc start first end t) tt
+
+pub entire-lowest : (o : List Float) (vc closed : ℕ) → Lowest (entireRows o vc closed) (entireRefusal o vc closed)
+unfolding entireRefusal
+entire-lowest o vc closed = lowest (entireRows o vc closed) tt
+
+pub validate-lowest : (o : List Float) (vc : ℕ) (v : View) (startOn endOn : ℕ) → Lowest (validateRows o vc v startOn endOn) (validateRefusal o vc v startOn endOn)
+unfolding validateRefusal
+validate-lowest o vc v startOn endOn = lowest (validateRows o vc v startOn endOn) tt
+
+pub order-lowest : (g : cuts.Given) (source numbers points : ℕ) → Lowest (cutOrderRows g source numbers points) (cutOrderRefusal g source numbers points)
+unfolding cutOrderRefusal
+order-lowest g source numbers points = lowest (cutOrderRows g source numbers points) tt
+
+pub candidates-lowest : (g : cuts.Given) (source : ℕ) (splits : List Float) (at cand probe : ℕ)
+    → Lowest (candOpenRows g source splits at cand probe ++ guardRows g splits) (candidatesRefusal g source splits at cand probe)
+unfolding candidatesRefusal
+candidates-lowest g source splits at cand probe = lowest (candOpenRows g source splits at cand probe ++ guardRows g splits) tt
+
+pub prune-lowest : (c : Called) (at slice : ℕ) → Lowest (inputRows c ++ lentRows (c .pruned) at slice) (pruneRefusal c at slice)
+unfolding pruneRefusal inputRows
+prune-lowest c at slice = lowest (inputRows c ++ lentRows (c .pruned) at slice) tt
+
+pub stitch-lowest : (g : stitch.Given) (room ends chain chainEnds chainHow : ℕ)
+    → Lowest (shapeRows g ++ (roomRows (g .sliceAt) (g .slices) room ends chain chainEnds chainHow ++ stitched.guardRows g)) (stitchRefusal g room ends chain chainEnds chainHow)
+unfolding stitchRefusal
+stitch-lowest g room ends chain chainEnds chainHow = lowest (shapeRows g ++ (roomRows (g .sliceAt) (g .slices) room ends chain chainEnds chainHow ++ stitched.guardRows g)) tt
+
+pub area-lowest : (areas : List Float) (loops : ℕ) (limit : Float) (kept : ℕ) → Lowest (areaRows areas loops limit kept) (areaRefusal areas loops limit kept)
+unfolding areaRefusal
+area-lowest areas loops limit kept = lowest (areaRows areas loops limit kept) tt

@@ -1,0 +1,79 @@
+-- Two permitted answers are equal, entry by entry: the result, and every list lent. Each contract is met by one answer at most.
+use Prim.Native.Nat.{ℕ}
+use mathlib.Core.Path.{_≡_}
+use mathlib.Core.List.{List}
+use lib.Ieee.{Float}
+use Rattle.basis.specs.Number.{Tolerance}
+use Rattle.basis.specs.RefuseLaws.{one-answer}
+use Rattle.outline.specs.declared.point.Point.{Point}
+use Rattle.outline.specs.declared.point.Vertex.{Vertex}
+use Rattle.view.specs.declared.create.Walk.{Walk}
+use Rattle.view_entries.specs.declared.input.View.{View}
+use Rattle.view_entries.specs.declared.input.Split.{Split}
+use Rattle.view_entries.specs.declared.answer.VertexAnswer.{VertexAnswer}
+use Rattle.view_entries.specs.declared.answer.ViewAnswer.{ViewAnswer}
+use Rattle.view_entries.specs.declared.answer.VerdictAnswer.{VerdictAnswer}
+use Rattle.view_entries.specs.ViewVertex.{viewVertexAnswer}
+use Rattle.view_entries.specs.CreateEntry.{createAnswer}
+use Rattle.view_entries.specs.SingleEntry.{singleAnswer}
+use Rattle.view_entries.specs.EntireEntry.{entireAnswer}
+use Rattle.view_entries.specs.ValidateEntry.{validateAnswer}
+use Rattle.cuts.specs.Cuts as cuts
+use Rattle.slices.specs.Ready as slices
+use Rattle.cut_entries.specs.declared.answer.CountAnswer.{CountAnswer}
+use Rattle.cut_entries.specs.CutOrder.{CutOrdered}
+use Rattle.cut_entries.specs.Candidates.{Sliced}
+use Rattle.prune.specs.Ready as prune
+use Rattle.prune_entries.specs.declared.answer.PruneAnswer.{PruneAnswer}
+use Rattle.prune_entries.specs.PruneEntry.{Called, PruneLeft}
+use Rattle.run.specs.Stitch as stitch
+use Rattle.stitch.specs.Between.{Lists}
+use Rattle.stitch_entries.specs.declared.answer.StitchAnswer.{StitchAnswer}
+use Rattle.stitch_entries.specs.StitchEntry.{StitchLeft}
+use Rattle.stitch_entries.specs.AreaEntry.{AreaLeft}
+
+pub vertex-one : (o : List Float) (vc : ℕ) (v : View) (k : ℕ) (r s : VertexAnswer) → r ≡ viewVertexAnswer o vc v k → s ≡ viewVertexAnswer o vc v k → r ≡ s
+vertex-one o vc v k r s e f = one-answer r s (viewVertexAnswer o vc v k) e f
+
+pub create-one : (o : List Float) (vc : ℕ) (w : Walk) (t : Tolerance) (split : Split) (r s : ViewAnswer) → r ≡ createAnswer o vc w t split → s ≡ createAnswer o vc w t split → r ≡ s
+create-one o vc w t split r s e f = one-answer r s (createAnswer o vc w t split) e f
+
+pub single-one : (o : List Float) (vc start : ℕ) (first : Vertex) (end : Point) (t : Tolerance) (r s : ViewAnswer) → r ≡ singleAnswer o vc start first end t → s ≡ singleAnswer o vc start first end t → r ≡ s
+single-one o vc start first end t r s e f = one-answer r s (singleAnswer o vc start first end t) e f
+
+pub entire-one : (o : List Float) (vc closed : ℕ) (r s : ViewAnswer) → r ≡ entireAnswer o vc closed → s ≡ entireAnswer o vc closed → r ≡ s
+entire-one o vc closed r s e f = one-answer r s (entireAnswer o vc closed) e f
+
+pub validate-one : (o : List Float) (vc : ℕ) (v : View) (startOn endOn : ℕ) (r s : VerdictAnswer) → r ≡ validateAnswer o vc v startOn endOn → s ≡ validateAnswer o vc v startOn endOn → r ≡ s
+validate-one o vc v startOn endOn r s e f = one-answer r s (validateAnswer o vc v startOn endOn) e f
+
+pub order-one : (g : cuts.Given) (source : ℕ) (cutAt : List ℕ) (cut : List Float) (r s : CountAnswer) (a b : List ℕ) (p q : List Float)
+    → CutOrdered g source cutAt cut r a p → CutOrdered g source cutAt cut s b q → (r ≡ s) × (a ≡ b) × (p ≡ q)
+order-one g source cutAt cut r s a b p q x y =
+    (one-answer r s _ (x .answers) (y .answers), one-answer a b _ (x .numbers) (y .numbers), one-answer p q _ (x .points) (y .points))
+
+pub candidates-one : (g : cuts.Given) (source : ℕ) (splits : List Float) (l : slices.Rooms) (r s : CountAnswer) (a b : slices.Rooms)
+    → Sliced g source splits l r a → Sliced g source splits l s b → (r ≡ s) × (a .at ≡ b .at) × (a .cand ≡ b .cand) × (a .probe ≡ b .probe)
+candidates-one g source splits l r s a b x y =
+    (one-answer r s _ (x .answers) (y .answers), one-answer (a .at) (b .at) _ (x .at) (y .at), one-answer (a .cand) (b .cand) _ (x .cand) (y .cand), one-answer (a .probe) (b .probe) _ (x .probe) (y .probe))
+
+pub prune-one : (c : Called) (l : prune.Rooms) (r s : PruneAnswer) (a b : prune.Rooms)
+    → PruneLeft c l r a → PruneLeft c l s b → (r ≡ s) × (a .at ≡ b .at) × (a .shape ≡ b .shape)
+prune-one c l r s a b x y =
+    (one-answer r s _ (x .answers) (y .answers), one-answer (a .at) (b .at) _ (x .at) (y .at), one-answer (a .shape) (b .shape) _ (x .shape) (y .shape))
+
+pub stitch-one : (g : stitch.Given) (l : Lists) (r s : StitchAnswer) (a b : Lists)
+    → StitchLeft g l r a → StitchLeft g l s b
+    → (r ≡ s) × (a .room ≡ b .room) × (a .ends ≡ b .ends) × (a .chain ≡ b .chain) × (a .chainEnds ≡ b .chainEnds) × (a .chainHow ≡ b .chainHow)
+stitch-one g l r s a b x y = (
+  one-answer r s _ (x .answers) (y .answers),
+  one-answer (a .room) (b .room) _ (x .room) (y .room),
+  one-answer (a .ends) (b .ends) _ (x .ends) (y .ends),
+  one-answer (a .chain) (b .chain) _ (x .chain) (y .chain),
+  one-answer (a .chainEnds) (b .chainEnds) _ (x .chainEnds) (y .chainEnds),
+  one-answer (a .chainHow) (b .chainHow) _ (x .chainHow) (y .chainHow),
+)
+
+pub area-one : (areas : List Float) (loops : ℕ) (limit : Float) (kept : List ℕ) (r s : CountAnswer) (a b : List ℕ)
+    → AreaLeft areas loops limit kept r a → AreaLeft areas loops limit kept s b → (r ≡ s) × (a ≡ b)
+area-one areas loops limit kept r s a b x y = (one-answer r s _ (x .answers) (y .answers), one-answer a b _ (x .list) (y .list))
