@@ -1,9 +1,13 @@
-//! Our stages and the original's, timed side by side on the same inputs in one run. Prints tables of
-//! ratios, and writes the plot of times against sizes to the file named by the only argument.
+//! Our stages and the original's, timed side by side on the same inputs in one run.
+//!
+//! `bench FILE.svg` prints tables of ratios, and writes the plot of times against sizes to the file.
+//! `bench once` is what it starts, some times over.
+//! `bench repeat STAGE INPUT SIZE` makes one of our calls again and again, for a profiler.
 
 mod ours;
 mod plot;
 mod shapes;
+mod tables;
 mod timing;
 
 mod scan {
@@ -20,32 +24,27 @@ mod tree {
 use ours::{CutRoom, Pair, Slices, StitchRoom};
 use shapes::Outlines;
 use std::hint::black_box;
-use timing::{Ratio, Times, measure};
+use std::process::Command;
+use std::time::{Duration, Instant};
+use tables::Table;
+use timing::measure;
 
+/// How many processes time all stages, one after the other.
+const PROCESSES: usize = 7;
 const TOLERANCE: f64 = 1e-5;
 const UNION: u32 = 0;
 const FIRST_MINUS_SECOND: u32 = 2;
-const CUT_SIZES: [usize; 5] = [4, 16, 64, 256, 512];
+/// The most intersections are 512; with the most overlaps there are 768 cuts.
+const CUT_SIZES: [usize; 6] = [4, 16, 64, 256, 512, MOST_CUTS];
 const MOST_CUTS: usize = 768;
-const SLICE_SIZES: [usize; 5] = [4, 16, 64, 256, 1024];
+const SLICE_SIZES: [usize; 6] = [4, 16, 64, 256, 1024, MOST_SLICES];
 const MOST_SLICES: usize = 1792;
+/// The slices of a star are as many as its corners, of which an outline has at most so many.
+const MOST_CORNERS: usize = 1024;
 
 /// The answer counts as used, and is dropped.
 fn done<A>(answer: A) {
     drop(black_box(answer));
-}
-
-fn shown(ratio: Ratio) -> String {
-    format!("{:.2} ({:.2} to {:.2})", ratio.middle, ratio.low, ratio.high)
-}
-
-fn heading(title: &str, columns: &[&str]) {
-    println!("\n### {title}\n\n| {} |", columns.join(" | "));
-    println!("|{}", "---|".repeat(columns.len()));
-}
-
-fn row(cells: &[String]) {
-    println!("| {} |", cells.join(" | "));
 }
 
 /// Two outlines with what they share, for both sides.
@@ -59,7 +58,11 @@ impl Input {
     fn new(outlines: Outlines, cuts: usize) -> Input {
         let shared = scan::Shared::find(&outlines, TOLERANCE);
         let pair = shared.pair(&outlines);
-        assert_eq!(pair.cuts(), cuts, "the outlines do not cross as often as asked");
+        assert_eq!(
+            pair.cuts(),
+            cuts,
+            "the outlines do not cross as often as asked"
+        );
         let order = shared.for_cut_order();
         Input {
             pair,
@@ -91,15 +94,15 @@ fn family(name: &'static str, outline: usize, make: fn(usize) -> Outlines) -> Fa
     Family {
         name,
         outline,
-        inputs: CUT_SIZES.map(input).into(),
+        inputs: CUT_SIZES[..5].iter().copied().map(input).collect(),
     }
 }
 
-fn families() -> Vec<Family> {
+fn families() -> [Family; 3] {
     let mut comb = family("comb", 1, shapes::comb);
     let most = Input::new(shapes::flat_comb(MOST_CUTS), MOST_CUTS);
     comb.inputs.push((MOST_CUTS, most));
-    vec![
+    [
         family("star", 0, shapes::star),
         comb,
         family("star with arcs", 0, shapes::round_star),
@@ -116,8 +119,7 @@ fn check_order(input: &Input, outline: usize, room: &CutRoom) {
     }
 }
 
-fn cut_order(families: &[Family], plot: &mut plot::Panel) {
-    heading("Cut order", &["input", "cuts", "ours / Rust"]);
+fn cut_order(families: &[Family]) {
     for family in families {
         for (size, input) in &family.inputs {
             let mut room = CutRoom::new(*size);
@@ -127,8 +129,8 @@ fn cut_order(families: &[Family], plot: &mut plot::Panel) {
                 &mut || ours::cut_order(black_box(&input.pair), family.outline, &mut room),
                 &mut || input.shared.cut_order(&input.order, family.outline),
             ]);
-            row(&[family.name.into(), size.to_string(), shown(times.ratio(0, 1))]);
-            plot.add(family.name, *size, &times);
+            tables::tell(tables::ORDER, family.name, *size, times.ratio(0, 1));
+            plot::tell(plot::ORDER, family.name, *size, &times);
         }
     }
 }
@@ -136,35 +138,35 @@ fn cut_order(families: &[Family], plot: &mut plot::Panel) {
 fn check_candidates(input: &Input, outline: usize, room: &CutRoom) {
     let theirs = scan::flat(&input.shared.candidates(outline));
     assert_eq!(theirs.slice, room.cand[..6 * room.count]);
-    let at = theirs.slice_at.chunks_exact(4).flat_map(|at| [at[2], at[3]]);
+    let at = theirs
+        .slice_at
+        .chunks_exact(4)
+        .flat_map(|at| [at[2], at[3]]);
     assert!(at.eq(room.cand_at[..2 * room.count].iter().copied()));
 }
 
-fn candidates(families: &[Family], plot: &mut plot::Panel) {
-    let columns = ["input", "cuts", "entry alone / Rust", "with all the host does / Rust"];
-    heading("Candidates", &columns);
+fn candidates(families: &[Family]) {
     for family in families {
         for (size, input) in &family.inputs {
-            let (pair, outline) = (&input.pair, family.outline);
-            let (mut alone, mut all) = (input.room(outline), input.room(outline));
-            check_candidates(input, outline, &alone);
+            let (pair, shared, outline) = (&input.pair, &input.shared, family.outline);
+            let (mut room, mut other) = (input.room(outline), input.room(outline));
+            check_candidates(input, outline, &room);
             let times = measure(&mut [
-                &mut || ours::candidates(black_box(pair), outline, &mut alone),
-                &mut || done(input.shared.candidates(outline)),
+                &mut || shared.our_candidates(black_box(pair), outline, &mut room),
+                &mut || done(shared.candidates(outline)),
                 &mut || {
-                    ours::cut_order(black_box(pair), outline, &mut all);
-                    input.shared.split_cuts(outline, &mut all);
-                    ours::candidates(pair, outline, &mut all);
-                    scan::Shared::midpoints(&all);
+                    ours::cut_order(black_box(pair), outline, &mut other);
+                    shared.our_candidates(pair, outline, &mut other);
                 },
             ]);
-            row(&[
-                family.name.into(),
-                size.to_string(),
-                shown(times.ratio(0, 1)),
-                shown(times.ratio(2, 1)),
-            ]);
-            plot.add(family.name, *size, &times);
+            tables::tell(tables::CANDIDATES, family.name, *size, times.ratio(0, 1));
+            tables::tell(
+                tables::CANDIDATES_ALL,
+                family.name,
+                *size,
+                times.ratio(2, 1),
+            );
+            plot::tell(plot::CANDIDATES, family.name, *size, &times);
         }
     }
 }
@@ -181,55 +183,41 @@ fn check_slices(input: &Input, rooms: &[CutRoom; 2], slices: &mut Slices) {
     assert_eq!(answered.slice_at, theirs.slice_at);
 }
 
-fn prune(families: &[Family], plot: &mut plot::Panel) {
-    let columns = [
-        "input",
-        "cuts",
-        "answers handed in / Rust, handed in",
-        "with all the host does / Rust",
-        "entry alone / Rust, handed in",
-    ];
-    heading("Prune", &columns);
+fn prune(families: &[Family]) {
     for family in families {
         for (size, input) in &family.inputs {
-            let pair = &input.pair;
+            let (pair, shared) = (&input.pair, &input.shared);
             let rooms = || [input.room(0), input.room(1)];
-            let (mut handed, mut all, alone) = (rooms(), rooms(), rooms());
-            let inside = [&alone[0].inside[..], &alone[1].inside[..]];
-            let lent = || Slices::room(alone[0].count + alone[1].count + pair.lap_at.len() / 7 * 2);
-            let mut slices = [lent(), lent(), lent()];
-            let [to_handed, to_all, to_alone] = &mut slices;
-            check_slices(input, &alone, to_alone);
+            let (mut handed, mut whole, sliced) = (rooms(), rooms(), rooms());
+            let inside = [&sliced[0].inside[..], &sliced[1].inside[..]];
+            let need = sliced[0].count + sliced[1].count + pair.lap_at.len() / 7 * 2;
+            let [mut to1, mut to2, mut to3] = [0; 3].map(|_| Slices::room(need));
+            check_slices(input, &sliced, &mut to3);
             let times = measure(&mut [
                 &mut || {
                     for outline in [0, 1] {
-                        ours::candidates(black_box(pair), outline, &mut handed[outline]);
-                        scan::Shared::midpoints(&handed[outline]);
+                        shared.our_candidates(black_box(pair), outline, &mut handed[outline]);
                     }
-                    done(ours::prune(pair, UNION, &handed, to_handed));
+                    done(ours::prune(pair, UNION, &handed, &mut to1));
                 },
-                &mut || done(input.shared.prune_answered(UNION, inside)),
+                &mut || done(shared.prune_answered(UNION, inside)),
                 &mut || {
                     for outline in [0, 1] {
-                        let room = &mut all[outline];
+                        let room = &mut whole[outline];
                         ours::cut_order(black_box(pair), outline, room);
-                        input.shared.split_cuts(outline, room);
+                        shared.split_cuts(outline, room);
                         ours::candidates(pair, outline, room);
-                        input.shared.answer_inside(outline, room);
+                        shared.answer_inside(outline, room);
                     }
-                    done(ours::prune(pair, UNION, &all, to_all));
+                    done(ours::prune(pair, UNION, &whole, &mut to2));
                 },
-                &mut || done(input.shared.prune(UNION)),
-                &mut || done(ours::prune(black_box(pair), UNION, &alone, to_alone)),
+                &mut || done(shared.prune(UNION)),
+                &mut || done(ours::prune(black_box(pair), UNION, &sliced, &mut to3)),
             ]);
-            row(&[
-                family.name.into(),
-                size.to_string(),
-                shown(times.ratio(0, 1)),
-                shown(times.ratio(2, 3)),
-                shown(times.ratio(4, 1)),
-            ]);
-            plot.add(family.name, *size, &times);
+            tables::tell(tables::PRUNE, family.name, *size, times.ratio(0, 1));
+            tables::tell(tables::PRUNE_ALL, family.name, *size, times.ratio(2, 3));
+            tables::tell(tables::PRUNE_ALONE, family.name, *size, times.ratio(4, 1));
+            plot::tell(plot::PRUNE, family.name, *size, &times);
         }
     }
 }
@@ -260,15 +248,43 @@ fn extreme(slices: Slices) -> Job {
 
 type MakeJob = fn(usize) -> Job;
 
-/// A star of 1,792 corners is too long, so the stars end at 1,024.
-const JOBS: [(&str, MakeJob, bool); 7] = [
-    ("star, union", |n| pruned(shapes::star(n), UNION), false),
-    ("star, first minus second", |n| pruned(shapes::star(n), FIRST_MINUS_SECOND), false),
-    ("comb, union", |n| pruned(shapes::comb(n), UNION), true),
-    ("comb, first minus second", |n| pruned(shapes::comb(n), FIRST_MINUS_SECOND), true),
-    ("one chain", |n| extreme(shapes::one_chain(n)), true),
-    ("chains of one slice", |n| extreme(shapes::chains_of_one(n)), true),
-    ("all at one point", |n| extreme(shapes::one_point(n)), true),
+/// A name, how it is made, and up to which size.
+const JOBS: [(&str, MakeJob, usize); 7] = [
+    (
+        "star, union",
+        |n| pruned(shapes::star(n), UNION),
+        MOST_CORNERS,
+    ),
+    (
+        "star, first minus second",
+        |n| pruned(shapes::star(n), FIRST_MINUS_SECOND),
+        MOST_CORNERS,
+    ),
+    (
+        "comb, union",
+        |n| pruned(shapes::comb(n), UNION),
+        MOST_SLICES,
+    ),
+    (
+        "comb, first minus second",
+        |n| pruned(shapes::comb(n), FIRST_MINUS_SECOND),
+        MOST_SLICES,
+    ),
+    (
+        "one chain of all",
+        |n| extreme(shapes::one_chain(n)),
+        MOST_SLICES,
+    ),
+    (
+        "each a chain of its own",
+        |n| extreme(shapes::chains_of_one(n)),
+        MOST_SLICES,
+    ),
+    (
+        "all at one point",
+        |n| extreme(shapes::one_point(n)),
+        MOST_SLICES,
+    ),
 ];
 
 /// The loops of the original that looks through a list must be ours to the last bit.
@@ -279,43 +295,35 @@ fn check_loops(theirs: &scan::Loops, answer: &ours::StitchAnswer, room: &StitchR
     assert_eq!(room.vertices[..numbers.len()], numbers);
 }
 
-fn stitch(plot: &mut plot::Panel) {
-    let columns = ["input", "slices", "chains", "ours / Rust, plain list", "ours / Rust, packed tree"];
-    heading("Stitch", &columns);
-    for (name, make, has_most) in JOBS {
-        let sizes = SLICE_SIZES.iter().copied();
-        for size in sizes.chain(has_most.then_some(MOST_SLICES)) {
+fn stitch() {
+    for (name, make, most) in JOBS {
+        for size in SLICE_SIZES.into_iter().filter(|size| *size <= most) {
             let job = make(size);
+            assert_eq!(job.slices.count(), size);
             let mut room = StitchRoom::new(&job.slices);
-            let with_scan = scan::Stitch::new(&job.outlines, &job.slices, TOLERANCE);
+            let with_list = scan::Stitch::new(&job.outlines, &job.slices, TOLERANCE);
             let with_tree = tree::Stitch::new(&job.outlines, &job.slices, TOLERANCE);
             let mut ours = || {
                 let slices = black_box(&job.slices);
                 ours::stitch(&job.outlines, slices, job.selector, TOLERANCE, &mut room)
             };
             let answer = ours();
-            assert_eq!(answer.rounds, job.slices.count());
+            assert_eq!(answer.rounds, size);
             let times = measure(&mut [
                 &mut || done(ours()),
-                &mut || done(with_scan.run(job.selector)),
+                &mut || done(with_list.run(job.selector)),
                 &mut || done(with_tree.run(job.selector)),
             ]);
-            check_loops(&with_scan.run(job.selector), &answer, &room);
-            row(&[
-                name.into(),
-                job.slices.count().to_string(),
-                answer.chains.to_string(),
-                shown(times.ratio(0, 1)),
-                shown(times.ratio(0, 2)),
-            ]);
-            plot.add(name, job.slices.count(), &times);
+            check_loops(&with_list.run(job.selector), &answer, &room);
+            tables::tell(tables::STITCH_LIST, name, size, times.ratio(0, 1));
+            tables::tell(tables::STITCH_TREE, name, size, times.ratio(0, 2));
+            plot::tell(plot::STITCH, name, size, &times);
         }
     }
 }
 
 fn area_pass() {
-    heading("Area pass", &["loops", "ours / a plain Rust loop"]);
-    for size in SLICE_SIZES.into_iter().chain([MOST_SLICES]) {
+    for size in SLICE_SIZES {
         let areas: Vec<f64> = (0..size).map(|i| (i * 7 % 5) as f64).collect();
         let (mut kept, mut list) = (vec![0; size], Vec::with_capacity(size));
         let times = measure(&mut [
@@ -328,15 +336,13 @@ fn area_pass() {
             },
         ]);
         assert_eq!(kept[..list.len()], list);
-        row(&[size.to_string(), shown(times.ratio(0, 1))]);
+        tables::tell(tables::AREA, "two of five dropped", size, times.ratio(0, 1));
     }
 }
 
 fn view_vertices() {
     use cavalier_contours::polyline::{PlineSource, PlineViewData};
-    let columns = ["vertices of the outline", "ours / Rust, one vertex"];
-    heading("Vertex of a view", &columns);
-    for size in SLICE_SIZES {
+    for size in SLICE_SIZES.into_iter().filter(|size| *size <= MOST_CORNERS) {
         let outline = shapes::star(size)[0].clone();
         let pline = scan::polyline(&outline);
         let view = PlineViewData::from_entire_pline(&pline);
@@ -352,19 +358,94 @@ fn view_vertices() {
             &mut || done(ours::view_vertex(black_box(&outline), flat, 2)),
             &mut || done(view.view(black_box(&pline)).get(black_box(2))),
         ]);
-        row(&[size.to_string(), shown(times.ratio(0, 1))]);
+        tables::tell(tables::VERTEX, "star", size, times.ratio(0, 1));
     }
 }
 
-fn main() {
-    let to = std::env::args().nth(1).expect("usage: bench FILE.svg");
+/// Makes one of our calls again and again for two seconds, for a profiler.
+fn repeat(stage: &str, input: &str, size: usize) {
+    let (make, outline): (fn(usize) -> Outlines, usize) = match input {
+        "star" => (shapes::star, 0),
+        "comb" => (shapes::comb, 1),
+        _ => panic!("the inputs are star and comb"),
+    };
+    let start = Instant::now();
+    let until_late = |call: &mut dyn FnMut()| {
+        while start.elapsed() < Duration::from_secs(2) {
+            (0..100).for_each(|_| call());
+        }
+    };
+    if stage == "stitch" {
+        let job = pruned(make(size), UNION);
+        let mut room = StitchRoom::new(&job.slices);
+        let slices = &job.slices;
+        until_late(&mut || done(ours::stitch(&job.outlines, slices, 0, TOLERANCE, &mut room)));
+        return;
+    }
+    let input = Input::new(make(size), size);
+    let mut room = input.room(outline);
+    match stage {
+        "order" => until_late(&mut || ours::cut_order(&input.pair, outline, &mut room)),
+        "candidates" => until_late(&mut || ours::candidates(&input.pair, outline, &mut room)),
+        _ => panic!("the stages are order, candidates and stitch"),
+    }
+}
+
+/// Times every stage, and tells each ratio and time in a line.
+fn time_all() {
     let families = families();
-    let mut panels = plot::panels();
-    cut_order(&families, &mut panels[0]);
-    candidates(&families, &mut panels[1]);
-    prune(&families, &mut panels[2]);
-    stitch(&mut panels[3]);
+    cut_order(&families[..2]);
+    candidates(&families);
+    prune(&families);
+    stitch();
     area_pass();
     view_vertices();
-    std::fs::write(&to, plot::svg(&panels)).expect("the plot cannot be written");
+}
+
+/// What a process of this program tells, which times every stage.
+fn told_by_a_process() -> String {
+    let program = std::env::current_exe().expect("this program cannot be found");
+    let output = Command::new(program).arg("once").output();
+    let output = output.expect("this program cannot be run again");
+    let errors = String::from_utf8_lossy(&output.stderr);
+    assert!(output.status.success(), "{errors}");
+    String::from_utf8(output.stdout).expect("text")
+}
+
+/// Memory lies elsewhere in every process, and that changes times. So several are asked.
+fn compare(to: &str) {
+    let (mut tables, mut panels) = (tables::all(), plot::panels());
+    for _ in 0..PROCESSES {
+        for line in told_by_a_process().lines() {
+            let words: Vec<&str> = line.split('\t').collect();
+            let number = |i: usize| words[i].parse::<f64>().expect("a number");
+            let (title, input, size) = (words[1], words[2], number(3) as usize);
+            match words[0] {
+                "ratio" => tables::add(&mut tables, title, input, size, number(4)),
+                _ => plot::add(
+                    &mut panels,
+                    title,
+                    input,
+                    size,
+                    number(4) as usize,
+                    number(5),
+                ),
+            }
+        }
+    }
+    tables::print_goal(&tables);
+    tables.iter().for_each(Table::print);
+    tables::print_spread(&tables);
+    std::fs::write(to, plot::svg(&panels)).expect("the plot cannot be written");
+}
+
+fn main() {
+    let arguments: Vec<String> = std::env::args().skip(1).collect();
+    let arguments: Vec<&str> = arguments.iter().map(String::as_str).collect();
+    match arguments[..] {
+        ["repeat", stage, input, size] => repeat(stage, input, size.parse().expect("a size")),
+        ["once"] => time_all(),
+        [to] => compare(to),
+        _ => panic!("usage: bench FILE.svg, bench once, or bench repeat STAGE INPUT SIZE"),
+    }
 }

@@ -245,7 +245,14 @@ impl Slices {
     }
 
     /// One more slice of the outline, 0 or 1.
-    pub fn push(&mut self, outline: usize, inverted: bool, start: usize, offset: usize, n: [f64; 6]) {
+    pub fn push(
+        &mut self,
+        outline: usize,
+        inverted: bool,
+        start: usize,
+        offset: usize,
+        n: [f64; 6],
+    ) {
         let inverted = usize::from(inverted);
         self.slice_at.extend([outline + 1, inverted, start, offset]);
         self.slice.extend(n);

@@ -1,6 +1,7 @@
 //! The plot of times against sizes, as SVG: one panel for each stage, both axes logarithmic.
 
-use super::Times;
+use super::timing::{Times, middle};
+use super::{CUT_SIZES, SLICE_SIZES};
 use std::fmt::Write;
 
 const WIDTH: f64 = 430.0;
@@ -17,7 +18,8 @@ struct Line {
     label: &'static str,
     colour: &'static str,
     dashes: &'static str,
-    points: Vec<(f64, f64)>,
+    /// Of each size the microseconds that each process told.
+    times: Vec<(usize, Vec<f64>)>,
 }
 
 pub struct Panel {
@@ -43,22 +45,60 @@ fn line(
         label,
         colour,
         dashes,
-        points: Vec::new(),
+        times: Vec::new(),
     }
 }
 
-const CUTS: &[usize] = &[4, 16, 64, 256, 768];
-const SLICES: &[usize] = &[4, 16, 64, 256, 1024, 1792];
+pub const ORDER: &str = "Cut order";
+pub const CANDIDATES: &str = "Candidates, the same work";
+pub const PRUNE: &str = "Prune, the same work";
+pub const STITCH: &str = "Stitch";
+
+/// A process tells the time of each side in one line of output.
+pub fn tell(panel: &str, input: &str, size: usize, times: &Times) {
+    for side in 0..times.sides() {
+        let microseconds = times.middle(side) / 1000.0;
+        println!("time\t{panel}\t{input}\t{size}\t{side}\t{microseconds}");
+    }
+}
+
+/// Takes what a process told.
+pub fn add(
+    panels: &mut [Panel],
+    title: &str,
+    input: &str,
+    size: usize,
+    side: usize,
+    microseconds: f64,
+) {
+    let panel = panels.iter_mut().find(|p| p.title == title).unwrap();
+    let mut lines = panel.lines.iter_mut();
+    let Some(line) = lines.find(|l| l.input == input && l.side == side) else {
+        return;
+    };
+    match line.times.iter_mut().find(|(at, _)| *at == size) {
+        Some((_, told)) => told.push(microseconds),
+        None => line.times.push((size, vec![microseconds])),
+    }
+}
+
+impl Line {
+    /// Sizes with the middle of what the processes told.
+    fn points(&self) -> impl Iterator<Item = (f64, f64)> + '_ {
+        let point = |(size, told): &(usize, Vec<f64>)| (*size as f64, middle(told.iter().copied()));
+        self.times.iter().map(point)
+    }
+}
 
 pub fn panels() -> [Panel; 4] {
-    let both = |title, ours: usize, rust: usize| Panel {
+    let both = |title| Panel {
         title,
-        sizes: CUTS,
+        sizes: &CUT_SIZES,
         lines: vec![
-            line("star", ours, "ours, star", OURS, "none"),
-            line("star", rust, "Rust, star", RUST, "none"),
-            line("comb", ours, "ours, comb", OURS, "5 3"),
-            line("comb", rust, "Rust, comb", RUST, "5 3"),
+            line("star", 0, "ours, star", OURS, "none"),
+            line("star", 1, "Rust, star", RUST, "none"),
+            line("comb", 0, "ours, comb", OURS, "5 3"),
+            line("comb", 1, "Rust, comb", RUST, "5 3"),
         ],
     };
     let stitch = vec![
@@ -66,31 +106,38 @@ pub fn panels() -> [Panel; 4] {
         line("comb, union", 1, "Rust, plain list, comb", RUST, "none"),
         line("comb, union", 2, "Rust, packed tree, comb", TREE, "none"),
         line("all at one point", 0, "ours, one point", OURS, "5 3"),
-        line("all at one point", 1, "Rust, plain list, one point", RUST, "5 3"),
-        line("all at one point", 2, "Rust, packed tree, one point", TREE, "5 3"),
+        line(
+            "all at one point",
+            1,
+            "Rust, plain list, one point",
+            RUST,
+            "5 3",
+        ),
+        line(
+            "all at one point",
+            2,
+            "Rust, packed tree, one point",
+            TREE,
+            "5 3",
+        ),
     ];
     [
-        both("Cut order", 0, 1),
-        both("Candidates, with all the host does", 2, 1),
-        both("Prune, answers handed in", 0, 1),
+        both(ORDER),
+        both(CANDIDATES),
+        both(PRUNE),
         Panel {
-            title: "Stitch",
-            sizes: SLICES,
+            title: STITCH,
+            sizes: &SLICE_SIZES,
             lines: stitch,
         },
     ]
 }
 
 impl Panel {
-    pub fn add(&mut self, input: &str, size: usize, times: &Times) {
-        for line in self.lines.iter_mut().filter(|line| line.input == input) {
-            let microseconds = times.middle(line.side) / 1000.0;
-            line.points.push((size as f64, microseconds));
-        }
-    }
-
     fn times(&self) -> impl Iterator<Item = f64> + '_ {
-        self.lines.iter().flat_map(|l| l.points.iter().map(|p| p.1))
+        self.lines
+            .iter()
+            .flat_map(|line| line.points().map(|p| p.1))
     }
 
     /// The powers of ten below and above all times.
@@ -101,7 +148,10 @@ impl Panel {
     }
 
     fn x(&self, size: f64) -> f64 {
-        let (first, last) = (self.sizes[0] as f64, self.sizes[self.sizes.len() - 1] as f64);
+        let (first, last) = (
+            self.sizes[0] as f64,
+            self.sizes[self.sizes.len() - 1] as f64,
+        );
         LEFT + INNER_WIDTH * (size / first).ln() / (last / first).ln()
     }
 
@@ -117,27 +167,62 @@ impl Panel {
         for power in low..=high {
             let y = self.y(10f64.powi(power));
             rule(out, LEFT, y, LEFT + INNER_WIDTH, y);
-            text(out, LEFT - 6.0, y + 4.0, "end", "tick", &microseconds(power));
+            text(
+                out,
+                LEFT - 6.0,
+                y + 4.0,
+                "end",
+                "tick",
+                &microseconds(power),
+            );
         }
-        for size in self.sizes {
+        for size in self.sizes.iter().filter(|size| **size != 512) {
             let x = self.x(*size as f64);
             rule(out, x, TOP, x, TOP + INNER_HEIGHT);
-            text(out, x, TOP + INNER_HEIGHT + 16.0, "middle", "tick", &size.to_string());
+            text(
+                out,
+                x,
+                TOP + INNER_HEIGHT + 16.0,
+                "middle",
+                "tick",
+                &size.to_string(),
+            );
         }
+        self.draw_legend(out);
+        self.lines.iter().for_each(|line| self.draw_line(out, line));
+    }
+
+    fn draw_legend(&self, out: &mut String) {
+        let longest = self.lines.iter().map(|line| line.label.len()).max();
+        let width = 42.0 + 6.0 * longest.unwrap() as f64;
+        let height = 14.0 * self.lines.len() as f64 + 6.0;
+        let (left, top) = (LEFT + 6.0, TOP + 2.0);
+        let size = format!("width=\"{width}\" height=\"{height}\"");
+        writeln!(
+            out,
+            "<rect x=\"{left}\" y=\"{top}\" {size} fill=\"white\"/>"
+        )
+        .unwrap();
         for (number, line) in self.lines.iter().enumerate() {
-            self.draw_line(out, line);
-            legend(out, number, line);
+            let y = top + 10.0 + 14.0 * number as f64;
+            let style = stroke(line);
+            writeln!(out, "<path d=\"M{} {y}h24\" {style}/>", left + 4.0).unwrap();
+            text(out, left + 34.0, y + 4.0, "start", "tick", line.label);
         }
     }
 
     fn draw_line(&self, out: &mut String, line: &Line) {
-        let place = |p: &(f64, f64)| format!("{:.1},{:.1}", self.x(p.0), self.y(p.1));
-        let points: Vec<String> = line.points.iter().map(place).collect();
+        let place = |p: (f64, f64)| format!("{:.1},{:.1}", self.x(p.0), self.y(p.1));
+        let points: Vec<String> = line.points().map(place).collect();
         let style = stroke(line);
         writeln!(out, "<polyline points=\"{}\" {style}/>", points.join(" ")).unwrap();
-        for p in &line.points {
+        for p in line.points() {
             let (x, y, fill) = (self.x(p.0), self.y(p.1), line.colour);
-            writeln!(out, "<circle cx=\"{x:.1}\" cy=\"{y:.1}\" r=\"2.5\" fill=\"{fill}\"/>").unwrap();
+            writeln!(
+                out,
+                "<circle cx=\"{x:.1}\" cy=\"{y:.1}\" r=\"2.5\" fill=\"{fill}\"/>"
+            )
+            .unwrap();
         }
     }
 }
@@ -156,19 +241,16 @@ fn stroke(line: &Line) -> String {
 }
 
 fn rule(out: &mut String, x1: f64, y1: f64, x2: f64, y2: f64) {
-    writeln!(out, "<path d=\"M{x1:.1} {y1:.1}L{x2:.1} {y2:.1}\" stroke=\"#ddd\"/>").unwrap();
+    writeln!(
+        out,
+        "<path d=\"M{x1:.1} {y1:.1}L{x2:.1} {y2:.1}\" stroke=\"#ddd\"/>"
+    )
+    .unwrap();
 }
 
 fn text(out: &mut String, x: f64, y: f64, anchor: &str, class: &str, words: &str) {
     let place = format!("x=\"{x:.1}\" y=\"{y:.1}\" text-anchor=\"{anchor}\" class=\"{class}\"");
     writeln!(out, "<text {place}>{words}</text>").unwrap();
-}
-
-fn legend(out: &mut String, number: usize, line: &Line) {
-    let (x, y) = (LEFT + 10.0, TOP + 12.0 + 14.0 * number as f64);
-    let style = stroke(line);
-    writeln!(out, "<path d=\"M{x} {y}h24\" {style}/>").unwrap();
-    text(out, x + 30.0, y + 4.0, "start", "tick", line.label);
 }
 
 pub fn svg(panels: &[Panel; 4]) -> String {

@@ -14,7 +14,12 @@ fn ring(corners: usize, turn: f64, bulge: f64, radius: impl Fn(usize) -> f64) ->
     for i in 0..corners {
         let angle = TAU * (i as f64 + turn) / corners as f64;
         let radius = radius(i);
-        add(&mut outline, radius * angle.cos(), radius * angle.sin(), bulge);
+        add(
+            &mut outline,
+            radius * angle.cos(),
+            radius * angle.sin(),
+            bulge,
+        );
     }
     outline
 }
@@ -99,7 +104,12 @@ fn on_circle(i: usize, count: usize) -> [f64; 2] {
 pub fn one_chain(count: usize) -> Slices {
     let mut slices = Slices::default();
     for i in 0..count {
-        push_slice(&mut slices, 0, on_circle(i, count), on_circle((i + 1) % count, count));
+        push_slice(
+            &mut slices,
+            0,
+            on_circle(i, count),
+            on_circle((i + 1) % count, count),
+        );
     }
     slices.starts = [count; 3];
     slices
@@ -119,7 +129,12 @@ pub fn chains_of_one(count: usize) -> Slices {
 pub fn one_point(count: usize) -> Slices {
     let mut slices = Slices::default();
     for i in 0..count {
-        push_slice(&mut slices, usize::from(i >= count / 2), [1.0, 1.0], [1.0, 1.0]);
+        push_slice(
+            &mut slices,
+            usize::from(i >= count / 2),
+            [1.0, 1.0],
+            [1.0, 1.0],
+        );
     }
     slices.starts = [count / 2, count, count];
     slices

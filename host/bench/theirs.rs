@@ -2,7 +2,7 @@
 // the spatial index is a plain list, and as module `tree`, where it is a packed tree. `cavalier` is
 // the original, built with the one or the other.
 
-use super::ours::{CutRoom, Pair, Slices};
+use super::ours::{CutRoom, Pair, Slices, candidates};
 use cavalier::core::math::Vector2;
 use cavalier::polyline::internal::pline_boolean::{
     NotXorStitchSelector, OrAndStitchSelector, ProcessForBooleanResult, PruneMode, SliceStarts,
@@ -67,10 +67,12 @@ impl Shared {
         }
         for lap in &self.info.overlapping_slices {
             let view = &lap.view_data;
-            pair.lap_at.extend([lap.start_indexes.0, lap.start_indexes.1]);
+            pair.lap_at
+                .extend([lap.start_indexes.0, lap.start_indexes.1]);
             pair.lap_at.extend([lap.end_indexes.0, lap.end_indexes.1]);
             pair.lap_at.push(usize::from(lap.opposing_directions));
-            pair.lap_at.extend([view.start_index, view.end_index_offset]);
+            pair.lap_at
+                .extend([view.start_index, view.end_index_offset]);
             pair.lap.extend(view_numbers(view));
         }
         pair
@@ -79,15 +81,14 @@ impl Shared {
     /// The same to be asked for its cut order.
     pub fn for_cut_order(&self) -> OrderInfo {
         let overlaps = self.info.overlapping_slices.iter();
-        let copied = |lap: &pline_intersects::OverlappingSlice<f64>| {
-            pline_intersects::OverlappingSlice {
+        let copied =
+            |lap: &pline_intersects::OverlappingSlice<f64>| pline_intersects::OverlappingSlice {
                 start_indexes: lap.start_indexes,
                 end_indexes: lap.end_indexes,
                 view_data: lap.view_data,
                 is_loop: lap.is_loop,
                 opposing_directions: lap.opposing_directions,
-            }
-        };
+            };
         let [one, two] = orientation(&self.info);
         OrderInfo {
             overlapping_slices: overlaps.map(copied).collect(),
@@ -104,11 +105,7 @@ impl Shared {
     }
 
     /// The order as our lists hold it, but for the numbers of arrival.
-    pub fn listed_order(
-        &self,
-        info: &OrderInfo,
-        outline: usize,
-    ) -> Vec<(usize, bool, Vector2)> {
+    pub fn listed_order(&self, info: &OrderInfo, outline: usize) -> Vec<(usize, bool, Vector2)> {
         let pline = &self.plines[outline];
         lookup::listed_cuts(pline, info, outline == 1, self.tolerance)
     }
@@ -134,7 +131,13 @@ impl Shared {
     /// Slices and prunes; the winding numbers are the crate's own.
     pub fn prune(&self, mode: u32) -> Vec<BooleanPlineSlice<f64>> {
         let [one, two] = &self.plines;
-        let pruned = prune_slices(black_box(one), two, &self.info, mode_of(mode), self.tolerance);
+        let pruned = prune_slices(
+            black_box(one),
+            two,
+            &self.info,
+            mode_of(mode),
+            self.tolerance,
+        );
         pruned.slices_remaining
     }
 
@@ -142,7 +145,13 @@ impl Shared {
     pub fn prune_answered(&self, mode: u32, inside: [&[u8]; 2]) -> Vec<BooleanPlineSlice<f64>> {
         let one = Answered::new(&self.plines[0], inside[1]);
         let two = Answered::new(&self.plines[1], inside[0]);
-        let pruned = prune_slices(black_box(&one), &two, &self.info, mode_of(mode), self.tolerance);
+        let pruned = prune_slices(
+            black_box(&one),
+            &two,
+            &self.info,
+            mode_of(mode),
+            self.tolerance,
+        );
         pruned.slices_remaining
     }
 
@@ -167,7 +176,10 @@ impl Shared {
         for i in 0..room.cut.len() / 2 {
             let segment = room.cut_at[3 * i];
             let point = Vector2::new(room.cut[2 * i], room.cut[2 * i + 1]);
-            let (first, end) = (pline.at(segment), pline.at(pline.next_wrapping_index(segment)));
+            let (first, end) = (
+                pline.at(segment),
+                pline.at(pline.next_wrapping_index(segment)),
+            );
             if i == 0 || room.cut_at[3 * i - 3] != segment {
                 running = first;
             }
@@ -186,8 +198,10 @@ impl Shared {
         }
     }
 
-    /// The midpoints of the candidates in the room, which the original computes too.
-    pub fn midpoints(room: &CutRoom) {
+    /// Our candidates with what the original does in the same function: splits and midpoints.
+    pub fn our_candidates(&self, pair: &Pair, outline: usize, room: &mut CutRoom) {
+        self.split_cuts(outline, room);
+        candidates(pair, outline, room);
         for n in room.probe[..6 * room.count].chunks_exact(6) {
             let _ = black_box(probe_midpoint(n));
         }
@@ -204,7 +218,10 @@ impl Shared {
 }
 
 fn probe_midpoint(n: &[f64]) -> Vector2 {
-    let (a, b) = (PlineVertex::new(n[0], n[1], n[2]), PlineVertex::new(n[3], n[4], n[5]));
+    let (a, b) = (
+        PlineVertex::new(n[0], n[1], n[2]),
+        PlineVertex::new(n[3], n[4], n[5]),
+    );
     seg_midpoint(a, b)
 }
 
@@ -307,7 +324,10 @@ pub struct Stitch {
 
 impl Stitch {
     pub fn new(outlines: &[Vec<f64>; 2], slices: &Slices, tolerance: f64) -> Stitch {
-        let items = slices.slice_at.chunks_exact(4).zip(slices.slice.chunks_exact(6));
+        let items = slices
+            .slice_at
+            .chunks_exact(4)
+            .zip(slices.slice.chunks_exact(6));
         let slice = |(at, n): (&[usize], &[f64])| BooleanPlineSlice {
             view_data: PlineViewData {
                 start_index: at[2],

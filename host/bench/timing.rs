@@ -6,42 +6,30 @@ use std::time::{Duration, Instant};
 /// How long a batch of calls is to take.
 const BATCH: Duration = Duration::from_micros(150);
 /// How long all batches of one case may take, about.
-const CASE: Duration = Duration::from_millis(1200);
-const LEAST_ROUNDS: usize = 41;
-const MOST_ROUNDS: usize = 401;
+const CASE: Duration = Duration::from_millis(250);
+const LEAST_ROUNDS: usize = 15;
 
 /// Nanoseconds of a call, by side and round.
 pub struct Times(Vec<Vec<f64>>);
 
-/// The middle of the ratios, and the bounds of their middle half.
-#[derive(Clone, Copy)]
-pub struct Ratio {
-    pub low: f64,
-    pub middle: f64,
-    pub high: f64,
-}
-
-fn sorted(values: impl Iterator<Item = f64>) -> Vec<f64> {
+pub fn middle(values: impl Iterator<Item = f64>) -> f64 {
     let mut values: Vec<f64> = values.collect();
     values.sort_by(f64::total_cmp);
-    values
+    values[values.len() / 2]
 }
 
 impl Times {
-    pub fn middle(&self, side: usize) -> f64 {
-        let values = sorted(self.0[side].iter().copied());
-        values[values.len() / 2]
+    pub fn sides(&self) -> usize {
+        self.0.len()
     }
 
-    pub fn ratio(&self, side: usize, to: usize) -> Ratio {
+    pub fn middle(&self, side: usize) -> f64 {
+        middle(self.0[side].iter().copied())
+    }
+
+    pub fn ratio(&self, side: usize, to: usize) -> f64 {
         let pairs = self.0[side].iter().zip(&self.0[to]);
-        let values = sorted(pairs.map(|(a, b)| a / b));
-        let at = |part: usize| values[(values.len() - 1) * part / 4];
-        Ratio {
-            low: at(1),
-            middle: at(2),
-            high: at(3),
-        }
+        middle(pairs.map(|(a, b)| a / b))
     }
 }
 
@@ -70,7 +58,7 @@ pub fn measure(sides: &mut [&mut dyn FnMut()]) -> Times {
     let calls: Vec<usize> = sides.iter_mut().map(|s| calls_in_a_batch(*s)).collect();
     let mut times = vec![Vec::new(); sides.len()];
     let start = Instant::now();
-    for round in 0..MOST_ROUNDS {
+    for round in 0.. {
         if round >= LEAST_ROUNDS && start.elapsed() > CASE {
             break;
         }
