@@ -149,23 +149,24 @@ fn candidates(families: &[Family]) {
     for family in families {
         for (size, input) in &family.inputs {
             let (pair, shared, outline) = (&input.pair, &input.shared, family.outline);
-            let (mut room, mut other) = (input.room(outline), input.room(outline));
-            check_candidates(input, outline, &room);
+            let mut rooms = [0; 3].map(|_| input.room(outline));
+            let [alone, same, all] = &mut rooms;
+            check_candidates(input, outline, alone);
             let times = measure(&mut [
-                &mut || shared.our_candidates(black_box(pair), outline, &mut room),
+                &mut || shared.our_candidates(black_box(pair), outline, same),
                 &mut || done(shared.candidates(outline)),
                 &mut || {
-                    ours::cut_order(black_box(pair), outline, &mut other);
-                    shared.our_candidates(pair, outline, &mut other);
+                    ours::cut_order(black_box(pair), outline, all);
+                    shared.our_candidates(pair, outline, all);
                 },
+                &mut || ours::candidates(black_box(pair), outline, alone),
             ]);
-            tables::tell(tables::CANDIDATES, family.name, *size, times.ratio(0, 1));
-            tables::tell(
-                tables::CANDIDATES_ALL,
-                family.name,
-                *size,
-                times.ratio(2, 1),
-            );
+            let tell = |title, side| {
+                tables::tell(title, family.name, *size, times.ratio(side, 1));
+            };
+            tell(tables::CANDIDATES_ALONE, 3);
+            tell(tables::CANDIDATES, 0);
+            tell(tables::CANDIDATES_ALL, 2);
             plot::tell(plot::CANDIDATES, family.name, *size, &times);
         }
     }
@@ -412,7 +413,7 @@ fn told_by_a_process() -> String {
     String::from_utf8(output.stdout).expect("text")
 }
 
-/// Memory lies elsewhere in every process, and that changes times. So several are asked.
+/// Times differ from process to process, so several are asked.
 fn compare(to: &str) {
     let (mut tables, mut panels) = (tables::all(), plot::panels());
     for _ in 0..PROCESSES {

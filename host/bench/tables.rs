@@ -7,6 +7,7 @@ use super::{CUT_SIZES, SLICE_SIZES};
 const GOAL: usize = 64;
 
 pub const ORDER: &str = "Cut order";
+pub const CANDIDATES_ALONE: &str = "Candidates, `mask_candidates` alone: the splits handed in";
 pub const CANDIDATES: &str = "Candidates, the same work: splits and midpoints on both sides";
 pub const CANDIDATES_ALL: &str = "Candidates, with the cut order that a host asks for first";
 pub const PRUNE: &str = "Prune, the same work: slicing on both sides, inside answers handed in";
@@ -18,8 +19,9 @@ pub const AREA: &str = "Area pass, beside a plain Rust loop";
 pub const VERTEX: &str = "One vertex of a view";
 
 /// The tables that the goal is about, with the names of their stages.
-const STAGES: [(&str, &str); 5] = [
+const STAGES: [(&str, &str); 6] = [
     ("cut order", ORDER),
+    ("candidates, the entry alone", CANDIDATES_ALONE),
     ("candidates, the same work", CANDIDATES),
     ("prune, the same work", PRUNE),
     ("stitch, the index a plain list", STITCH_LIST),
@@ -50,6 +52,7 @@ pub fn all() -> Vec<Table> {
     let of_slices = |title| table(title, "slices", &SLICE_SIZES);
     vec![
         of_cuts(ORDER),
+        of_cuts(CANDIDATES_ALONE),
         of_cuts(CANDIDATES),
         of_cuts(CANDIDATES_ALL),
         of_cuts(PRUNE),

@@ -171,30 +171,33 @@ impl Shared {
 
     /// The splits of the cuts, which stand in order in the room, by the crate's own function.
     pub fn split_cuts(&self, outline: usize, room: &mut CutRoom) {
-        let pline = &self.plines[outline];
-        let mut running = PlineVertex::new(0.0, 0.0, 0.0);
-        for i in 0..room.cut.len() / 2 {
-            let segment = room.cut_at[3 * i];
-            let point = Vector2::new(room.cut[2 * i], room.cut[2 * i + 1]);
+        let vertices = &self.plines[outline].vertex_data[..];
+        let cuts = room.cut_at.chunks_exact(3).zip(room.cut.chunks_exact(2));
+        let mut cuts = cuts.zip(room.splits.chunks_exact_mut(9)).peekable();
+        let mut before = usize::MAX;
+        let mut running = vertices[0];
+        while let Some(((at, point), splits)) = cuts.next() {
+            let segment = at[0];
             let (first, end) = (
-                pline.at(segment),
-                pline.at(pline.next_wrapping_index(segment)),
+                vertices[segment],
+                vertices.get(segment + 1).unwrap_or(&vertices[0]),
             );
-            if i == 0 || room.cut_at[3 * i - 3] != segment {
-                running = first;
-            }
-            let split = seg_split_at_point(running, end, point, self.tolerance);
-            running = split.split_vertex;
-            let is_last = room.cut_at.get(3 * i + 3) != Some(&segment);
-            let whole = if is_last {
-                seg_split_at_point(first, end, point, self.tolerance).split_vertex
+            let point = Vector2::new(point[0], point[1]);
+            let is_first = segment != before;
+            let is_last = cuts.peek().is_none_or(|((next, _), _)| next[0] != segment);
+            let from = if is_first { first } else { running };
+            let split = seg_split_at_point(from, *end, point, self.tolerance);
+            // At a segment's only cut the split of the whole segment is the same one.
+            let whole = if is_last && !is_first {
+                seg_split_at_point(first, *end, point, self.tolerance).split_vertex
             } else {
-                PlineVertex::new(0.0, 0.0, 0.0)
+                split.split_vertex
             };
-            let parts = [split.updated_start, split.split_vertex, whole];
-            for (part, to) in parts.iter().zip(room.splits[9 * i..].chunks_exact_mut(3)) {
-                to.copy_from_slice(&[part.x, part.y, part.bulge]);
-            }
+            let (a, b) = (split.updated_start, split.split_vertex);
+            let numbers = [a.x, a.y, a.bulge, b.x, b.y, b.bulge];
+            splits[..6].copy_from_slice(&numbers);
+            splits[6..].copy_from_slice(&[whole.x, whole.y, whole.bulge]);
+            (before, running) = (segment, split.split_vertex);
         }
     }
 
