@@ -112,8 +112,14 @@ impl Pair {
     pub fn repair_overlaps(&mut self) {
         let pline2 = &self.plines[1];
         for at in self.shared.lap_at.chunks_exact_mut(7) {
+            if at[5] == at[1] {
+                continue;
+            }
             at[5] = at[1];
-            at[6] = pline2.fwd_wrapping_dist(at[1], at[3]);
+            at[6] = match pline2.fwd_wrapping_dist(at[1], at[3]) {
+                0 => pline2.vertex_count(),
+                offset => offset,
+            };
         }
         let shared = &self.shared;
         self.info = stages::info(

@@ -1,5 +1,5 @@
 -- The entry `mask_candidates`: its refusals, its answer, and what its three lent lists hold. It works the order out itself, from the same lists as `mask_cut_order`.
-use Prim.Native.Nat.{ℕ, _*_}
+use Prim.Native.Nat.{ℕ, _*_, _≤_}
 use mathlib.Core.Bool.{not}
 use mathlib.Core.Path.{_≡_}
 use mathlib.Core.List.{List, [], _∷_, _++_}
@@ -8,7 +8,8 @@ use lib.Ieee.{Float}
 use Rattle.basis.specs.Number.{+0, allWithin}
 use Rattle.basis.specs.Room.{roomOf}
 use Rattle.basis.specs.Refuse.{Row, row, firstOf, answer}
-use Rattle.cuts.specs.Cuts.{Given, cutCount, Ready}
+use Rattle.cuts.specs.Cuts.{Given, cutCount}
+use Rattle.cuts.specs.Order as order
 use Rattle.cuts.specs.Order.{cutNumbers, cutPoints}
 use Rattle.slices.specs.Slices as slices
 use Rattle.slices.specs.Ready.{Rooms, Roomy}
@@ -60,9 +61,20 @@ pub record Sliced (g : Given) (source : ℕ) (splits : List Float) (l : Rooms) (
 
 -- what an accepted call has
 pub record Along (g : Given) (splits : List Float) : Type 0 where
-  pub ready : Ready g
+  pub accepted : order.Accepted g
   pub nine : length splits ≡ 9 * cutCount g
 
 pub record Accepted (g : Given) (splits : List Float) (l : Rooms) : Type 0 where
   pub along : Along g splits
   pub roomy : Roomy (cutCount g) l
+
+-- with lists for the cuts in their order
+pub record FoundRoom (g : Given) (splits : List Float) (l : Rooms) (cutAt : List ℕ) (cut : List Float) : Type 0 where
+  pub ok : Accepted g splits l
+  pub numberRoom : 3 * cutCount g ≤ length cutAt
+  pub pointRoom : 2 * cutCount g ≤ length cut
+
+-- so few cuts that small lists will do
+pub record Few (g : Given) (splits : List Float) (l : Rooms) : Type 0 where
+  pub ok : Accepted g splits l
+  pub few : cutCount g ≤ 64

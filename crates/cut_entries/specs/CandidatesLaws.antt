@@ -1,18 +1,17 @@
 -- What the entry `mask_candidates` is proved by: acceptance, the dead guard, and the two ways out.
-use Prim.Native.Nat.{ℕ, zero, suc, _+_, _*_, _≤_, _<_}
+use Prim.Native.Nat.{ℕ, zero, suc, _*_, _<_}
 use mathlib.Core.Bool.{Bool, false}
 use mathlib.Core.Path.{_≡_, refl, sym, ap, subst, _∙_}
-use mathlib.Core.List.{List, [], _∷_, _++_}
+use mathlib.Core.List.{List, _++_}
 use native.Mathlib.Nat.{le-of-eq}
 use native.Mathlib.Omega.{arith}
-use lib.ListN.{length, take, drop}
+use lib.ListN.{length, take}
 use lib.Seq.{take-at}
 use lib.Ieee.{Float}
 use Rattle.basis.specs.Number.{+0, Tolerance}
 use Rattle.basis.specs.Room.{roomOf}
-use Rattle.basis.specs.Refuse.{Row}
-use Rattle.basis.specs.RefuseLaws.{Clear, clear, clear-left, clear-right, numbered, firstFrom, first-from, orElse, then-rows, answer-no, answer-yes}
-use Rattle.cuts.specs.Cuts.{Given, given, cutCount, Ready}
+use Rattle.basis.specs.RefuseLaws.{Clear, clear, clear-left, clear-right, firstFrom, first-from, orElse, then-rows, answer-no, answer-yes}
+use Rattle.cuts.specs.Cuts.{Given, given, cutCount}
 use Rattle.cuts.specs.Order as order
 use Rattle.cuts.specs.Order.{cutNumbers, cutPoints}
 use Rattle.cuts.specs.CutsLaws.{numbers-length, points-length, segment-below}
@@ -22,9 +21,9 @@ use Rattle.slices.specs.Ready.{Sound, Rooms, Written}
 use Rattle.slices.specs.SlicesTheorems.{guard-dead}
 use Rattle.cut_entries.specs.declared.answer.CountAnswer.{CountAnswer}
 use Rattle.cut_entries.specs.Answers.{countRefused, counted}
-use Rattle.cut_entries.specs.CutRows.{tooMany, listRows, valueRows, indexRows}
-use Rattle.cut_entries.specs.CutRowsLaws.{few-told, room-ok, cut-length-ok, cuts-ready}
-use Rattle.cut_entries.specs.Candidates.{alongCuts, splitLengthRows, splitRows, candRoomRows, candOpenRows, guardRows, candidatesRefusal, candNumber, Sliced, Along, Accepted}
+use Rattle.cut_entries.specs.CutRows.{listRows, valueRows, indexRows}
+use Rattle.cut_entries.specs.CutRowsLaws.{room-ok, cut-length-ok, cuts-accepted}
+use Rattle.cut_entries.specs.Candidates.{alongCuts, splitLengthRows, splitRows, candRoomRows, candOpenRows, guardRows, candidatesRefusal, candNumber, Sliced, Along, Accepted, FoundRoom, Few}
 
 -- a row that is never there where nothing was found before it
 dead-row : (r n : ℕ) (b : Bool) → (r ≡ 0 → b ≡ false) → r ≡ orElse r b n
@@ -40,7 +39,7 @@ front-of z w need items entry l e q = ap (take (w * need)) q ∙ take-at items _
 -- the cuts in their order are sound for the slices
 pub along-sound : (g : Given) (splits : List Float) → Along g splits → Sound (alongCuts g splits)
 along-sound g splits a =
-    let r = a .ready in
+    let r = a .accepted .ready in
     record {
       whole = r .whole;
       few = omega arith;
@@ -69,7 +68,7 @@ module _ (g : Given) (source : ℕ) (splits : List Float) (at cand probe : ℕ) 
       let b : Clear (valueRows g source ++ numbers) = a .1 in
       let c : Clear numbers = clear-right (valueRows g source) numbers b in
       record {
-        ready = cuts-ready g source w (clear-left (listRows g) lengths ok) (clear-left (valueRows g source) numbers b) (clear-left (indexRows g) rooms (c .1));
+        accepted = cuts-accepted g source w (clear-left (listRows g) lengths ok) (clear-left (valueRows g source) numbers b) (clear-left (indexRows g) rooms (c .1));
         nine = cut-length-ok 9 (length splits) (g .hits) (g .laps) (a .0);
       }
 
@@ -124,11 +123,19 @@ pub cand-by-source : {o : List Float} {vc w w' : ℕ} {ha : List ℕ} {h : List 
 cand-by-source {o = o} {vc = vc} {ha = ha} {h = h} {hn = hn} {la = la} {ls = ls} {ln = ln} {t = t} {source = source} {splits = splits} {l = l} {r = r} {left = left} e c =
     subst (λ (n : ℕ). Sliced (given o vc n ha h hn la ls ln t) source splits l r left) e c
 
--- ---- the cuts in local arrays, and their fronts handed on
-module _ {g : Given} {splits : List Float} {l : Rooms} (ok : Accepted g splits l) where
-  pub arrays-roomy : (a : List ℕ) (b : List Float) → length a ≡ 2304 → length b ≡ 1536 → order.Roomy g a b
-  arrays-roomy a b p q = let r = ok .along .ready in record { ready = r; numberRoom = omega arith; pointRoom = omega arith }
+-- ---- the cuts in lists of their own, and their fronts handed on
+module _ {g : Given} {splits : List Float} {l : Rooms} where
+  -- lists for 64 cuts, and for the most
+  pub few-room : (a : List ℕ) (b : List Float) → Few g splits l → length a ≡ 192 → length b ≡ 128 → FoundRoom g splits l a b
+  few-room a b f p q = record { ok = f .ok; numberRoom = omega (arith, f .few); pointRoom = omega (arith, f .few) }
 
+  pub many-room : (a : List ℕ) (b : List Float) → Accepted g splits l → length a ≡ 2304 → length b ≡ 1536 → FoundRoom g splits l a b
+  many-room a b ok p q =
+      let h = ok .along .accepted .ready .fewHits in
+      let k = ok .along .accepted .ready .fewLaps in
+      record { ok = ok; numberRoom = omega arith; pointRoom = omega arith }
+
+module _ {g : Given} {splits : List Float} {l : Rooms} (ok : Accepted g splits l) where
   -- the slices' call over lists that are the cuts in their order
   pub along-ready : (a : List ℕ) (b : List Float) → a ≡ cutNumbers g → b ≡ cutPoints g
       → ready.Ready (slices.given (g .outline) (g .vc) a b (cutCount g) splits (g .tolerance)) l

@@ -13,7 +13,7 @@ use Rattle.cuts.specs.Order.{Roomy, cutNumbers, cutPoints, Written}
 use Rattle.cut_entries.specs.declared.answer.CountAnswer.{CountAnswer}
 use Rattle.cut_entries.specs.Answers.{countRefused, counted}
 use Rattle.cut_entries.specs.CutRows.{tooMany, listRows, valueRows, indexRows, cutRoomFault}
-use Rattle.cut_entries.specs.CutRowsLaws.{few-told, room-ok, cuts-ready}
+use Rattle.cut_entries.specs.CutRowsLaws.{few-told, room-ok, cuts-accepted}
 
 -- 9: "cut_at" has 3 elements a cut, "cut" 2
 abbrev pub orderRoomRows : ℕ → ℕ → ℕ → ℕ → List Row
@@ -42,7 +42,7 @@ module _ (g : Given) (source : ℕ) (cutAt : List ℕ) (cut : List Float) where
       let x : Clear indexes = clear-right (valueRows g source) indexes v in
       let d : Clear (orderRoomRows (g .hits) (g .laps) (length cutAt) (length cut)) = clear-right (indexRows g) (orderRoomRows (g .hits) (g .laps) (length cutAt) (length cut)) x in
       record {
-        ready = cuts-ready g source w (clear-left (listRows g) values ok) (clear-left (valueRows g source) indexes v) (clear-left (indexRows g) (orderRoomRows (g .hits) (g .laps) (length cutAt) (length cut)) x);
+        accepted = cuts-accepted g source w (clear-left (listRows g) values ok) (clear-left (valueRows g source) indexes v) (clear-left (indexRows g) (orderRoomRows (g .hits) (g .laps) (length cutAt) (length cut)) x);
         numberRoom = room-ok 3 (length cutAt) (g .hits) (g .laps) (d .0);
         pointRoom = room-ok 2 (length cut) (g .hits) (g .laps) (d .1 .0);
       }

@@ -4,11 +4,10 @@ use mathlib.Core.Bool.{Bool, not, _||_, cond}
 use mathlib.Core.List.{List, [], _∷_}
 use lib.ListN.{length}
 use lib.Dec.{ltb, eqb}
-use lib.Ieee.{Float}
 use Rattle.basis.specs.Number.{allWithin, tolerable}
 use Rattle.basis.specs.Each.{placesBelow}
 use Rattle.basis.specs.Refuse.{Row, row, lengthFault, sizeFault, sourceFault}
-use Rattle.cuts.specs.Cuts.{Given, cutCount}
+use Rattle.cuts.specs.Cuts.{Given}
 
 -- which outline a source names: 0 for outline 1, 1 for outline 2
 unfoldable pub whichOf : ℕ → ℕ

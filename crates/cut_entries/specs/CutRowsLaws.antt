@@ -1,7 +1,7 @@
 -- What the shared rows give where none of their faults is there.
 use Prim.Native.Nat.{ℕ, zero, suc, _+_, _*_, _≤_, _<_}
 use mathlib.Core.Bool.{Bool, true, false, cond}
-use mathlib.Core.Path.{_≡_, refl, sym, ap, subst, _∙_}
+use mathlib.Core.Path.{_≡_, sym, subst, _∙_}
 use native.Mathlib.Nat.{le-trans, le-of-lt, mul-le-mul-right}
 use native.Mathlib.Omega.{arith}
 use lib.ListN.{length, getD}
@@ -10,9 +10,9 @@ use borrow.Author.Tests.{ltb-false, not-false}
 use Rattle.basis.specs.Choice.{or-left, or-right}
 use Rattle.basis.specs.Each.{placesBelow}
 use Rattle.basis.specs.EachLaws.{below-at}
-use Rattle.basis.specs.Refuse.{lengthFault}
 use Rattle.basis.specs.RefuseLaws.{Clear, length-ok, size-ok}
 use Rattle.cuts.specs.Cuts.{Given, Ready}
+use Rattle.cuts.specs.Order.{Accepted}
 use Rattle.cut_entries.specs.CutRows.{Which, whichOf, tooMany, listRows, valueRows, indexRows, cutRoomFault, cutLengthFault}
 
 few-hits : (hits laps : ℕ) → tooMany hits laps ≡ false → hits ≤ 512
@@ -67,6 +67,16 @@ cuts-ready g source w a b c =
         let e : 7 * j + (2 + g .which) ≡ 7 * j + 2 * 1 + g .which = omega arith in
         subst (λ (n : ℕ). getD (g .lapAt) n 0 < g .vc) e (below-at 7 (2 + g .which) (g .lapAt) (g .laps) (g .vc) (omega arith) l q j h)
     ends p q l j (suc (suc end)) h k = absurd (omega arith)
+
+-- and every number is in range
+pub cuts-accepted : (g : Given) (source : ℕ) → g .which < 2 → Clear (listRows g) → Clear (valueRows g source) → Clear (indexRows g) → Accepted g
+cuts-accepted g source w a b c =
+    record {
+      ready = cuts-ready g source w a b c;
+      outlineWithin = not-false _ (b .1 .1 .1 .1 .0);
+      hitWithin = not-false _ (b .1 .1 .1 .1 .1 .0);
+      lapWithin = not-false _ (b .1 .1 .1 .1 .1 .1 .0);
+    }
 
 -- ---- the counts are small enough to be added and multiplied
 module _ (b : Bool) (hits laps : ℕ) where

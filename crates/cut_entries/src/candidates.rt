@@ -3,7 +3,7 @@ ghost use Rattle.basis.specs.RefuseLaws.{firstFrom};
 ghost use Rattle.cuts.specs.Cuts.{given};
 ghost use Rattle.slices.specs.Ready.{rooms, Written};
 ghost use Rattle.cut_entries.specs.CutRows.{Which, whichOf};
-ghost use Rattle.cut_entries.specs.Candidates.{alongCuts, splitLengthRows, splitRows, candRoomRows, candidatesRefusal, Accepted, Sliced};
+ghost use Rattle.cut_entries.specs.Candidates.{alongCuts, splitLengthRows, splitRows, candRoomRows, candidatesRefusal, Accepted, Sliced, FoundRoom, Few};
 use crate::answer;
 use crate::answer::CountAnswer;
 use crate::faults;
@@ -88,8 +88,102 @@ fn refusal(
     room_refusal(r, hits, laps, at, cand, probe)
 }
 
-// The candidates of an accepted call: the cuts are put in order, then walked.
-fn found(
+// The candidates of an accepted call, by lists for the cuts: they are put in order, then walked.
+fn found_with(
+    outline: &[f64],
+    vc: usize,
+    which: usize,
+    hit_at: &[usize],
+    hit: &[f64],
+    hits: usize,
+    lap_at: &[usize],
+    lap: &[f64],
+    laps: usize,
+    splits: &[f64],
+    t: Tolerance,
+    cut_at: &mut [usize],
+    cut: &mut [f64],
+    cand_at: &mut [usize],
+    cand: &mut [f64],
+    probe: &mut [f64],
+) -> usize
+    requires { ⌜ FoundRoom (given (now outline) vc which (now «hit_at») (now hit) hits (now «lap_at») (now lap) laps t) (now splits) (rooms (now «cand_at») (now cand) (now probe)) (now «cut_at») (now cut) ⌝ }
+    ensures { λ r. ⌜ Written (alongCuts (given (now (outline .entry)) vc which (now («hit_at» .entry)) (now (hit .entry)) hits (now («lap_at» .entry)) (now (lap .entry)) laps t) (now (splits .entry))) (rooms (now («cand_at» .entry)) (now (cand .entry)) (now (probe .entry))) r (rooms (now («cand_at» .exit)) (now (cand .exit)) (now (probe .exit))) ⌝ }
+{
+    cuts::write::write_order(
+        outline,
+        vc,
+        which,
+        hit_at,
+        hit,
+        hits,
+        lap_at,
+        lap,
+        laps,
+        t,
+        cut_at,
+        cut,
+    );
+    let count = hits + 2 * laps;
+    let numbers = 3 * count;
+    let points = 2 * count;
+    slices::write::write_candidates(
+        outline,
+        vc,
+        &cut_at[..numbers],
+        &cut[..points],
+        count,
+        splits,
+        t,
+        cand_at,
+        cand,
+        probe,
+    )
+}
+
+// The same by small lists, which cost little to set up, and by lists for the most.
+fn found_few(
+    outline: &[f64],
+    vc: usize,
+    which: usize,
+    hit_at: &[usize],
+    hit: &[f64],
+    hits: usize,
+    lap_at: &[usize],
+    lap: &[f64],
+    laps: usize,
+    splits: &[f64],
+    t: Tolerance,
+    cand_at: &mut [usize],
+    cand: &mut [f64],
+    probe: &mut [f64],
+) -> usize
+    requires { ⌜ Few (given (now outline) vc which (now «hit_at») (now hit) hits (now «lap_at») (now lap) laps t) (now splits) (rooms (now «cand_at») (now cand) (now probe)) ⌝ }
+    ensures { λ r. ⌜ Written (alongCuts (given (now (outline .entry)) vc which (now («hit_at» .entry)) (now (hit .entry)) hits (now («lap_at» .entry)) (now (lap .entry)) laps t) (now (splits .entry))) (rooms (now («cand_at» .entry)) (now (cand .entry)) (now (probe .entry))) r (rooms (now («cand_at» .exit)) (now (cand .exit)) (now (probe .exit))) ⌝ }
+{
+    let mut cut_at = [0usize; 192];
+    let mut cut = [0.0; 128];
+    found_with(
+        outline,
+        vc,
+        which,
+        hit_at,
+        hit,
+        hits,
+        lap_at,
+        lap,
+        laps,
+        splits,
+        t,
+        &mut cut_at,
+        &mut cut,
+        cand_at,
+        cand,
+        probe,
+    )
+}
+
+fn found_many(
     outline: &[f64],
     vc: usize,
     which: usize,
@@ -110,7 +204,7 @@ fn found(
 {
     let mut cut_at = [0usize; 2304];
     let mut cut = [0.0; 1536];
-    cuts::write::write_order(
+    found_with(
         outline,
         vc,
         which,
@@ -120,19 +214,64 @@ fn found(
         lap_at,
         lap,
         laps,
+        splits,
         t,
         &mut cut_at,
         &mut cut,
-    );
-    let count = hits + 2 * laps;
-    let numbers = 3 * count;
-    let points = 2 * count;
-    slices::write::write_candidates(
+        cand_at,
+        cand,
+        probe,
+    )
+}
+
+// The candidates of an accepted call.
+fn found(
+    outline: &[f64],
+    vc: usize,
+    which: usize,
+    hit_at: &[usize],
+    hit: &[f64],
+    hits: usize,
+    lap_at: &[usize],
+    lap: &[f64],
+    laps: usize,
+    splits: &[f64],
+    t: Tolerance,
+    cand_at: &mut [usize],
+    cand: &mut [f64],
+    probe: &mut [f64],
+) -> usize
+    requires { ⌜ Accepted (given (now outline) vc which (now «hit_at») (now hit) hits (now «lap_at») (now lap) laps t) (now splits) (rooms (now «cand_at») (now cand) (now probe)) ⌝ }
+    ensures { λ r. ⌜ Written (alongCuts (given (now (outline .entry)) vc which (now («hit_at» .entry)) (now (hit .entry)) hits (now («lap_at» .entry)) (now (lap .entry)) laps t) (now (splits .entry))) (rooms (now («cand_at» .entry)) (now (cand .entry)) (now (probe .entry))) r (rooms (now («cand_at» .exit)) (now (cand .exit)) (now (probe .exit))) ⌝ }
+{
+    if hits + 2 * laps <= 64 {
+        return found_few(
+            outline,
+            vc,
+            which,
+            hit_at,
+            hit,
+            hits,
+            lap_at,
+            lap,
+            laps,
+            splits,
+            t,
+            cand_at,
+            cand,
+            probe,
+        );
+    }
+    found_many(
         outline,
         vc,
-        &cut_at[..numbers],
-        &cut[..points],
-        count,
+        which,
+        hit_at,
+        hit,
+        hits,
+        lap_at,
+        lap,
+        laps,
         splits,
         t,
         cand_at,

@@ -12,3 +12,4 @@ pub mod CutsExamples
 pub mod PatternLaws
 pub mod DistanceLaws
 pub mod OrderTheorems
+pub mod KeyOrderLaws

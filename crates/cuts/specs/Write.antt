@@ -3,9 +3,9 @@ use Prim.Native.Nat.{ℕ, _+_, _*_, _≤_, _<_}
 use mathlib.Core.List.{List}
 use lib.ListN.{length}
 use lib.Ieee.{Float}
-use Rattle.cuts.specs.Cuts.{Given}
+use Rattle.cuts.specs.Cuts.{Given, cutCount}
 use Rattle.cuts.specs.Order.{Roomy}
-use Rattle.cuts.specs.Sort.{Ordered}
+use Rattle.cuts.specs.Sort.{Keys, Ordered}
 
 -- room for item i of w elements
 pub record Item {A : Type 0} (room : List A) (w i : ℕ) : Type 0 where
@@ -16,3 +16,14 @@ pub record Item {A : Type 0} (room : List A) (w i : ℕ) : Type 0 where
 pub record Known (g : Given) (order cutAt : List ℕ) (cut : List Float) : Type 0 where
   pub roomy : Roomy g cutAt cut
   pub sorted : Ordered g order
+
+-- lists for the order of all cuts, and room
+pub record WriteRoom (g : Given) (segs : List ℕ) (keys : List Float) (order cutAt : List ℕ) (cut : List Float) : Type 0 where
+  pub roomy : Roomy g cutAt cut
+  pub all : Keys (cutCount g) segs keys
+  pub long : cutCount g ≤ length order
+
+-- so few cuts that small lists will do
+pub record Few (g : Given) (cutAt : List ℕ) (cut : List Float) : Type 0 where
+  pub roomy : Roomy g cutAt cut
+  pub few : cutCount g ≤ 64

@@ -17,8 +17,8 @@ use Rattle.outline.specs.Points.{pointNumbers}
 use Rattle.cuts.specs.declared.cut.Case.{Case}
 use Rattle.cuts.specs.declared.cut.Cut.{Cut}
 use Rattle.cuts.specs.Cuts.{Given, givenIn, cutCount, cutOf, Arrival}
-use Rattle.cuts.specs.Order.{earlier, ordered, orderOf, codeOf, numbersOf, pointOf, cutNumbers, cutPoints, Written}
-use Rattle.cuts.specs.Write.{Item, Known}
+use Rattle.cuts.specs.Order.{earlier, ordered, orderOf, codeOf, numbersOf, pointOf, cutNumbers, cutPoints, Roomy, Written}
+use Rattle.cuts.specs.Write.{Item, Known, WriteRoom}
 use Rattle.cuts.specs.SortLaws.{all-at, ordered-below, length-ordered}
 
 -- ---- the order has each cut once: its length, and its numbers
@@ -106,7 +106,7 @@ module _ (o : List Float) (ha : List ℕ) (h : List Float) (la : List ℕ) (l : 
     at-order = sym (getD-take (cutCount here) order i 0 m) ∙ ap (λ (ns : List ℕ). getD ns i 0) (k .sorted .front)
 
     pub known-arrival : Arrival here (getD order i 0)
-    known-arrival = record { ready = k .roomy .ready; arrives = omega (arith, at-order, order-below here i m) }
+    known-arrival = record { ready = k .roomy .accepted .ready; arrives = omega (arith, at-order, order-below here i m) }
 
     -- there is room for item i in both
     module _ (a : List ℕ) (p : List Float) (u : Writing here cutAt cut a p i) where
@@ -118,7 +118,7 @@ module _ (o : List Float) (ha : List ℕ) (h : List Float) (la : List ℕ) (l : 
 
     -- the next index is a machine number
     pub next-fits : Fits w64 (i + 1)
-    next-fits = let f = k .roomy .ready .fewHits in let g = k .roomy .ready .fewLaps in record { fits = omega arith }
+    next-fits = let f = k .roomy .accepted .ready .fewHits in let g = k .roomy .accepted .ready .fewLaps in record { fits = omega arith }
 
     pub write-more : (a a' : List ℕ) (p p' : List Float) (c : Cut) → Writing here cutAt cut a p i → c ≡ cutOf here (getD order i 0)
         → a' ≡ sets a (3 * i) (c .segment ∷ codeOf (c .mark) ∷ getD order i 0 ∷ []) → p' ≡ sets p (2 * i) (pointNumbers (c .point)) → Writing here cutAt cut a' p' (i + 1)
@@ -144,3 +144,11 @@ module _ (o : List Float) (ha : List ℕ) (h : List Float) (la : List ℕ) (l : 
       }
 
 pub ruleset writing = (write-none, known-arrival, number-item, point-item, next-fits, write-more, write-end)
+
+-- lists of 768 places serve every call
+pub many-ready : (g : Given) (cutAt : List ℕ) (cut : List Float) → Roomy g cutAt cut → (segs : List ℕ) (keys : List Float) (order : List ℕ)
+    → length segs ≡ 768 → length keys ≡ 768 → length order ≡ 768 → WriteRoom g segs keys order cutAt cut
+many-ready g cutAt cut r segs keys order a b c =
+    let f = r .accepted .ready .fewHits in
+    let h = r .accepted .ready .fewLaps in
+    record { roomy = r; all = record { segsLong = omega arith; keysLong = omega arith }; long = omega arith }

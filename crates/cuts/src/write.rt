@@ -6,7 +6,7 @@ ghost use lib.Seq.{sets};
 ghost use Rattle.outline.specs.Points.{pointNumbers};
 ghost use Rattle.cuts.specs.Cuts.{given, givenIn};
 ghost use Rattle.cuts.specs.Order.{codeOf, Roomy, Written};
-ghost use Rattle.cuts.specs.Write.{Item, Known};
+ghost use Rattle.cuts.specs.Write.{Item, Known, WriteRoom, Few};
 use crate::cut;
 use crate::cut::Case;
 use crate::cut::Cut;
@@ -50,7 +50,7 @@ fn write_items(
     lap_at: &[usize],
     lap: &[f64],
     s: Case,
-    order: &[usize; 768],
+    order: &[usize],
     cut_at: &mut [usize],
     cut: &mut [f64],
 )
@@ -66,6 +66,90 @@ fn write_items(
         put_point(cut, i, c.point);
         i += 1;
     }
+}
+
+// The cuts in their order, by lists that are long enough for them.
+fn write_with(
+    outline: &[f64],
+    hit_at: &[usize],
+    hit: &[f64],
+    lap_at: &[usize],
+    lap: &[f64],
+    s: Case,
+    segs: &mut [usize],
+    keys: &mut [f64],
+    order: &mut [usize],
+    cut_at: &mut [usize],
+    cut: &mut [f64],
+)
+    requires { ⌜ WriteRoom (givenIn (now outline) (now «hit_at») (now hit) (now «lap_at») (now lap) s) (now segs) (now keys) (now order) (now «cut_at») (now cut) ⌝ }
+    ensures { λ _. ⌜ Written (givenIn (now (outline .entry)) (now («hit_at» .entry)) (now (hit .entry)) (now («lap_at» .entry)) (now (lap .entry)) s) (now («cut_at» .entry)) (now (cut .entry)) (now («cut_at» .exit)) (now (cut .exit)) ⌝ }
+{
+    order::order_cuts(outline, hit_at, hit, lap_at, lap, s, segs, keys, order);
+    write_items(outline, hit_at, hit, lap_at, lap, s, order, cut_at, cut);
+}
+
+// The same by small lists, which cost little to set up, and by lists for the most.
+fn write_few(
+    outline: &[f64],
+    hit_at: &[usize],
+    hit: &[f64],
+    lap_at: &[usize],
+    lap: &[f64],
+    s: Case,
+    cut_at: &mut [usize],
+    cut: &mut [f64],
+)
+    requires { ⌜ Few (givenIn (now outline) (now «hit_at») (now hit) (now «lap_at») (now lap) s) (now «cut_at») (now cut) ⌝ }
+    ensures { λ _. ⌜ Written (givenIn (now (outline .entry)) (now («hit_at» .entry)) (now (hit .entry)) (now («lap_at» .entry)) (now (lap .entry)) s) (now («cut_at» .entry)) (now (cut .entry)) (now («cut_at» .exit)) (now (cut .exit)) ⌝ }
+{
+    let mut segs = [0usize; 64];
+    let mut keys = [0.0f64; 64];
+    let mut order = [0usize; 64];
+    write_with(
+        outline,
+        hit_at,
+        hit,
+        lap_at,
+        lap,
+        s,
+        &mut segs,
+        &mut keys,
+        &mut order,
+        cut_at,
+        cut,
+    );
+}
+
+fn write_many(
+    outline: &[f64],
+    hit_at: &[usize],
+    hit: &[f64],
+    lap_at: &[usize],
+    lap: &[f64],
+    s: Case,
+    cut_at: &mut [usize],
+    cut: &mut [f64],
+)
+    requires { ⌜ Roomy (givenIn (now outline) (now «hit_at») (now hit) (now «lap_at») (now lap) s) (now «cut_at») (now cut) ⌝ }
+    ensures { λ _. ⌜ Written (givenIn (now (outline .entry)) (now («hit_at» .entry)) (now (hit .entry)) (now («lap_at» .entry)) (now (lap .entry)) s) (now («cut_at» .entry)) (now (cut .entry)) (now («cut_at» .exit)) (now (cut .exit)) ⌝ }
+{
+    let mut segs = [0usize; 768];
+    let mut keys = [0.0f64; 768];
+    let mut order = [0usize; 768];
+    write_with(
+        outline,
+        hit_at,
+        hit,
+        lap_at,
+        lap,
+        s,
+        &mut segs,
+        &mut keys,
+        &mut order,
+        cut_at,
+        cut,
+    );
 }
 
 // The cuts of one outline in their order, with their segments, marks, arrival numbers and points.
@@ -93,7 +177,9 @@ pub fn write_order(
         laps,
         tolerance: t,
     };
-    let mut order = [0usize; 768];
-    order::order_cuts(outline, hit_at, hit, lap_at, lap, s, &mut order);
-    write_items(outline, hit_at, hit, lap_at, lap, s, &order, cut_at, cut);
+    if hits + 2 * laps <= 64 {
+        write_few(outline, hit_at, hit, lap_at, lap, s, cut_at, cut);
+        return;
+    }
+    write_many(outline, hit_at, hit, lap_at, lap, s, cut_at, cut);
 }

@@ -108,7 +108,7 @@ module _ (g : cuts.Given) (source : ℕ) (splits : List Float) (l : slices.Rooms
       let range : InRange along =
       record {
         outline = not-false _ (p .values .1 .1 .1 .1 .0);
-        cut = points-within g (ok .along .ready) (not-false _ (p .values .1 .1 .1 .1 .1 .0)) (not-false _ (p .values .1 .1 .1 .1 .1 .1 .0));
+        cut = points-within g (ok .along .accepted .ready) (not-false _ (p .values .1 .1 .1 .1 .1 .0)) (not-false _ (p .values .1 .1 .1 .1 .1 .1 .0));
         splits = p .numbers;
       } in
       let n = cand-told in

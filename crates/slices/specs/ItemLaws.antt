@@ -1,11 +1,11 @@
 -- Laws of the loop that writes the candidates, and of the call that clears the room behind them.
-use Prim.Native.Nat.{ℕ, zero, suc, _+_, _*_, _≤_, _<_, zero-le}
+use Prim.Native.Nat.{ℕ, zero, suc, _+_, _-_, _*_, _≤_, _<_, zero-le}
 use mathlib.Core.Path.{_≡_, refl, sym, ap, _∙_}
 use mathlib.Core.List.{List, [], _∷_, _++_, flatMap, append-assoc}
 use native.Mathlib.Nat.{mul-zero, mul-add}
 use native.Mathlib.Numerals.{add-one}
 use native.Mathlib.Omega.{arith}
-use lib.ListN.{length, take, drop, replicate, length-append, length-replicate, getD-replicate}
+use lib.ListN.{length, take, drop, replicate, length-append, length-drop, length-replicate, getD-replicate}
 use lib.Seq.{sets, sets-eq, length-sets, take-at, drop-append-add, drop-drop}
 use Rattle.basis.specs.Number.{+0}
 use Rattle.basis.specs.RoomLaws.{room-left}
@@ -13,7 +13,7 @@ use Rattle.slices.specs.declared.candidate.Candidate.{Candidate}
 use Rattle.slices.specs.declared.candidate.Candidate.the-variants.{Nothing, Slice}
 use Rattle.slices.specs.Slices.{Given, candidateAt, kept, candidatesTo, candidatesOf, numbersOf, shapeOf, probeOf, candNumbers, candShapes, probeNumbers}
 use Rattle.slices.specs.Ready.{Rooms, Roomy, Ready, Written}
-use Rattle.slices.specs.Steps.{PutFit, Put, Items, Cleared, Fill, FirstTable, Writing}
+use Rattle.slices.specs.Steps.{PutFit, Put, Items, ClearFit, Cleared, FirstTable, Tabled, Few, Writing}
 
 pub flat-append : {A B : Type 0} (f : A → List B) (xs ys : List A) → flatMap f (xs ++ ys) ≡ flatMap f xs ++ flatMap f ys
 unfolding flatMap
@@ -144,21 +144,52 @@ pub ruleset uptos = (upto-none, upto-fit, upto-turn, upto-end)
 
 -- ---- the whole call
 
--- the table before it is written
-pub fill-of : (g : Given) (l : Rooms) → Ready g l → Fill (replicate 1024 (g .count)) (g .vc) (g .cutAt) (g .count)
-fill-of g l r =
+-- the table before it is written: of any length that is enough
+table-of : (n : ℕ) (g : Given) (l : Rooms) → Ready g l → g .vc ≤ n → Tabled g (replicate n (g .count)) l
+table-of n g l r h =
     record {
-      size = length-replicate 1024 (g .count);
-      most = r .sound .whole .most;
-      few = r .sound .few;
-      at = r .sound .at;
-      inside = r .sound .inside;
-      none = λ i h. getD-replicate 1024 i (g .count) 0 h;
+      ready = r;
+      fill =
+          record {
+            size = rw (length-replicate n (g .count)) h;
+            most = r .sound .whole .most;
+            few = r .sound .few;
+            at = r .sound .at;
+            inside = r .sound .inside;
+            none = λ i k. getD-replicate n i (g .count) 0 (omega arith);
+          };
     }
+
+pub few-table : (g : Given) (l : Rooms) → Few g l → Tabled g (replicate 64 (g .count)) l
+few-table g l f = table-of 64 g l (f .ready) (f .few)
+
+pub many-table : (g : Given) (l : Rooms) → Ready g l → Tabled g (replicate 1024 (g .count)) l
+many-table g l r = table-of 1024 g l r (r .sound .whole .most)
 
 -- and after it
 pub writing-of : (g : Given) (first : List ℕ) (l : Rooms) → Ready g l → FirstTable first (g .vc) (g .cutAt) (g .count) → Writing g first l
 writing-of g first l r t = record { sound = r .sound; table = t; roomy = r .roomy }
+
+-- behind the items there is room to be cleared
+pub rest-fit : (g : Given) (first : List ℕ) (l l′ : Rooms) (m : ℕ) → Tabled g first l → Items g l m l′ → ClearFit l′ m (g .count)
+unfolding candidatesOf
+rest-fit g first l l′ m t i =
+    let r = t .ready .roomy in
+    let a : length (l′ .at) ≡ length (candNumbers g) + (length (l .at) - 2 * m) = ap length (i .at) ∙ length-append (candNumbers g) (drop (2 * m) (l .at)) ∙ rw (length-drop (2 * m) (l .at)) in
+    let b : length (l′ .cand) ≡ length (candShapes g) + (length (l .cand) - 6 * m) = ap length (i .cand) ∙ length-append (candShapes g) (drop (6 * m) (l .cand)) ∙ rw (length-drop (6 * m) (l .cand)) in
+    let c : length (l′ .probe) ≡ length (probeNumbers g) + (length (l .probe) - 6 * m) = ap length (i .probe) ∙ length-append (probeNumbers g) (drop (6 * m) (l .probe)) ∙ rw (length-drop (6 * m) (l .probe)) in
+    let x = flat-length 2 numbersOf wide-numbers g (g .count) in
+    let y = flat-length 6 shapeOf wide-shapes g (g .count) in
+    let z = flat-length 6 probeOf wide-probes g (g .count) in
+    record {
+      within = i .few;
+      roomy =
+          record {
+            at = omega (arith, a, x, i .counted, i .few, r .at);
+            cand = omega (arith, b, y, i .counted, i .few, r .cand);
+            probe = omega (arith, c, z, i .counted, i .few, r .probe);
+          };
+    }
 
 -- the items, then what was cleared behind them
 pub written-of : (g : Given) (l l′ l″ : Rooms) (m : ℕ) → Items g l m l′
@@ -172,4 +203,4 @@ written-of g l l′ l″ m i z =
       probe = room-left +0 6 (g .count) (probeNumbers g) (l .probe) (l′ .probe) (l″ .probe) (6 * m) (6 * g .count) (z .probe) (i .probe) (rw (i .counted) (sym (flat-length 6 probeOf wide-probes g (g .count)))) refl (omega (arith, i .few));
     }
 
-pub ruleset wholes = (fill-of, writing-of, written-of)
+pub ruleset wholes = (few-table, many-table, writing-of, rest-fit, written-of)

@@ -14,22 +14,22 @@ use Rattle.view.specs.Create.{WalkFit}
 use Rattle.slices.specs.declared.table.Next.{Next}
 use Rattle.slices.specs.declared.candidate.Candidate.{Candidate}
 use Rattle.slices.specs.Slices.{Given, segmentAt, firstCut, traverseFrom, kept, numbersOf, shapeOf, probeOf, candCount, candNumbers, candShapes, probeNumbers}
-use Rattle.slices.specs.Ready.{Sound, Rooms, Roomy}
+use Rattle.slices.specs.Ready.{Sound, Rooms, Roomy, Ready}
 
 -- ---- the table of first cuts
 
 -- before it is written it holds the count of cuts everywhere
 pub record Fill (first : List ℕ) (vc : ℕ) (cutAt : List ℕ) (count : ℕ) : Type 0 where
-  pub size : length first ≡ 1024
+  pub size : vc ≤ length first
   pub most : vc ≤ 1024
   pub few : count ≤ 768
   pub at : 3 * count ≤ length cutAt
   pub inside : (p : ℕ) → p < count → segmentAt cutAt p < vc
-  pub none : (i : ℕ) → i < 1024 → getD first i 0 ≡ count
+  pub none : (i : ℕ) → i < vc → getD first i 0 ≡ count
 
 -- by segment the place of its first cut
 pub record FirstTable (first : List ℕ) (vc : ℕ) (cutAt : List ℕ) (count : ℕ) : Type 0 where
-  pub size : length first ≡ 1024
+  pub size : vc ≤ length first
   pub holds : (i : ℕ) → i < vc → getD first i 0 ≡ firstCut cutAt count i
 
 -- the search over the table
@@ -38,7 +38,7 @@ traverseIn first vc count s = traverseFrom (vc + 1) (λ i. ltb (getD first i 0) 
 
 -- the search may begin: its own segment has a cut
 pub record Search (first : List ℕ) (vc count s : ℕ) : Type 0 where
-  pub size : length first ≡ 1024
+  pub size : vc ≤ length first
   pub most : vc ≤ 1024
   pub inside : s < vc
   pub begins : getD first s 0 < count
@@ -108,6 +108,16 @@ pub record Put (c : Candidate) (m : ℕ) (l : Rooms) (r : ℕ) (l′ : Rooms) : 
 pub record Turn (g : Given) (first : List ℕ) (p : ℕ) (l : Rooms) (m : ℕ) : Type 0 where
   pub place : Place g first p
   pub fit : PutFit l m
+
+-- the whole call, with a table that holds the count everywhere
+pub record Tabled (g : Given) (first : List ℕ) (l : Rooms) : Type 0 where
+  pub ready : Ready g l
+  pub fill : Fill first (g .vc) (g .cutAt) (g .count)
+
+-- so few vertices that a small table will do
+pub record Few (g : Given) (l : Rooms) : Type 0 where
+  pub ready : Ready g l
+  pub few : g .vc ≤ 64
 
 -- the whole loop
 pub record Writing (g : Given) (first : List ℕ) (l : Rooms) : Type 0 where

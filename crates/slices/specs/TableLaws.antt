@@ -20,8 +20,8 @@ use Rattle.slices.specs.Steps.{Fill, FirstTable, Search, Found, NextCut,
 -- ---- writing the table, from the last cut to the first
 
 -- the cuts from place p on are in the table
-pub record Filling (first : List ℕ) (vc : ℕ) (cutAt : List ℕ) (count p : ℕ) : Type 0 where
-  pub size : length first ≡ 1024
+pub record Filling (first₀ first : List ℕ) (vc : ℕ) (cutAt : List ℕ) (count p : ℕ) : Type 0 where
+  pub size : length first ≡ length first₀
   pub ahead : p ≤ count
   pub holds : (i : ℕ) → i < vc → getD first i 0 ≡ firstFrom (count - p) cutAt i p
 
@@ -34,13 +34,13 @@ unfolding firstFrom
 first-later left i p cutAt e = rw (firstFrom, e)
 
 module _ (first₀ first : List ℕ) (vc : ℕ) (cutAt : List ℕ) (count : ℕ) (given : Fill first₀ vc cutAt count) where
-  pub fill-none : Filling first₀ vc cutAt count count
+  pub fill-none : Filling first₀ first₀ vc cutAt count count
   unfolding firstFrom
   fill-none =
-      record { size = given .size; ahead = omega arith; holds = λ i h. given .none i (omega arith) ∙ rw (sub-self count) }
+      record { size = refl; ahead = omega arith; holds = λ i h. given .none i h ∙ rw (sub-self count) }
 
-  pub fill-turn : (p : ℕ) → Filling first vc cutAt count p → 0 < p
-      → Filling (set first (segmentAt cutAt (p - 1)) (p - 1)) vc cutAt count (p - 1)
+  pub fill-turn : (p : ℕ) → Filling first₀ first vc cutAt count p → 0 < p
+      → Filling first₀ (set first (segmentAt cutAt (p - 1)) (p - 1)) vc cutAt count (p - 1)
   fill-turn p f h =
       let s = segmentAt cutAt (p - 1) in
       let b : s < vc = given .inside (p - 1) (omega arith) in
@@ -51,20 +51,20 @@ module _ (first₀ first : List ℕ) (vc : ℕ) (cutAt : List ℕ) (count : ℕ)
         ahead = omega arith;
         holds = λ i k. rw n
             (by-test (eqb s i)
-            (λ e. let q : s ≡ i = eqb-true s i e in rw (first-here _ _ _ _ e, ← q) (getD-set-same first s (p - 1) 0 (omega arith)))
+            (λ e. let q : s ≡ i = eqb-true s i e in rw (first-here _ _ _ _ e, ← q) (getD-set-same first s (p - 1) 0 (omega (arith, given .size, f .size))))
             (λ e. rw (first-later _ _ _ _ e, m) (getD-set-other first s i (p - 1) 0 (λ q. eqb-false s i e (sym q)) ∙ f .holds i k)));
       }
 
-  pub fill-end : (p : ℕ) → Filling first vc cutAt count p → p ≤ 0 → FirstTable first vc cutAt count
+  pub fill-end : (p : ℕ) → Filling first₀ first vc cutAt count p → p ≤ 0 → FirstTable first vc cutAt count
   unfolding firstCut
-  fill-end p f h = let z : p ≡ 0 = omega arith in record { size = f .size; holds = λ i k. f .holds i k ∙ rw (z, sub-zero count) }
+  fill-end p f h = let z : p ≡ 0 = omega arith in record { size = omega (arith, given .size, f .size); holds = λ i k. f .holds i k ∙ rw (z, sub-zero count) }
 
   -- the store is inside the table
-  pub fill-inside : (p : ℕ) → Filling first vc cutAt count p → 0 < p → segmentAt cutAt (p - 1) < 1024
-  fill-inside p f h = omega (arith, given .inside (p - 1) (omega arith))
+  pub fill-inside : (p : ℕ) → Filling first₀ first vc cutAt count p → 0 < p → segmentAt cutAt (p - 1) < length first
+  fill-inside p f h = omega (arith, given .inside (p - 1) (omega arith), given .size, f .size)
 
-  pub fill-fits : (p : ℕ) → Filling first vc cutAt count p → 0 < p → Fits w64 (segmentAt cutAt (p - 1) * 8)
-  fill-fits p f h = record { fits = omega (arith, fill-inside p f h) }
+  pub fill-fits : (p : ℕ) → Filling first₀ first vc cutAt count p → 0 < p → Fits w64 (segmentAt cutAt (p - 1) * 8)
+  fill-fits p f h = record { fits = omega (arith, given .inside (p - 1) (omega arith), given .most) }
 
 pub ruleset filling = (fill-none, fill-turn, fill-end, fill-inside, fill-fits)
 
@@ -170,11 +170,11 @@ module _ (first : List ℕ) (vc count s : ℕ) (given : Search first vc count s)
         }
 
   -- a wrapped index is inside the table, and so is its scaled form
-  pub seek-inside : (i k : ℕ) → i ≡ wrap vc (s + k) → i < 1024
-  seek-inside i k e = omega (arith, wrap-lt vc (s + k) (omega arith))
+  pub seek-inside : (i k : ℕ) → i ≡ wrap vc (s + k) → i < length first
+  seek-inside i k e = omega (arith, wrap-lt vc (s + k) (omega arith), given .size)
 
   pub seek-fits : (i k : ℕ) → i ≡ wrap vc (s + k) → Fits w64 (i * 8)
-  seek-fits i k e = record { fits = omega (arith, seek-inside i k e) }
+  seek-fits i k e = record { fits = omega (arith, wrap-lt vc (s + k) (omega arith), given .most) }
 
   -- what the search found, as one answer
   pub next-of : (k i : ℕ) → Found first vc count s k → i ≡ wrap vc (s + k) → NextCut first vc count s (record { traverse = k; index = i; cut = getD first i 0 })

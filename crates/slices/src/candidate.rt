@@ -69,7 +69,7 @@ fn walk(
     count: usize,
     splits: &[f64],
     t: Tolerance,
-    first: &[usize; 1024],
+    first: &[usize],
     p: usize,
 ) -> Candidate
     requires { ⌜ Place (given (now outline) vc (now «cut_at») (now cut) count (now splits) t) (now first) p ⌝ }
@@ -100,7 +100,7 @@ pub(crate) fn candidate_at(
     count: usize,
     splits: &[f64],
     t: Tolerance,
-    first: &[usize; 1024],
+    first: &[usize],
     p: usize,
 ) -> Candidate
     requires { ⌜ Place (given (now outline) vc (now «cut_at») (now cut) count (now splits) t) (now first) p ⌝ }

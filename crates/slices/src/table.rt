@@ -11,7 +11,7 @@ pub(crate) struct Next {
 }
 
 // Writes the table: at each segment the place of its first cut. A segment with no cut keeps `count`, which the table holds everywhere at the start.
-pub(crate) fn fill_first(first: &mut [usize; 1024], vc: usize, cut_at: &[usize], count: usize)
+pub(crate) fn fill_first(first: &mut [usize], vc: usize, cut_at: &[usize], count: usize)
     requires { ⌜ Fill (now first) vc (now «cut_at») count ⌝ }
     ensures { λ _. ⌜ FirstTable (now (first .exit)) vc (now («cut_at» .entry)) count ⌝ }
 {
@@ -24,7 +24,7 @@ pub(crate) fn fill_first(first: &mut [usize; 1024], vc: usize, cut_at: &[usize],
 }
 
 // The traverse count: how many segments on from `s` the next one is that has a cut. It is from 1 to vc, since `s` itself has one.
-fn traverse_count(first: &[usize; 1024], vc: usize, count: usize, s: usize) -> usize
+fn traverse_count(first: &[usize], vc: usize, count: usize, s: usize) -> usize
     requires { ⌜ Search (now first) vc count s ⌝ }
     ensures { λ r. ⌜ Found (now (first .entry)) vc count s r ⌝ }
 {
@@ -40,7 +40,7 @@ fn traverse_count(first: &[usize; 1024], vc: usize, count: usize, s: usize) -> u
 }
 
 // Where a walk from the segment `s` ends.
-pub(crate) fn next_cut(first: &[usize; 1024], vc: usize, count: usize, s: usize) -> Next
+pub(crate) fn next_cut(first: &[usize], vc: usize, count: usize, s: usize) -> Next
     requires { ⌜ Search (now first) vc count s ⌝ }
     ensures { λ r. ⌜ NextCut (now (first .entry)) vc count s r ⌝ }
 {

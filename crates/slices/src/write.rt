@@ -1,7 +1,7 @@
 // The candidates of one outline, written into lent room.
 ghost use Rattle.slices.specs.Slices.{given, candidateAt};
 ghost use Rattle.slices.specs.Ready.{rooms, Ready, Written};
-ghost use Rattle.slices.specs.Steps.{Turn, Put, Writing, Items, ClearFit, Cleared};
+ghost use Rattle.slices.specs.Steps.{Turn, Put, Tabled, Few, Writing, Items, ClearFit, Cleared};
 use crate::candidate;
 use crate::put;
 use crate::table;
@@ -17,7 +17,7 @@ fn write_one(
     count: usize,
     splits: &[f64],
     t: Tolerance,
-    first: &[usize; 1024],
+    first: &[usize],
     p: usize,
     cand_at: &mut [usize],
     cand: &mut [f64],
@@ -40,7 +40,7 @@ fn write_items(
     count: usize,
     splits: &[f64],
     t: Tolerance,
-    first: &[usize; 1024],
+    first: &[usize],
     cand_at: &mut [usize],
     cand: &mut [f64],
     probe: &mut [f64],
@@ -81,8 +81,75 @@ fn clear_rest(cand_at: &mut [usize], cand: &mut [f64], probe: &mut [f64], m: usi
     room::clear_numbers(probe, 6 * m, 6 * need);
 }
 
-// Writes the candidates over cuts that are in order, then zero up to one candidate per cut, and says how many candidates there are.
-pub fn write_candidates(
+// Writes the candidates over cuts that are in order, then zero up to one candidate per cut, and says how many candidates there are. The table holds the count
+// of cuts everywhere.
+fn write_with(
+    outline: &[f64],
+    vc: usize,
+    cut_at: &[usize],
+    cut: &[f64],
+    count: usize,
+    splits: &[f64],
+    t: Tolerance,
+    first: &mut [usize],
+    cand_at: &mut [usize],
+    cand: &mut [f64],
+    probe: &mut [f64],
+) -> usize
+    requires { ⌜ Tabled (given (now outline) vc (now «cut_at») (now cut) count (now splits) t) (now first) (rooms (now «cand_at») (now cand) (now probe)) ⌝ }
+    ensures { λ r. ⌜ Written (given (now (outline .entry)) vc (now («cut_at» .entry)) (now (cut .entry)) count (now (splits .entry)) t) (rooms (now («cand_at» .entry)) (now (cand .entry)) (now (probe .entry))) r (rooms (now («cand_at» .exit)) (now (cand .exit)) (now (probe .exit))) ⌝ }
+{
+    table::fill_first(first, vc, cut_at, count);
+    let m = write_items(
+        outline,
+        vc,
+        cut_at,
+        cut,
+        count,
+        splits,
+        t,
+        first,
+        cand_at,
+        cand,
+        probe,
+    );
+    clear_rest(cand_at, cand, probe, m, count);
+    m
+}
+
+// The same by a small table, which costs little to set up, and by a table for the most.
+fn write_few(
+    outline: &[f64],
+    vc: usize,
+    cut_at: &[usize],
+    cut: &[f64],
+    count: usize,
+    splits: &[f64],
+    t: Tolerance,
+    cand_at: &mut [usize],
+    cand: &mut [f64],
+    probe: &mut [f64],
+) -> usize
+    requires { ⌜ Few (given (now outline) vc (now «cut_at») (now cut) count (now splits) t) (rooms (now «cand_at») (now cand) (now probe)) ⌝ }
+    ensures { λ r. ⌜ Written (given (now (outline .entry)) vc (now («cut_at» .entry)) (now (cut .entry)) count (now (splits .entry)) t) (rooms (now («cand_at» .entry)) (now (cand .entry)) (now (probe .entry))) r (rooms (now («cand_at» .exit)) (now (cand .exit)) (now (probe .exit))) ⌝ }
+{
+    let mut first = [count; 64];
+    write_with(
+        outline,
+        vc,
+        cut_at,
+        cut,
+        count,
+        splits,
+        t,
+        &mut first,
+        cand_at,
+        cand,
+        probe,
+    )
+}
+
+fn write_many(
     outline: &[f64],
     vc: usize,
     cut_at: &[usize],
@@ -98,8 +165,7 @@ pub fn write_candidates(
     ensures { λ r. ⌜ Written (given (now (outline .entry)) vc (now («cut_at» .entry)) (now (cut .entry)) count (now (splits .entry)) t) (rooms (now («cand_at» .entry)) (now (cand .entry)) (now (probe .entry))) r (rooms (now («cand_at» .exit)) (now (cand .exit)) (now (probe .exit))) ⌝ }
 {
     let mut first = [count; 1024];
-    table::fill_first(&mut first, vc, cut_at, count);
-    let m = write_items(
+    write_with(
         outline,
         vc,
         cut_at,
@@ -107,11 +173,53 @@ pub fn write_candidates(
         count,
         splits,
         t,
-        &first,
+        &mut first,
         cand_at,
         cand,
         probe,
-    );
-    clear_rest(cand_at, cand, probe, m, count);
-    m
+    )
+}
+
+// The candidates over cuts that are in order.
+pub fn write_candidates(
+    outline: &[f64],
+    vc: usize,
+    cut_at: &[usize],
+    cut: &[f64],
+    count: usize,
+    splits: &[f64],
+    t: Tolerance,
+    cand_at: &mut [usize],
+    cand: &mut [f64],
+    probe: &mut [f64],
+) -> usize
+    requires { ⌜ Ready (given (now outline) vc (now «cut_at») (now cut) count (now splits) t) (rooms (now «cand_at») (now cand) (now probe)) ⌝ }
+    ensures { λ r. ⌜ Written (given (now (outline .entry)) vc (now («cut_at» .entry)) (now (cut .entry)) count (now (splits .entry)) t) (rooms (now («cand_at» .entry)) (now (cand .entry)) (now (probe .entry))) r (rooms (now («cand_at» .exit)) (now (cand .exit)) (now (probe .exit))) ⌝ }
+{
+    if vc <= 64 {
+        return write_few(
+            outline,
+            vc,
+            cut_at,
+            cut,
+            count,
+            splits,
+            t,
+            cand_at,
+            cand,
+            probe,
+        );
+    }
+    write_many(
+        outline,
+        vc,
+        cut_at,
+        cut,
+        count,
+        splits,
+        t,
+        cand_at,
+        cand,
+        probe,
+    )
 }

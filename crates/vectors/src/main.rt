@@ -83,6 +83,7 @@ fn all(fd: i32, buf: &mut [u8], seen: &mut [usize], differ: &mut [usize]) {
         return;
     }
     let count = bits::word_at(buf, 1);
+    tally::announce(seen, count);
     cases(fd, count, buf, seen, differ);
 }
 
@@ -93,8 +94,8 @@ fn main() {
         return;
     }
     let mut buf = [0u8; 32768];
-    let mut seen = [0usize; 14];
-    let mut differ = [0usize; 14];
+    let mut seen = [0usize; 15];
+    let mut differ = [0usize; 15];
     all(fd, &mut buf, &mut seen, &mut differ);
     libc::close(fd);
     tally::show(&seen, &differ);

@@ -26,6 +26,13 @@ fn add_origin(seen: &mut [usize], origin: usize) {
     add(seen, 12);
 }
 
+// Place 14 has how many cases the record's head announces.
+pub(crate) fn announce(seen: &mut [usize], n: usize) {
+    if seen.len() > 14 {
+        seen[14] = n;
+    }
+}
+
 // Place 13 has the sum of all words.
 pub(crate) fn add_words(seen: &mut [usize], own: &[u8]) {
     if seen.len() > 13 {
@@ -88,6 +95,8 @@ pub(crate) fn show(seen: &[usize], differ: &[usize]) {
     whole(at(seen, 13));
     word(b"\n");
     whole(at(seen, 10));
+    word(b" of ");
+    whole(at(seen, 14));
     word(b" cases, ");
     whole(at(differ, 10));
     word(b" differ\n");

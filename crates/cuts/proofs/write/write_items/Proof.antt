@@ -1,7 +1,7 @@
-use borrow.Author.Needs.{needs}
 use Prim.Native.Nat.{_-_}
 use Rattle.cuts.specs.Cuts.{givenIn}
 use Rattle.cuts.specs.WriteLaws.{Writing, writing}
+use borrow.Author.Needs.{needs}
 use Rattle.cuts.proofs.write.write_items.Statement.{statement}
 use Rattle.cuts.proofs.write.write_items.Tie as tie
 
@@ -23,8 +23,8 @@ loop-holds c = search (needs, writing)
 mul-n : tie.Need-mul-n Inv-loop μ-loop
 mul-n c = search needs
 
-element-copy-out-n : tie.Need-element-copy-out-n Inv-loop μ-loop
-element-copy-out-n c = search needs
+shared-slice-read-n : tie.Need-shared-slice-read-n Inv-loop μ-loop
+shared-slice-read-n c = search needs
 
 cut-of-requires : tie.Need-cut-of-requires Inv-loop μ-loop
 cut-of-requires c κs = search (needs, writing)
@@ -63,7 +63,7 @@ write-items-spec =
     add-count
     loop-holds
     mul-n
-    element-copy-out-n
+    shared-slice-read-n
     cut-of-requires
     put-numbers-requires
     put-point-requires

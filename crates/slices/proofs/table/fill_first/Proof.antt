@@ -1,10 +1,10 @@
-use borrow.Author.Needs.{needs}
 use Rattle.slices.specs.TableLaws.{Filling, filling}
+use borrow.Author.Needs.{needs}
 use Rattle.slices.proofs.table.fill_first.Statement.{statement}
 use Rattle.slices.proofs.table.fill_first.Tie as tie
 
 abbrev Inv-loop : tie.InvT-loop
-Inv-loop first₀ vc cut-at count p₀ first p = Filling first vc cut-at count p
+Inv-loop first₀ vc cut-at count p₀ first p = Filling first₀ first vc cut-at count p
 
 abbrev μ-loop : tie.MeasureT-loop
 μ-loop first₀ vc cut-at count p₀ first p = p
@@ -27,14 +27,17 @@ shared-slice-read-s c = search needs
 mul-first : tie.Need-mul-first Inv-loop μ-loop
 mul-first c = search (needs, filling)
 
-element-write-first : tie.Need-element-write-first Inv-loop μ-loop
-element-write-first c = search (needs, filling)
+slice-write-first : tie.Need-slice-write-first Inv-loop μ-loop
+slice-write-first c = search (needs, filling)
 
 loop-less : tie.Need-loop-less Inv-loop μ-loop
 loop-less c = search needs
 
 loop-again : tie.Need-loop-again Inv-loop μ-loop
 loop-again c = search (needs, filling)
+
+same-length : tie.Need-same-length Inv-loop μ-loop
+same-length c = search needs
 
 returns : tie.Need-returns Inv-loop μ-loop
 returns c = search (needs, filling)
@@ -51,7 +54,8 @@ fill-first-spec =
     mul-s-2
     shared-slice-read-s
     mul-first
-    element-write-first
+    slice-write-first
     loop-less
     loop-again
+    same-length
     returns)

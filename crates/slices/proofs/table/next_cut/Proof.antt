@@ -15,8 +15,8 @@ wrapped-requires c κs = search needs
 mul-t7 : tie.Need-mul-t7
 mul-t7 c = search (needs, seeking)
 
-element-copy-out-t10 : tie.Need-element-copy-out-t10
-element-copy-out-t10 c = search (needs, seeking)
+shared-slice-read-t9 : tie.Need-shared-slice-read-t9
+shared-slice-read-t9 c = search (needs, seeking)
 
 returns : tie.Need-returns
 returns c = search (needs, seeking)
@@ -29,5 +29,5 @@ next-cut-spec =
     add-wrapped
     wrapped-requires
     mul-t7
-    element-copy-out-t10
+    shared-slice-read-t9
     returns)

@@ -1,6 +1,6 @@
-use borrow.Author.Needs.{needs}
 use Prim.Native.Nat.{_-_}
 use Rattle.slices.specs.TableLaws.{Seeking, seeking}
+use borrow.Author.Needs.{needs}
 use Rattle.slices.proofs.table.traverse_count.Statement.{statement}
 use Rattle.slices.proofs.table.traverse_count.Tie as tie
 
@@ -22,8 +22,8 @@ loop-holds c = search (needs, seeking)
 mul-if1 : tie.Need-mul-if1 Inv-loop μ-loop
 mul-if1 c = search needs
 
-element-copy-out-if1 : tie.Need-element-copy-out-if1 Inv-loop μ-loop
-element-copy-out-if1 c = search needs
+shared-slice-read-if1 : tie.Need-shared-slice-read-if1 Inv-loop μ-loop
+shared-slice-read-if1 c = search needs
 
 add-k : tie.Need-add-k Inv-loop μ-loop
 add-k c = search needs
@@ -53,7 +53,7 @@ traverse-count-spec =
     wrapped-requires
     loop-holds
     mul-if1
-    element-copy-out-if1
+    shared-slice-read-if1
     add-k
     add-wrapped-2
     wrapped-requires-2

@@ -1,7 +1,7 @@
-use Rattle.slices.specs.ItemLaws.{wholes}
+use Rattle.slices.specs.ItemLaws.{wholes, rest-fit}
 use borrow.Author.Needs.{needs}
-use Rattle.slices.proofs.write.write_candidates.Statement.{statement}
-use Rattle.slices.proofs.write.write_candidates.Tie as tie
+use Rattle.slices.proofs.write.write_with.Statement.{statement}
+use Rattle.slices.proofs.write.write_with.Tie as tie
 
 fill-first-requires : tie.Need-fill-first-requires
 fill-first-requires c κs = search (needs, wholes)
@@ -10,7 +10,7 @@ write-items-requires : tie.Need-write-items-requires
 write-items-requires c κs = search (needs, wholes)
 
 clear-rest-requires : tie.Need-clear-rest-requires
-clear-rest-requires c κs = search needs
+clear-rest-requires c κs = rest-fit _ _ _ _ _ (c .before .before .before .before .before .before .before .before .before .before .before .before .before .before .before .before .before .before .before .before .before .before .before .before .before .before .pre) (c .before .before .before .before .before .before .before .before .before .write-items .ensures)
 
 same-length : tie.Need-same-length
 same-length c = search needs
@@ -21,11 +21,14 @@ same-length-2 c = search needs
 same-length-3 : tie.Need-same-length-3
 same-length-3 c = search needs
 
+same-length-4 : tie.Need-same-length-4
+same-length-4 c = search needs
+
 returns : tie.Need-returns
 returns c = search (needs, wholes)
 
-pub write-candidates-spec : {M : Type 1} → statement M
-write-candidates-spec =
+pub write-with-spec : {M : Type 1} → statement M
+write-with-spec =
     tie.close
     (tie.spec
     fill-first-requires
@@ -34,4 +37,5 @@ write-candidates-spec =
     same-length
     same-length-2
     same-length-3
+    same-length-4
     returns)
