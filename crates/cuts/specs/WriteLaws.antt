@@ -18,7 +18,7 @@ use Rattle.cuts.specs.declared.cut.Case.{Case}
 use Rattle.cuts.specs.declared.cut.Cut.{Cut}
 use Rattle.cuts.specs.Cuts.{Given, givenIn, cutCount, cutOf, Arrival}
 use Rattle.cuts.specs.Order.{earlier, ordered, orderOf, codeOf, numbersOf, pointOf, cutNumbers, cutPoints, Roomy, Written}
-use Rattle.cuts.specs.Write.{Item, Known, WriteRoom}
+use Rattle.cuts.specs.Write.{Item, Known, WriteRoom, Few}
 use Rattle.cuts.specs.SortLaws.{all-at, ordered-below, length-ordered}
 
 -- ---- the order has each cut once: its length, and its numbers
@@ -152,3 +152,10 @@ many-ready g cutAt cut r segs keys order a b c =
     let f = r .accepted .ready .fewHits in
     let h = r .accepted .ready .fewLaps in
     record { roomy = r; all = record { segsLong = omega arith; keysLong = omega arith }; long = omega arith }
+
+-- and lists of 64 a call with few cuts
+pub few-ready : (g : Given) (cutAt : List ℕ) (cut : List Float) → Few g cutAt cut → (segs : List ℕ) (keys : List Float) (order : List ℕ)
+    → length segs ≡ 64 → length keys ≡ 64 → length order ≡ 64 → WriteRoom g segs keys order cutAt cut
+few-ready g cutAt cut f segs keys order a b c =
+    let h = f .few in
+    record { roomy = f .roomy; all = record { segsLong = omega arith; keysLong = omega arith }; long = omega arith }

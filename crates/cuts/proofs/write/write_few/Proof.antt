@@ -1,3 +1,7 @@
+use Prim.Native.Nat.{ℕ}
+use lib.ListN.{length-replicate}
+use Rattle.basis.specs.Number.{+0}
+use Rattle.cuts.specs.WriteLaws.{few-ready}
 use borrow.Author.Needs.{needs}
 use Rattle.cuts.proofs.write.write_few.Statement.{statement}
 use Rattle.cuts.proofs.write.write_few.Tie as tie
@@ -12,7 +16,7 @@ slice-aggregate-write-with-3 : tie.Need-slice-aggregate-write-with-3
 slice-aggregate-write-with-3 c = search needs
 
 write-with-requires : tie.Need-write-with-requires
-write-with-requires c κs = search needs
+write-with-requires c κs = few-ready _ _ _ (search c) _ _ _ (length-replicate {A = ℕ} 64 0) (length-replicate 64 +0) (length-replicate {A = ℕ} 64 0)
 
 same-length : tie.Need-same-length
 same-length c = search needs
