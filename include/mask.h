@@ -265,8 +265,8 @@ mask_stitch_answer mask_stitch(const double *outline1, size_t outline1_len, size
                                size_t chain_how_len);
 
 /*
- * The loops whose area is not less than `limit`, by number, in order. `areas` has one
- * area per loop, of at most 1792. `count` is how many are kept; the need of `kept` is
+ * The loops whose area, whatever its sign, is not less than `limit`, by number, in order.
+ * `areas` has one signed area per loop, of at most 1792. `count` is how many are kept; the need of `kept` is
  * one entry per loop. Refusals 1, 4, 5, 9.
  */
 mask_count_answer mask_area_pass(const double *areas, size_t areas_len, size_t loops, double limit,

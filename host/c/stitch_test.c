@@ -1224,7 +1224,7 @@ static int area_passed(void)
         a.refusal = 9;
     else {
         for (size_t i = 0; i < p.loops; i++)
-            if (!(p.areas[i] < p.limit))
+            if (!(fabs(p.areas[i]) < p.limit))
                 put_word(KEPT, i);
         a.count = want[KEPT].used;
         fill(KEPT, p.loops);
@@ -1250,6 +1250,7 @@ static void check_pass(uint32_t refusal, size_t count, const char *name)
 static void area(void)
 {
     const double zeros[] = {0.0, -0.0, -0x1p-1074, 0x1p-1074};
+    const double holes[] = {-1, -0.5, 2, -0.0, -3, 0.5};
     double areas[] = {1, 0.5, 2, 1, 0, 3};
     unsigned bad = 0;
     pass(areas, 0, 0, 0);
@@ -1262,6 +1263,10 @@ static void area(void)
     check_pass(0, 0, "one ulp below the limit: dropped");
     p.limit = nextafter(1, 0);
     check_pass(0, 1, "one ulp above the limit: kept");
+    pass(holes, 6, 1, 0);
+    check_pass(0, 3, "a hole is kept by its size; exactly minus the limit is kept");
+    p.limit = nextafter(1, 2);
+    check_pass(0, 2, "one ulp below the limit in size, clockwise: dropped");
     pass(areas, 6, 1, 0);
     check_pass(0, 4, "kept by number, in order, the rest 0");
     pass(areas, 6, 1, 5);
@@ -1269,15 +1274,15 @@ static void area(void)
     pass(areas, 6, 9, 1);
     check_pass(0, 0, "all dropped");
     pass(zeros, 4, 0.0, 0);
-    check_pass(0, 3, "limit 0: 0 and -0 are kept, below 0 is dropped");
+    check_pass(0, 4, "limit 0: all are kept");
     p.limit = -0.0;
-    check_pass(0, 3, "limit -0 is accepted: the same");
+    check_pass(0, 4, "limit -0 is accepted: the same");
     p.limit = DBL_MAX;
     check_pass(0, 0, "the greatest limit is accepted");
     p.areas[2] = DBL_MAX, p.areas[1] = -DBL_MAX;
-    check_pass(0, 1, "the greatest areas are accepted");
+    check_pass(0, 2, "the greatest areas are accepted, and kept whatever their sign");
     p.limit = 0x1p-1074;
-    check_pass(0, 2, "the least limit");
+    check_pass(0, 3, "the least limit");
     pass(areas, 6, NAN, 0);
     check_pass(4, 0, "limit NaN: 4");
     p.limit = INFINITY;

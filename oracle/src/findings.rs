@@ -17,7 +17,6 @@ const TOLERANCE: f64 = 1.0 / 1024.0;
 
 /// Prints them all.
 pub fn show() {
-    area_sign();
     ties();
     joined_overlap(
         "a union gets a spike",
@@ -62,18 +61,6 @@ fn both(call: &Call) -> (Outcome, Outcome) {
         number => Outcome::refused(call, number),
     };
     (theirs, ours)
-}
-
-fn area_sign() {
-    let call = cases::area_pass(&mut Random::new(1), &[-1.0], 0.0);
-    let (theirs, ours) = both(&call);
-    println!("area sign: one loop of area -1, limit 0");
-    println!("  document 01: dropped, for -1 is less than 0");
-    println!(
-        "  original:    keeps {} (it compares 1 with 0)",
-        theirs.answer[1]
-    );
-    println!("  archive:     keeps {}\n", ours.answer[1]);
 }
 
 /// 33 intersections on the first segment of (0,0) (8,0): one at (2,0), then 32 at a distance of 1, to

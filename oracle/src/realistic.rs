@@ -437,8 +437,7 @@ impl Pair {
         (stitched.answer[0] == 0).then(|| loops_of(&stitched))
     }
 
-    /// The loops that remain. The pass is run on the signed areas and on those without the sign; the
-    /// second is what the original does, and is given back.
+    /// The loops that remain, by their signed areas.
     fn kept(
         &self,
         tally: &mut Tally,
@@ -447,9 +446,7 @@ impl Pair {
         limit: f64,
     ) -> Vec<Vec<f64>> {
         let areas: Vec<f64> = loops.iter().map(|l| stages::outline(l).area()).collect();
-        tally.compare(FAMILY, &cases::area_pass(rng, &areas, limit));
-        let sizes: Vec<f64> = areas.iter().map(|area| area.abs()).collect();
-        let kept = tally.compare(FAMILY, &cases::area_pass(rng, &sizes, limit));
+        let kept = tally.compare(FAMILY, &cases::area_pass(rng, &areas, limit));
         let numbers = &kept.lent[0][..kept.answer[1] as usize];
         numbers.iter().map(|n| loops[*n as usize].clone()).collect()
     }

@@ -208,7 +208,6 @@ impl Tally {
     }
 }
 
-pub const AREA_SIGN: &str = "area sign: the original drops by the area without its sign";
 pub const TIES: &str = "ties: 33 or more cuts on one segment, equal distances";
 
 /// The name of a known difference, where it accounts for all that differs: with that one thing done as
@@ -218,24 +217,10 @@ fn explanation(call: &Call, expected: &Outcome, ours: &Outcome) -> Option<&'stat
         return None;
     }
     match call.entry {
-        Entry::AreaPass if without_negative(call, expected) == *ours => Some(AREA_SIGN),
         Entry::CutOrder if in_order_of_arrival(call, expected) == *ours => Some(TIES),
         Entry::Candidates if order_is_tied(call) && frame_holds(call, ours) => Some(TIES),
         _ => None,
     }
-}
-
-/// The original's area pass, less the loops that it keeps for the size of a negative area.
-fn without_negative(call: &Call, expected: &Outcome) -> Outcome {
-    let mut r = call.read();
-    let areas = r.list();
-    let mut kept = expected.lent[0][..expected.answer[1] as usize].to_vec();
-    kept.retain(|number| f64::from_bits(areas[*number as usize]) >= 0.0);
-    let mut outcome = expected.clone();
-    outcome.answer[1] = kept.len() as u64;
-    outcome.lent[0][..areas.len()].fill(0);
-    outcome.lent[0][..kept.len()].copy_from_slice(&kept);
-    outcome
 }
 
 /// The original's cuts, with those of equal distance on a segment of 33 or more in order of arrival.

@@ -1,16 +1,17 @@
--- Document 01: "The area pass then takes one area per loop and drops a loop whose area is less than the limit, strictly. Kept loops are listed by number
--- in order; the list needs one entry per loop."
+-- Document 01: "The area pass then takes one area per loop [..] Kept loops are listed by number in order; the list needs one entry per loop." Which loops are
+-- dropped is said by request K2: "a loop is dropped when the absolute value of its area is below the limit, strictly".
 use Prim.Native.Nat.{ℕ, zero, suc, _≤_}
 use mathlib.Core.Bool.{Bool, not, cond}
 use mathlib.Core.Path.{_≡_}
 use mathlib.Core.List.{List, [], _∷_, _++_}
 use lib.ListN.{length, getD}
 use lib.Ieee.{Float, nan, lt}
+use Rattle.basis.specs.Number.{absF}
 use Rattle.basis.specs.Room.{roomOf}
 
--- a loop stays: its area is not "less than the limit, strictly"
+-- a loop stays: the absolute value of its area is not "below the limit, strictly". "An area of exactly minus the limit is kept."
 unfoldable pub isKept : Float → Float → Bool
-isKept limit area = not (lt area limit)
+isKept limit area = not (lt (absF area) limit)
 
 -- the numbers of those that stay among the first n loops
 unfoldable pub keptTo : List Float → Float → ℕ → List ℕ

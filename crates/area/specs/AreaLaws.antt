@@ -1,16 +1,23 @@
 -- Laws of the loop that lists the kept loops; and what is true of the list.
 use Prim.Native.Nat.{ℕ, zero, suc, _+_, _≤_, _<_, zero-le}
-use mathlib.Core.Bool.{Bool, true, false, cond}
-use mathlib.Core.Path.{_≡_, refl, sym}
+use mathlib.Core.Bool.{Bool, true, false, not, cond}
+use mathlib.Core.Path.{_≡_, refl, sym, ap, _∙_}
 use mathlib.Core.List.{List, [], _∷_, _++_, append-nil}
 use native.Mathlib.Numerals.{add-one}
 use native.Mathlib.Omega.{arith}
 use lib.ListN.{length, getD, set, drop, length-append, length-set}
 use lib.Seq.{set-at, drop-cons, append-snoc}
-use lib.Ieee.{Float, nan}
+use lib.Ieee.{Float, nan, lt}
+use Rattle.basis.specs.Number.{ownAbs}
+use Rattle.basis.specs.NumberLaws.{abs-lt}
 use Rattle.basis.specs.Room.{cleared}
 use Rattle.basis.specs.RoomLaws.{room-left}
 use Rattle.area.specs.Area.{isKept, keptTo, keptOf, Kept}
+
+-- what code with a test for the sign finds
+pub kept-by : (limit area size : Float) → size ≡ ownAbs area → not (lt size limit) ≡ isKept limit area
+unfolding isKept
+kept-by limit area size e = ap not (ap (λ (x : Float). lt x limit) e ∙ abs-lt area limit)
 
 module _ (areas : List Float) (limit : Float) where
   -- at most one number per loop

@@ -1,13 +1,14 @@
 // Document 01, the area pass: one area per loop; the loops that stay, listed by number.
 ghost use mathlib.Core.Path.{_≡_};
 ghost use Rattle.area.specs.Area.{isKept, Roomy, Kept};
+use basis::number;
 use basis::room;
 
-// A loop stays: its area is not less than the limit.
+// A loop stays: its area, whatever its sign, is not less than the limit.
 pub fn is_kept(area: f64, limit: f64) -> bool
     ensures { λ r. ⌜ r ≡ isKept limit area ⌝ }
 {
-    !(area < limit)
+    !(number::magnitude(area) < limit)
 }
 
 // Writes the numbers of the loops that stay, in order, then 0 up to one entry per loop, and says how many there are.

@@ -215,7 +215,8 @@ pub fn stitch(
     Refusal::check(answer.refusal, counts)
 }
 
-/// Writes the numbers of the loops whose area is not less than `limit`, and gives their number.
+/// Writes the numbers of the loops whose area, whatever its sign, is not less than `limit`, and gives
+/// their number.
 /// Room: one for each area.
 pub fn area_pass(areas: &[f64], limit: f64, kept: &mut [usize]) -> Result<usize, Refusal> {
     let answer = ffi::area_pass(areas, areas.len(), limit, kept);

@@ -104,8 +104,8 @@ impl Masks<'_> {
         })
     }
 
-    /// The loops that are not below the area limit. Areas go in by magnitude, so that holes are
-    /// measured as other loops are.
+    /// The loops that are not below the area limit. The library goes by their size, so that holes
+    /// are measured as other loops are.
     fn kept<H: Host + ?Sized>(
         &self,
         stitched: &Stitched,
@@ -114,7 +114,7 @@ impl Masks<'_> {
         match self.area_limit {
             None => Ok((0..stitched.loop_count()).collect()),
             Some(limit) => {
-                let areas: Vec<f64> = stitched.loops().map(|lp| host.area(lp).abs()).collect();
+                let areas: Vec<f64> = stitched.loops().map(|lp| host.area(lp)).collect();
                 area_pass(&areas, limit)
             }
         }
@@ -286,7 +286,7 @@ mod tests {
             replies.push(Reply::writing(count(kept.len()), vec![kept], vec![]));
             let (combined, calls) = combine(replies, Some(3.0), &mut host(-2.5));
             assert_eq!(calls[6].entry, "area_pass");
-            assert_eq!(calls[6].lent("areas"), Lent::Numbers(vec![2.5]));
+            assert_eq!(calls[6].lent("areas"), Lent::Numbers(vec![-2.5]));
             assert_eq!(calls[6].lent("limit"), Lent::Number(3.0));
             let combined = combined.unwrap();
             assert_eq!(combined.loops().count(), loops);

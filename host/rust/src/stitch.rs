@@ -167,14 +167,13 @@ fn out_of_range(slice: Slice) -> bool {
     slice.view.end_index_offset > MOST_VERTICES
 }
 
-/// The numbers of the loops whose area is not less than `limit`. The library takes at most 1,792
-/// areas, and compares each as it comes: hand in magnitudes, or loops that run clockwise are
-/// dropped.
+/// The numbers of the loops whose area is not less than `limit`, whatever its sign: loops that run
+/// clockwise are measured as others are. The library takes at most 1,792 areas.
 ///
 /// Refusals: `Length`, `Tolerance`, `Number`.
 ///
 /// ```
-/// assert_eq!(mask_tools::area_pass(&[2.0, 0.5, 1.0], 1.0), Ok(vec![0, 2]));
+/// assert_eq!(mask_tools::area_pass(&[2.0, 0.5, -1.0], 1.0), Ok(vec![0, 2]));
 /// ```
 pub fn area_pass(areas: &[f64], limit: f64) -> Result<Vec<usize>, Refusal> {
     let mut kept = vec![0; areas.len().min(MOST_SLICES)];

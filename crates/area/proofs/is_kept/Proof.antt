@@ -1,11 +1,13 @@
-use mathlib.Core.Path.{refl}
-use Rattle.area.specs.Area.{isKept}
+use borrow.Author.Needs.{needs}
+use Rattle.area.specs.AreaLaws.{kept-by}
 use Rattle.area.proofs.is_kept.Statement.{statement}
 use Rattle.area.proofs.is_kept.Tie as tie
 
+magnitude-requires : tie.Need-magnitude-requires
+magnitude-requires c κs = search needs
+
 returns : tie.Need-returns
-unfolding isKept
-returns c = refl
+returns c = kept-by _ _ _ (c .magnitude .ensures)
 
 pub is-kept-spec : {M : Type 1} → statement M
-is-kept-spec = tie.close (tie.spec returns)
+is-kept-spec = tie.close (tie.spec magnitude-requires returns)
