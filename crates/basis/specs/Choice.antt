@@ -8,6 +8,10 @@ pub by-test : {P : Type 0} (b : Bool) → (b ≡ true → P) → (b ≡ false �
 by-test true f g = f refl
 by-test false f g = g refl
 
+-- no Bool is both
+pub clash : {P : Type 0} (b : Bool) → b ≡ true → b ≡ false → P
+clash b h k = absurd (true≢false (sym h ∙ k))
+
 pub cond-yes : {A : Type 0} (b : Bool) (x y r : A) → b ≡ true → r ≡ x → r ≡ cond b x y
 cond-yes b x y r e q = rw e q
 

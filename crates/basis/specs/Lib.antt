@@ -9,3 +9,4 @@ pub mod RoomLaws
 pub mod OrderLaws
 pub mod Each
 pub mod EachLaws
+pub mod FlatLaws

@@ -1,6 +1,6 @@
 -- Laws of the refusal table, for every entry: what acceptance tells, that the number is the lowest, and how a chain of code finds it.
 use Prim.Native.Nat.{ℕ, zero, suc, _*_, _/_, _%_, _≤_, _<_}
-use mathlib.Core.Bool.{Bool, true, false, not, _&&_, _||_, cond, true≢false}
+use mathlib.Core.Bool.{Bool, true, false, not, _&&_, cond, true≢false}
 use mathlib.Core.Path.{_≡_, refl, sym, ap, _∙_}
 use mathlib.Core.List.{List, [], _∷_, _++_}
 use mathlib.Core.Logic.{_⊎_, inl, inr}
@@ -133,10 +133,11 @@ unfoldable pub firstFrom : ℕ → List Row → ℕ
 firstFrom r [] = r
 firstFrom r (row b n ∷ t) = firstFrom (orElse r b n) t
 
-kept : (k : ℕ) (t : List Row) → firstFrom (suc k) t ≡ suc k
+-- what was found stays
+pub found-stays : (k : ℕ) (t : List Row) → firstFrom (suc k) t ≡ suc k
 unfolding orElse firstFrom
-kept k [] = refl
-kept k (row b n ∷ t) = kept k t
+found-stays k [] = refl
+found-stays k (row b n ∷ t) = found-stays k t
 
 pub first-from : (t : List Row) (r : ℕ) → T (numbered t) → r ≡ firstFrom 0 t → r ≡ firstOf t
 unfolding orElse firstFrom firstOf
@@ -145,7 +146,7 @@ first-from t r h e = e ∙ go t h
     go : (t : List Row) → T (numbered t) → firstFrom 0 t ≡ firstOf t
     go [] h = refl
     go (row b zero ∷ t) h = absurd (head false (numbered t) h)
-    go (row true (suc n) ∷ t) h = kept n t
+    go (row true (suc n) ∷ t) h = found-stays n t
     go (row false (suc n) ∷ t) h = go t (tail (ltb 0 (suc n)) (numbered t) h)
 
 -- a table in parts: one function looks at the first part and hands on what it found

@@ -6,16 +6,12 @@ use native.Mathlib.Omega.{arith}
 use lib.ListN.{length, take, drop, length-drop, drop-of-length-le}
 use lib.Seq.{take-suc, take-at, drop-at, take-all, length-take-le}
 use lib.Ieee.{Float, nan}
+use Rattle.basis.specs.FlatLaws.{flat-snoc}
 use Rattle.outline.specs.declared.point.Vertex.{Vertex}
 use Rattle.outline.specs.Points.{vertexNumbers}
 use Rattle.outline.specs.Outline.{vertexAt}
 use Rattle.chain.specs.Chain.{dropLast}
 use Rattle.chain.specs.Held.{chainOf}
-
-pub flat-snoc : {A B : Type 0} (f : A → List B) (l : List A) (a : A) → flatMap f (l ++ (a ∷ [])) ≡ flatMap f l ++ f a
-unfolding flatMap
-flat-snoc f [] a = append-nil (f a)
-flat-snoc f (b ∷ l) a = rw (flat-snoc f l a, append-assoc)
 
 module _ (room : List Float) where
   pub chain-length : (n : ℕ) → length (chainOf room n) ≡ n

@@ -6,10 +6,9 @@ use mathlib.Core.List.{List, _++_}
 use native.Mathlib.Nat.{le-of-eq}
 use native.Mathlib.Omega.{arith}
 use lib.ListN.{length, take}
-use lib.Seq.{take-at}
 use lib.Ieee.{Float}
 use Rattle.basis.specs.Number.{+0, Tolerance}
-use Rattle.basis.specs.Room.{roomOf}
+use Rattle.basis.specs.RoomLaws.{room-front}
 use Rattle.basis.specs.RefuseLaws.{Clear, clear, clear-left, clear-right, firstFrom, first-from, orElse, then-rows, answer-no, answer-yes}
 use Rattle.cuts.specs.Cuts.{Given, given, cutCount}
 use Rattle.cuts.specs.Order as order
@@ -30,11 +29,6 @@ dead-row : (r n : ℕ) (b : Bool) → (r ≡ 0 → b ≡ false) → r ≡ orElse
 unfolding orElse
 dead-row zero n b h = rw (h refl)
 dead-row (suc r) n b h = refl
-
--- a list that was filled to its need: its front
-pub front-of : {A : Type 0} (z : A) (w need : ℕ) (items entry l : List A) → length items ≡ w * need → l ≡ roomOf z w need items entry → take (w * need) l ≡ items
-unfolding roomOf
-front-of z w need items entry l e q = ap (take (w * need)) q ∙ take-at items _ (w * need) e
 
 -- the cuts in their order are sound for the slices
 pub along-sound : (g : Given) (splits : List Float) → Along g splits → Sound (alongCuts g splits)
@@ -146,10 +140,10 @@ module _ {g : Given} {splits : List Float} {l : Rooms} (ok : Accepted g splits l
 
 module _ {g : Given} {a a' : List ℕ} {b b' : List Float} (w : order.Written g a b a' b') where
   pub front-numbers : take (3 * cutCount g) a' ≡ cutNumbers g
-  front-numbers = front-of 0 3 (cutCount g) (cutNumbers g) a a' (numbers-length g) (w .numbers)
+  front-numbers = room-front 0 3 (cutCount g) (cutNumbers g) a a' (3 * cutCount g) (w .numbers) (numbers-length g)
 
   pub front-points : take (2 * cutCount g) b' ≡ cutPoints g
-  front-points = front-of +0 2 (cutCount g) (cutPoints g) b b' (points-length g) (w .points)
+  front-points = room-front +0 2 (cutCount g) (cutPoints g) b b' (2 * cutCount g) (w .points) (points-length g)
 
   pub front-number-length : 3 * cutCount g ≡ length (take (3 * cutCount g) a')
   front-number-length = sym (ap length front-numbers ∙ numbers-length g)

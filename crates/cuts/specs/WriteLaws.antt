@@ -2,15 +2,16 @@
 use Prim.Native.Nat.{ℕ, _+_, _*_, _≤_, _<_}
 use mathlib.Core.Bool.{Bool}
 use mathlib.Core.Path.{_≡_, refl, sym, ap, _∙_}
-use mathlib.Core.List.{List, [], _∷_, _++_, append-assoc, append-nil, flatMap}
+use mathlib.Core.List.{List, [], _∷_, _++_, flatMap}
 use native.Mathlib.Nat.{mul-suc, mul-zero, sub-self}
 use native.Mathlib.Numerals.{add-one, towards-suc}
 use native.Mathlib.Omega.{arith}
-use lib.ListN.{length, getD, set, take, drop, length-append, length-take}
+use lib.ListN.{length, getD, set, take, drop, length-take}
 use lib.Seq.{sets, sets-eq, length-sets, take-suc, take-all, take-at, drop-append-add, drop-drop, getD-take}
 use lib.Ieee.{Float}
 use mir.Syntax.{w64}
 use mir.Val.{Fits}
+use Rattle.basis.specs.FlatLaws.{flat-snoc, flat-length}
 use Rattle.basis.specs.Number.{+0}
 use Rattle.basis.specs.Room.{roomOf}
 use Rattle.outline.specs.Points.{pointNumbers}
@@ -32,21 +33,6 @@ order-below g i h =
     all-at (λ m. m < cutCount g) (ordered (earlier g) (cutCount g)) i (ordered-below (earlier g) (cutCount g)) (omega (arith, length-ordered (earlier g) (cutCount g)))
 
 -- ---- items of w elements each, one after the other
-module _ {A : Type 0} (f : ℕ → List A) where
-  pub flat-append : (ns ms : List ℕ) → flatMap f (ns ++ ms) ≡ flatMap f ns ++ flatMap f ms
-  unfolding flatMap
-  flat-append [] ms = refl
-  flat-append (n ∷ ns) ms = rw (flat-append ns ms) (sym (append-assoc (f n) (flatMap f ns) (flatMap f ms)))
-
-  flat-one : (n : ℕ) → flatMap f (n ∷ []) ≡ f n
-  unfolding flatMap
-  flat-one n = append-nil (f n)
-
-  module _ (w : ℕ) (wide : (n : ℕ) → length (f n) ≡ w) where
-    pub flat-length : (ns : List ℕ) → length (flatMap f ns) ≡ w * length ns
-    unfolding flatMap
-    flat-length [] = sym (mul-zero w)
-    flat-length (n ∷ ns) = rw (length-append (f n) (flatMap f ns), wide n, flat-length ns, mul-suc) (omega arith)
 
 -- i items are written
 pub record Filling {A : Type 0} (f : ℕ → List A) (w : ℕ) (ns : List ℕ) (entry room : List A) (i : ℕ) : Type 0 where
@@ -71,7 +57,7 @@ module _ {A : Type 0} (f : ℕ → List A) (w : ℕ) (wide : (n : ℕ) → lengt
       let b : w * i + length (f n) ≤ length room = rw (wide n, s .long) fits in
       let m : w * (i + 1) ≡ w * i + w = rw (add-one i, mul-suc) (omega arith) in
       let q : sets room (w * i) (f n) ≡ xs ++ f n ++ drop (w * i + w) entry = sets-eq (f n) room (w * i) b ∙ rw (wide n, t, d) in
-      let a : flatMap f (take (i + 1) ns) ≡ xs ++ f n = rw (add-one i, take-suc ns i 0 h) (flat-append f (take i ns) (n ∷ []) ∙ ap (λ (l : List A). xs ++ l) (flat-one f n)) in
+      let a : flatMap f (take (i + 1) ns) ≡ xs ++ f n = rw (add-one i, take-suc ns i 0 h) (flat-snoc f (take i ns) n) in
       record { long = ap length e ∙ length-sets room (w * i) (f n) ∙ s .long; done = e ∙ q ∙ rw (m, a) }
 
   fill-end : (z : A) (room : List A) (i : ℕ) → Filling f w ns entry room i → i ≡ length ns → room ≡ roomOf z w (length ns) (flatMap f ns) entry

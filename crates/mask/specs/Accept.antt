@@ -7,13 +7,12 @@ use mathlib.Core.List.{List, _++_}
 use native.Mathlib.Nat.{add-zero, mul-div-right}
 use native.Mathlib.Omega.{arith}
 use lib.ListN.{length, getD, take}
-use lib.Seq.{take-at}
 use lib.Ieee.{Float}
 use borrow.Author.Tests.{le-ltb, lt-ltb, le-leb, not-false}
 use Rattle.basis.specs.Number.{+0, allWithin, tolerable}
 use Rattle.basis.specs.Each.{placesBelow, placesAtMost}
 use Rattle.basis.specs.EachLaws.{at-each, at-below, at-most}
-use Rattle.basis.specs.Room.{roomOf}
+use Rattle.basis.specs.RoomLaws.{room-front}
 use Rattle.basis.specs.Refuse.{sizeFault}
 use Rattle.basis.specs.RefuseLaws.{Clear, clear, clear-left, clear-right, clear-both, none-clear, answer-zero, answer-accepted, ok-length, ok-size}
 use Rattle.outline.specs.Outline.{Whole}
@@ -47,11 +46,6 @@ use Rattle.stitch_entries.specs.StitchRows as rows
 use Rattle.stitch_entries.specs.StitchRows.{knownSource, sourcesKnown, codeRows, numberRows, startsInside, offsetsInside, startsFault, roomRows}
 use Rattle.stitch_entries.specs.StitchEntry as stitched
 use Rattle.stitch_entries.specs.StitchEntry.{shapeRows, stitchRefusal, stitchNumber}
-
--- the items of a room, whatever its need: its front
-pub front : {A : Type 0} (z : A) (w need n : ℕ) (items entry l : List A) → l ≡ roomOf z w need items entry → length items ≡ w * n → take (w * n) l ≡ items
-unfolding roomOf
-front z w need n items entry l e h = ap (take (w * n)) e ∙ take-at items _ (w * n) h
 
 -- ---- `mask_candidates`
 
@@ -115,9 +109,9 @@ module _ (g : cuts.Given) (source : ℕ) (splits : List Float) (l : slices.Rooms
       let m : length (candNumbers along) ≡ 2 * r .count = flat-length 2 numbersOf wide-numbers along (along .count) ∙ ap (λ (k : ℕ). 2 * k) (sym n) in
       let s : length (candShapes along) ≡ 6 * r .count = flat-length 6 shapeOf wide-shapes along (along .count) ∙ ap (λ (k : ℕ). 6 * k) (sym n) in
       let at : take (2 * r .count) (left .at) ≡ candNumbers along =
-      front 0 2 (cuts.cutCount g) (r .count) (candNumbers along) (l .at) (left .at) (answer-accepted (λ _. l .at) (candNumber g source splits l) _ (left .at) (sliced .at) cand-zero) m in
+      room-front 0 2 (cuts.cutCount g) (candNumbers along) (l .at) (left .at) (2 * r .count) (answer-accepted (λ _. l .at) (candNumber g source splits l) _ (left .at) (sliced .at) cand-zero) m in
       let shape : take (6 * r .count) (left .cand) ≡ candShapes along =
-      front +0 6 (cuts.cutCount g) (r .count) (candShapes along) (l .cand) (left .cand) (answer-accepted (λ _. l .cand) (candNumber g source splits l) _ (left .cand) (sliced .cand) cand-zero) s in
+      room-front +0 6 (cuts.cutCount g) (candShapes along) (l .cand) (left .cand) (6 * r .count) (answer-accepted (λ _. l .cand) (candNumber g source splits l) _ (left .cand) (sliced .cand) cand-zero) s in
       record {
         few = omega (arith, n, count-most along, sound .few);
         places = ap length at ∙ m;
@@ -231,9 +225,9 @@ module _ (c : Called) (l : prune.Rooms) (r : PruneAnswer) (left : prune.Rooms) (
       let s : r .starts ≡ prunedOf g .starts = ap (λ (a : PruneAnswer). a .starts) given in
       let fit = stitch-accepts (c .vc1) (c .vc2) g (sound .one) (sound .two) (sound .laps) in
       let at : take (4 * r .slices) (left .at) ≡ sliceCounts g =
-      front 0 4 (needOf g) (r .slices) (sliceCounts g) (l .at) (left .at) (answer-accepted (λ _. l .at) (pruneNumber c l) _ (left .at) (holds .at) prune-zero) (fit .counts ∙ ap (λ (k : ℕ). 4 * k) (sym n)) in
+      room-front 0 4 (needOf g) (sliceCounts g) (l .at) (left .at) (4 * r .slices) (answer-accepted (λ _. l .at) (pruneNumber c l) _ (left .at) (holds .at) prune-zero) (fit .counts ∙ ap (λ (k : ℕ). 4 * k) (sym n)) in
       let shape : take (6 * r .slices) (left .shape) ≡ sliceNumbers g =
-      front +0 6 (needOf g) (r .slices) (sliceNumbers g) (l .shape) (left .shape) (answer-accepted (λ _. l .shape) (pruneNumber c l) _ (left .shape) (holds .shape) prune-zero) (fit .shapes ∙ ap (λ (k : ℕ). 6 * k) (sym n)) in
+      room-front +0 6 (needOf g) (sliceNumbers g) (l .shape) (left .shape) (6 * r .slices) (answer-accepted (λ _. l .shape) (pruneNumber c l) _ (left .shape) (holds .shape) prune-zero) (fit .shapes ∙ ap (λ (k : ℕ). 6 * k) (sym n)) in
       let up = starts-ascend g in
       record {
         few = omega (arith, n, slices-few g, ready .one .few, ready .two .few, ready .laps .few);

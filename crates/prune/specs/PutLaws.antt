@@ -1,13 +1,14 @@
 -- Laws by which slices are written one after the other.
 use Prim.Native.Nat.{ℕ, suc, _+_, _*_}
 use mathlib.Core.Path.{_≡_, refl, sym, ap, _∙_}
-use mathlib.Core.List.{List, [], _∷_, _++_, flatMap, append-assoc}
-use native.Mathlib.Nat.{add-zero, add-suc, suc-add, mul-add, mul-suc, mul-zero}
+use mathlib.Core.List.{List, [], _∷_, _++_, flatMap}
+use native.Mathlib.Nat.{add-zero, add-suc, suc-add, mul-add}
 use native.Mathlib.Numerals.{towards-suc}
 use native.Mathlib.Omega.{arith}
 use lib.ListN.{length, getD, set, length-append}
 use lib.Seq.{sets, length-sets}
 use lib.Ieee.{Float, nan}
+use Rattle.basis.specs.FlatLaws.{flat-append, flat-length}
 use Rattle.prune.specs.declared.put.Head.{Head}
 use Rattle.prune.specs.Prune.{Slice, sliceOf, headNumbers, countsOf, shapeOf}
 use Rattle.prune.specs.Ready.{Rooms, CopyFit, Placed}
@@ -43,23 +44,11 @@ six-shape h from k = simp towards-suc
 
 -- ---- slices
 
-flat-append : {A B : Type 0} (f : A → List B) (xs ys : List A) → flatMap f (xs ++ ys) ≡ flatMap f xs ++ flatMap f ys
-unfolding flatMap
-flat-append f [] ys = refl
-flat-append f (x ∷ xs) ys = rw (flat-append f xs ys) (sym (append-assoc (f x) (flatMap f xs) (flatMap f ys)))
-
--- w numbers for each
-pub flat-length : {A B : Type 0} (w : ℕ) (f : A → List B) → ((s : A) → length (f s) ≡ w) → (xs : List A) → length (flatMap f xs) ≡ w * length xs
-unfolding flatMap
-flat-length w f e [] = sym (mul-zero w)
-flat-length w f e (x ∷ xs) =
-    length-append (f x) (flatMap f xs) ∙ rw (e x, flat-length w f e xs, mul-suc) (omega arith)
-
 pub counts-length : (xs : List Slice) → length (flatMap countsOf xs) ≡ 4 * length xs
-counts-length = flat-length 4 countsOf (λ s. refl)
+counts-length = flat-length countsOf 4 (λ s. refl)
 
 pub shapes-length : (xs : List Slice) → length (flatMap shapeOf xs) ≡ 6 * length xs
-shapes-length = flat-length 6 shapeOf (λ s. refl)
+shapes-length = flat-length shapeOf 6 (λ s. refl)
 
 pub placed-none : (l : Rooms) (m : ℕ) → Placed [] l m m l
 unfolding flatMap

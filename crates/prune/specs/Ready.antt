@@ -139,10 +139,7 @@ pub record CandFit (at : List ℕ) (k : ℕ) : Type 0 where
 pub record LapFit (at : List ℕ) (j : ℕ) : Type 0 where
   pub inside : 7 * j + 6 < length at
 
--- room for `width` elements from place `at` on; and as many to copy from place i on
-pub record RoomFor {A : Type 0} (room : List A) (at width : ℕ) : Type 0 where
-  pub fits : at + width ≤ length room
-
+-- room for `width` elements from place `at` on, and as many to copy from place i on
 pub record CopyFit {A : Type 0} (from : List A) (i : ℕ) (room : List A) (at width : ℕ) : Type 0 where
   pub source : i + width ≤ length from
   pub fits : at + width ≤ length room

@@ -5,7 +5,8 @@ ghost use Prim.Native.Nat.{_+_, _*_};
 ghost use lib.Seq.{sets};
 ghost use Rattle.prune.specs.Prune.{headNumbers, sliceOf, candHead, lapInverted, lapHead};
 ghost use Rattle.prune.specs.PutLaws.{threeAt, sixAt};
-ghost use Rattle.prune.specs.Ready.{RoomFor, CopyFit, CandFit, LapFit, rooms, PutFit, Placed};
+ghost use Rattle.basis.specs.Room.{RoomFor};
+ghost use Rattle.prune.specs.Ready.{CopyFit, CandFit, LapFit, rooms, PutFit, Placed};
 use crate::mode::Part;
 
 // The counts of a slice.

@@ -19,7 +19,7 @@ use Rattle.round.specs.declared.plan.Plan.{Plan}
 use Rattle.round.specs.declared.scan.Seen.{Seen}
 use Rattle.round.specs.declared.step.Step.{Step}
 use Rattle.round.specs.declared.step.Step.the-variants.{Onto, Ends}
-use Rattle.run.specs.Run.{Next, onto, ends, Underway, passing, free, nextOf}
+use Rattle.run.specs.Run.{Next, onto, ends, closed, tooSmall, Underway, passing, free, nextOf}
 use Rattle.run.specs.Stitch.{Given, given, sliceOffset, sliceView, sliceOutline, sliceCount, startPoint, addSlice, rulesOf, howOf}
 
 -- a call, as the functions below the top have it
@@ -106,7 +106,7 @@ toldOf (ends e) = Ends (howOf e)
 
 -- slice j was chosen, for a chain of n vertices
 unfoldable pub stepOf : ℕ → ℕ → ℕ → Step
-stepOf n first j = cond (eqb j first) (cond (ltb n 3) (Ends 1) (Ends 0)) (Onto j)
+stepOf n first j = cond (eqb j first) (cond (ltb n 3) (Ends (howOf tooSmall)) (Ends (howOf closed))) (Onto j)
 
 pub record RoundFit (points : List Float) (visited : List Bool) (room : List Float) (n : ℕ) (p : Plan) : Type 0 where
   pub scan : ScanFit points visited (p .count)

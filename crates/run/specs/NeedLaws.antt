@@ -9,7 +9,8 @@ use Rattle.run.specs.Run.{Rules, Ending, closed, tooSmall, noCandidate, 
 use Rattle.run.specs.Run.{nextOf, roundOf, opened, onward, ended, walk, chainFrom, added, begun, turn, turns, run, slicesOf, orderOf}
 use Rattle.run.specs.Stitch.{sumBelow, needFor}
 use Rattle.run.specs.Demand3.{sumOver, All, firstSlice, reach, leaves, Moment, Within, Enough}
-use Rattle.run.specs.SumLaws.{sum-append, flat-snoc, all-snoc}
+use Rattle.run.specs.SumLaws.{sum-append, all-snoc}
+use Rattle.basis.specs.FlatLaws.{flat-snoc}
 use Rattle.run.specs.TallyLaws.{Tally, tally-weight, tally-most}
 use Rattle.run.specs.RunLaws.{Among, placed, placed-onward, placed-longer, Going, going-onward, going-opened, ended-slices, gone-chain, Kept, kept-turns, no-slices}
 

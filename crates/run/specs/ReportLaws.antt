@@ -12,7 +12,8 @@ use Rattle.chain.specs.Chain.{dropLast}
 use Rattle.run.specs.Run.{Chain, Ending, closed, tooSmall, noCandidate, noSelection, spent, slicesOf, roundsOf, orderOf}
 use Rattle.run.specs.Stitch.{loopOf, loopsOf, howOf, totals, isSpent, anySpent}
 use Rattle.run.specs.Demand3.{sumOver, All, LowestFirst, leaves}
-use Rattle.run.specs.SumLaws.{sum-append, flat-snoc}
+use Rattle.run.specs.SumLaws.{sum-append}
+use Rattle.basis.specs.FlatLaws.{flat-snoc}
 use Rattle.run.specs.NeedLaws.{finished}
 use Rattle.run.specs.StitchLaws.{drop-length}
 

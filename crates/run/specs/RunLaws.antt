@@ -16,7 +16,8 @@ use Rattle.run.specs.Run.{free, candidate, candidatesOf, taken, answered
 use Rattle.run.specs.Run.{walk, chainFrom, added, begun, turn, turns, run, slicesOf, roundsOf, orderOf}
 use Rattle.run.specs.Stitch.{sumBelow}
 use Rattle.run.specs.Demand3.{bit, sumOver, All, LowestFirst, Ascending, firstSlice, Demand3}
-use Rattle.run.specs.SumLaws.{below-ones, below-out, below-in, weighed-all, sum-ones, flat-snoc, all-snoc, all-imp, ascending-snoc}
+use Rattle.run.specs.SumLaws.{below-ones, below-out, below-in, weighed-all, sum-ones, all-snoc, all-imp, ascending-snoc}
+use Rattle.basis.specs.FlatLaws.{flat-snoc}
 use Rattle.run.specs.TallyLaws.{passing-mem, clash, unvisited, past-marks, marks-more, Tally, tally-none, tally-one, tally-most}
 
 -- ---- small parts

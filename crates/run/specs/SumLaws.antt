@@ -2,7 +2,7 @@
 use Prim.Native.Nat.{ℕ, zero, suc, _+_, _≤_, _<_}
 use mathlib.Core.Bool.{Bool, true, false, cond}
 use mathlib.Core.Path.{_≡_, refl, ap, _∙_}
-use mathlib.Core.List.{List, [], _∷_, _++_, append-assoc, append-nil, flatMap}
+use mathlib.Core.List.{List, [], _∷_, _++_}
 use native.Mathlib.Decide.{decLt}
 use native.Mathlib.Omega.{arith}
 use borrow.Author.Tests.{eq-eqb, ne-eqb}
@@ -96,11 +96,6 @@ sum-ones [] = refl
 sum-ones (a ∷ l) = omega (arith, sum-ones l)
 
 -- ---- one more at the end
-
-pub flat-snoc : {A B : Type 0} (f : A → List B) (l : List A) (a : A) → flatMap f (l ++ (a ∷ [])) ≡ flatMap f l ++ f a
-unfolding flatMap
-flat-snoc f [] a = append-nil (f a)
-flat-snoc f (b ∷ l) a = rw (flat-snoc f l a, append-assoc)
 
 pub all-snoc : {A : Type 0} (P : A → Type 0) (l : List A) (a : A) → All P l → P a → All P (l ++ (a ∷ []))
 all-snoc P [] a h p = (p, tt)

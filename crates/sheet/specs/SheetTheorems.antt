@@ -1,12 +1,12 @@
 -- The sheet: every case holds of the definitions, and the entries answer so.
-use Prim.Native.Nat.{ℕ, zero, suc, _+_, _-_, _*_, _≤_, _<_}
+use Prim.Native.Nat.{ℕ, zero, suc, _-_, _*_, _<_}
 use native.Mathlib.Omega.{arith}
 use mathlib.Core.Path.{_≡_, refl, sym, ap, subst, _∙_}
 use mathlib.Core.List.{List, [], _∷_, flatMap}
 use lib.ListN.{length, take}
-use lib.Seq.{take-at}
 use lib.Ieee.{Float, ofInt, ofBits, neg, add, sub, mul, lt, le}
 use Rattle.basis.specs.Room.{roomOf}
+use Rattle.basis.specs.RoomLaws.{room-front}
 use Rattle.basis.specs.Number.{+0, Tolerance, absF, agree, inSpan, within, tolerable}
 use Rattle.basis.specs.All.{allOf}
 use Rattle.basis.specs.Each.{eachTo, placesBelow, placesAtMost}
@@ -17,7 +17,7 @@ use Rattle.outline.specs.Points.{posOf, pointsAgree, inBox}
 use Rattle.outline.specs.Outline.{vertexAt, wrap, outlineAt}
 use Rattle.view.specs.declared.vertex.Found.{Found}
 use Rattle.view.specs.declared.vertex.Found.the-variants as found
-use Rattle.view.specs.View.{forwardAt, turnedAt, invertedAt, vertexOf, vertexCount, getVertex}
+use Rattle.view.specs.View.{forwardAt, turnedAt, invertedAt, vertexOf, getVertex}
 use Rattle.view.specs.ViewTheorems.{found-below, none-beyond}
 use Rattle.view_entries.specs.declared.answer.VertexAnswer.{VertexAnswer}
 use Rattle.view_entries.specs.declared.answer.ViewAnswer.{ViewAnswer}
@@ -57,7 +57,6 @@ use Rattle.stitch_entries.specs.StitchRows.{knownSource, sourcesKnown, startsIn
 use Rattle.stitch_entries.specs.declared.answer.StitchAnswer.{StitchAnswer}
 use Rattle.stitch_entries.specs.Answers.{stitchRefused, stitchGiven}
 use Rattle.stitch_entries.specs.StitchEntry.{stitchRefusal, stitchNumber}
-use Rattle.mask.specs.Accept.{front}
 use Rattle.sheet.specs.Sheet.{Said, candidatesAre, verticesAre, slicesAre, loopsAre, refusedWith, apartInBox, LoopRooms, Case, Holds, Answers, Each, sheet}
 
 -- ---- what the computation opens, under one name each
@@ -133,7 +132,7 @@ sheet-holds = (
 -- the items of a room stand in front
 in-front : {A : Type 0} (z : A) (w need : ℕ) (items wanted entry l : List A) → l ≡ roomOf z w need items entry → items ≡ wanted → take (length wanted) l ≡ wanted
 unfolding roomOf
-in-front {A = A} z w need items wanted entry l e h = subst (λ (k : List A). take (length k) l ≡ k) h (ap (take (length items)) e ∙ take-at items _ (length items) refl)
+in-front {A = A} z w need items wanted entry l e h = subst (λ (k : List A). take (length k) l ≡ k) h (room-front z w need items entry l (length items) e refl)
 
 candidates-answer : (g : cuts.Given) (source : ℕ) (splits : List Float) (wanted : List ℕ) → Holds (candidatesAre g source splits wanted) → Answers (candidatesAre g source splits wanted)
 unfolding slices.candidatesOf
@@ -145,7 +144,7 @@ candidates-answer g source splits wanted h l r left rooms holds =
     let n : slices.candCount along ≡ r .count = ap (λ (x : CountAnswer). x .count) (sym told) in
     let size : length (slices.candNumbers along) ≡ 2 * r .count =
     flat-length 2 slices.numbersOf wide-numbers along (along .count) ∙ ap (λ (k : ℕ). 2 * k) n in
-    (ap (λ (x : CountAnswer). x .refusal) told, front 0 2 (cuts.cutCount g) (r .count) (slices.candNumbers along) (l .at) (left .at) at size ∙ h .0)
+    (ap (λ (x : CountAnswer). x .refusal) told, room-front 0 2 (cuts.cutCount g) (slices.candNumbers along) (l .at) (left .at) (2 * r .count) at size ∙ h .0)
 
 vertices-answer : (o : List Float) (vc : ℕ) (v : View) (n : ℕ) → Holds (verticesAre o vc v n) → Answers (verticesAre o vc v n)
 unfolding vertexFound

@@ -1,12 +1,13 @@
 -- Laws of the loop that writes the candidates, and of the call that clears the room behind them.
 use Prim.Native.Nat.{ℕ, zero, suc, _+_, _-_, _*_, _≤_, _<_, zero-le}
 use mathlib.Core.Path.{_≡_, refl, sym, ap, _∙_}
-use mathlib.Core.List.{List, [], _∷_, _++_, flatMap, append-assoc}
+use mathlib.Core.List.{List, _++_, flatMap}
 use native.Mathlib.Nat.{mul-zero, mul-add}
 use native.Mathlib.Numerals.{add-one}
 use native.Mathlib.Omega.{arith}
 use lib.ListN.{length, take, drop, replicate, length-append, length-drop, length-replicate, getD-replicate}
 use lib.Seq.{sets, sets-eq, length-sets, take-at, drop-append-add, drop-drop}
+use Rattle.basis.specs.FlatLaws.{flat-append}
 use Rattle.basis.specs.Number.{+0}
 use Rattle.basis.specs.RoomLaws.{room-left}
 use Rattle.slices.specs.declared.candidate.Candidate.{Candidate}
@@ -14,11 +15,6 @@ use Rattle.slices.specs.declared.candidate.Candidate.the-variants.{Nothi
 use Rattle.slices.specs.Slices.{Given, candidateAt, kept, candidatesTo, candidatesOf, numbersOf, shapeOf, probeOf, candNumbers, candShapes, probeNumbers}
 use Rattle.slices.specs.Ready.{Rooms, Roomy, Ready, Written}
 use Rattle.slices.specs.Steps.{PutFit, Put, Items, ClearFit, Cleared, FirstTable, Tabled, Few, Writing}
-
-pub flat-append : {A B : Type 0} (f : A → List B) (xs ys : List A) → flatMap f (xs ++ ys) ≡ flatMap f xs ++ flatMap f ys
-unfolding flatMap
-flat-append f [] ys = refl
-flat-append f (x ∷ xs) ys = rw (flat-append f xs ys) (sym (append-assoc (f x) (flatMap f xs) (flatMap f ys)))
 
 pub kept-few : (c : Candidate) → length (kept c) ≤ 1
 kept-few Nothing = zero-le

@@ -6,6 +6,7 @@ use native.Mathlib.Numerals.{towards-suc}
 use native.Mathlib.Omega.{arith}
 use lib.ListN.{length}
 use lib.Seq.{sets, length-sets}
+use Rattle.basis.specs.Room.{RoomFor}
 use Rattle.outline.specs.declared.point.Vertex.{Vertex}
 use Rattle.outline.specs.Points.{vertexNumbers}
 use Rattle.view.specs.declared.data.ViewData.{ViewData}
@@ -13,7 +14,7 @@ use Rattle.view.specs.View.{viewNumbers}
 use Rattle.slices.specs.declared.candidate.Candidate.{Candidate}
 use Rattle.slices.specs.declared.candidate.Candidate.the-variants.{Nothing, Slice}
 use Rattle.slices.specs.Ready.{Rooms}
-use Rattle.slices.specs.Steps.{RoomFor, Put}
+use Rattle.slices.specs.Steps.{Put}
 
 -- six stores, by threes
 pub six : {A : Type 0} (l l₁ l₂ : List A) (k : ℕ) (a b c d e f : A) → l₁ ≡ sets l k (a ∷ b ∷ c ∷ []) → l₂ ≡ sets l₁ (k + 3) (d ∷ e ∷ f ∷ [])

@@ -86,10 +86,6 @@ pub record WalkReady (o : List Float) (vc : ℕ) (w : Walk) : Type 0 where
 
 -- ---- writing
 
--- room for so many numbers from `at` on
-pub record RoomFor {A : Type 0} (room : List A) (at width : ℕ) : Type 0 where
-  pub fits : at + width ≤ length room
-
 -- room for one candidate after m others
 pub record PutFit (l : Rooms) (m : ℕ) : Type 0 where
   pub low : m < 768

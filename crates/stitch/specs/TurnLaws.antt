@@ -19,7 +19,8 @@ use Rattle.stitch.specs.declared.turn.Tally.{Tally}
 use Rattle.run.specs.Run.{Ending, closed, tooSmall, noCandidate, noSelection, spent, Chain, Stitched, opened, added, begun, turn, turns, slicesOf, orderOf}
 use Rattle.run.specs.Stitch.{Given, sliceView, rulesOf, loopOf, loopsOf, howOf, totals, sumBelow, weightAt, needFor, needOf}
 use Rattle.run.specs.Demand3.{sumOver, leaves}
-use Rattle.run.specs.SumLaws.{sum-append, flat-snoc}
+use Rattle.run.specs.SumLaws.{sum-append}
+use Rattle.basis.specs.FlatLaws.{flat-snoc}
 use Rattle.run.specs.TallyLaws.{tally-most}
 use Rattle.run.specs.RunLaws.{going-opened, kept-turns}
 use Rattle.run.specs.NeedLaws.{finished}

@@ -2,25 +2,24 @@
 use Prim.Native.Nat.{ℕ, zero, suc, _+_, _*_, _/_, _≤_, _<_}
 use mathlib.Core.Bool.{Bool, true, false, cond}
 use mathlib.Core.Path.{_≡_, refl, sym, ap, subst, _∙_}
-use mathlib.Core.List.{List, [], _∷_, _++_}
+use mathlib.Core.List.{List, _++_}
 use native.Mathlib.Nat.{mul-div-right, le-of-eq, le-trans}
 use native.Mathlib.Omega.{arith}
 use lib.ListN.{length, getD}
-use lib.Dec.{ltb, leb, eqb}
+use lib.Dec.{eqb}
 use lib.Ieee.{Float}
 use borrow.Author.Tests.{ltb-true, ltb-false, leb-true, not-false}
 use Rattle.basis.specs.Number.{Tolerance}
 use Rattle.basis.specs.EachLaws.{each-at}
-use Rattle.basis.specs.Each.{eachTo}
-use Rattle.basis.specs.Refuse.{Row, row}
-use Rattle.basis.specs.RefuseLaws.{Clear, clear, clear-left, clear-right, firstFrom, first-from, orElse, then-rows, length-ok, size-ok, choice-ok, answer-no, answer-yes}
+use Rattle.basis.specs.Refuse.{Row}
+use Rattle.basis.specs.RefuseLaws.{Clear, clear, clear-left, clear-right, firstFrom, first-from, found-stays, orElse, then-rows, length-ok, size-ok, choice-ok, answer-no, answer-yes}
 use Rattle.outline.specs.Outline.{Whole}
 use Rattle.view.specs.View.{Fit}
 use Rattle.select.specs.declared.class.Starts.{Starts}
-use Rattle.run.specs.Stitch.{Given, given, ofFirst, sliceOffset, sliceView, sliceOutline, sliceCount, needOf, roundCount, loopCount, chainCount, roundsFault}
+use Rattle.run.specs.Stitch.{Given, given, ofFirst, sliceOffset, sliceView, sliceOutline, sliceCount, roundCount, loopCount, chainCount}
 use Rattle.run.specs.Demand3Theorems.{no-rounds-fault}
 use Rattle.round.specs.Ready.{Sound}
-use Rattle.stitch.specs.Between.{Lists, Long, NeedFit, StitchFit, Written}
+use Rattle.stitch.specs.Between.{Lists, NeedFit, StitchFit, Written}
 use Rattle.stitch.specs.declared.write.Stitched.{Stitched}
 use Rattle.stitch_entries.specs.declared.answer.StitchAnswer.{StitchAnswer}
 use Rattle.stitch_entries.specs.Answers.{stitchRefused, stitchGiven}
@@ -103,14 +102,9 @@ module _ (g : Given) where
     rest = roomRows (g .sliceAt) (g .slices) room ends chain chainEnds chainHow
 
     -- a number above 0 stays
-    kept : (k : ℕ) (t : List Row) → firstFrom (suc k) t ≡ suc k
-    unfolding firstFrom orElse
-    kept k [] = refl
-    kept k (row b n ∷ t) = kept k t
-
     stays : (r : ℕ) (t : List Row) → (r ≡ 0 → ⊥) → r ≡ firstFrom r t
     stays zero t h = absurd (h refl)
-    stays (suc r) t h = sym (kept r t)
+    stays (suc r) t h = sym (found-stays r t)
 
     -- the guard's row is never there
     guard-none : (r : ℕ) → r ≡ firstFrom r (guardRows g)

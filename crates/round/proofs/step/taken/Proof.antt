@@ -1,19 +1,20 @@
 use borrow.Author.Needs.{needs}
 use Rattle.basis.specs.Choice.{cases}
+use Rattle.run.specs.Stitch.{howOf}
 use Rattle.round.specs.Ready.{stepOf}
 use Rattle.round.proofs.step.taken.Statement.{statement}
 use Rattle.round.proofs.step.taken.Tie as tie
 
 returns : tie.Need-returns
-unfolding stepOf
+unfolding stepOf howOf
 returns c = search (needs, cases)
 
 returns-2 : tie.Need-returns-2
-unfolding stepOf
+unfolding stepOf howOf
 returns-2 c = search (needs, cases)
 
 returns-3 : tie.Need-returns-3
-unfolding stepOf
+unfolding stepOf howOf
 returns-3 c = search (needs, cases)
 
 pub taken-spec : {M : Type 1} → statement M
