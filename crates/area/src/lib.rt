@@ -8,7 +8,8 @@ use basis::room;
 pub fn is_kept(area: f64, limit: f64) -> bool
     ensures { λ r. ⌜ r ≡ isKept limit area ⌝ }
 {
-    !(number::magnitude(area) < limit)
+    let size = number::magnitude(area);
+    !(size < limit)
 }
 
 // Writes the numbers of the loops that stay, in order, then 0 up to one entry per loop, and says how many there are.
