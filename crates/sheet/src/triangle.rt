@@ -10,6 +10,25 @@ fn outline() -> [f64; 9] {
     [0.0, 0.0, 0.0, 4.0, 0.0, 0.0, 0.0, 4.0, 0.0]
 }
 
+// The view of a candidate: its start and offset, and its six numbers.
+fn view_of(at: [usize; 2], shape: [f64; 6]) -> View {
+    View {
+        start_index: at[0],
+        end_index_offset: at[1],
+        updated_start: Vertex {
+            x: shape[0],
+            y: shape[1],
+            bulge: shape[2],
+        },
+        updated_end_bulge: shape[3],
+        end_point: Point {
+            x: shape[4],
+            y: shape[5],
+        },
+        inverted_direction: 0,
+    }
+}
+
 // The one candidate where the triangle is cut at (x, 0), on segment 0: its start and offset, and the vertices of its view.
 fn cut_at(x: f64) {
     let outline = outline();
@@ -42,23 +61,8 @@ fn cut_at(x: f64) {
         return;
     }
     print::starts_and_offsets(&at);
-    let view = View {
-        start_index: at[0],
-        end_index_offset: at[1],
-        updated_start: Vertex {
-            x: shape[0],
-            y: shape[1],
-            bulge: shape[2],
-        },
-        updated_end_bulge: shape[3],
-        end_point: Point {
-            x: shape[4],
-            y: shape[5],
-        },
-        inverted_direction: 0,
-    };
     print::word(b"; its view:");
-    let n = corners::view(&outline, 3, view);
+    let n = corners::view(&outline, 3, view_of(at, shape));
     print::word(b", ");
     print::whole(n);
     print::word(b" vertices\n");
