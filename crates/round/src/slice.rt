@@ -1,6 +1,5 @@
 // The slices: their views, their start points, their vertices in a chain.
 ghost use mathlib.Core.Path.{_≡_};
-ghost use Rattle.chain.specs.Held.{chainOf};
 ghost use Rattle.run.specs.Stitch.{sliceView, startPoint};
 ghost use Rattle.round.specs.Ready.{planned, SliceThere, SliceFit, SliceMore, SliceAdded, PointsFit, Points};
 use crate::plan::Plan;

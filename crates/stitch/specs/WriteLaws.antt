@@ -18,9 +18,9 @@ use Rattle.run.specs.RunLaws.{same-length}
 use Rattle.run.specs.StitchLaws.{among}
 use Rattle.run.specs.Demand3Theorems.{room-items, end-items, chain-items, how-items, chains-at-most, loops-at-most}
 use Rattle.round.specs.Ready.{Sound, Points}
-use Rattle.stitch.specs.Ready.{Begun, chainsTo}
-use Rattle.stitch.specs.Between.{Lists, Long, Holds, TurnFit, Turned, TurnsFit, AllTurned, NeedFit, RestFit, RestCleared, StitchFit, Written}
-use Rattle.stitch.specs.WalkLaws.{begun-none, begun-then}
+use Rattle.walk.specs.Ready.{Begun, chainsTo}
+use Rattle.stitch.specs.Lent.{Lists, Long, Holds, TurnFit, Turned, TurnsFit, AllTurned, NeedFit, RestFit, RestCleared, StitchFit, Written}
+use Rattle.walk.specs.WalkLaws.{begun-none, begun-then}
 
 -- ---- all turns
 

@@ -1,7 +1,7 @@
 // The stitch over lists that have been looked at: what it writes into the lent room and what it reports.
 ghost use mathlib.Core.Path.{_≡_};
 ghost use Rattle.run.specs.Stitch.{given, needOf};
-ghost use Rattle.stitch.specs.Between.{lists, NeedFit, RestFit, RestCleared, StitchFit, Written};
+ghost use Rattle.stitch.specs.Lent.{lists, NeedFit, RestFit, RestCleared, StitchFit, Written};
 use crate::turn;
 use crate::turn::Tally;
 use basis::number::Tolerance;
