@@ -409,11 +409,18 @@ fn repeat(stage: &str, input: &str, size: usize, calls: Option<usize>) {
         _ => panic!("the inputs are star, comb and arcs"),
     };
     let many = |call: &mut dyn FnMut()| call_again(calls, call);
-    if stage == "stitch" {
+    if stage.ends_with("stitch") {
         let job = pruned(make(size), UNION);
         let mut room = StitchRoom::new(&job.slices);
         let slices = &job.slices;
-        many(&mut || done(ours::stitch(&job.outlines, slices, 0, TOLERANCE, &mut room)));
+        let theirs = scan::Stitch::new(&job.outlines, slices, TOLERANCE);
+        match stage {
+            "stitch" => {
+                many(&mut || done(ours::stitch(&job.outlines, slices, 0, TOLERANCE, &mut room)));
+            }
+            "rust-stitch" => many(&mut || done(theirs.run(0))),
+            _ => panic!("there is no stage {stage}"),
+        }
         return;
     }
     let input = Input::new(make(size), size);
