@@ -58,10 +58,10 @@ pub record SliceAdded (g : Given) (i n : ℕ) (room : List Float) (r : ℕ) (roo
 
 pub record PointsFit (g : Given) (points : List Float) : Type 0 where
   pub sound : Sound g
-  pub size : length points ≡ 3584
+  pub size : 2 * g .slices ≤ length points
 
 pub record Points (g : Given) (points : List Float) : Type 0 where
-  pub size : length points ≡ 3584
+  pub size : 2 * g .slices ≤ length points
   pub holds : (j : ℕ) → j < g .slices → pointAt points (2 * j) ≡ startPoint g j
 
 -- ---- the scan
@@ -70,15 +70,14 @@ pub record MarkThere (visited : List Bool) (j : ℕ) : Type 0 where
   pub inside : j < length visited
 
 pub record PointThere (points : List Float) (j : ℕ) : Type 0 where
-  pub size : length points ≡ 3584
-  pub low : j < 1792
+  pub inside : 2 * j + 1 < length points
 
 pub record BothThere (points : List Float) (visited : List Bool) (j : ℕ) : Type 0 where
   pub point : PointThere points j
   pub mark : MarkThere visited j
 
 pub record ScanFit (points : List Float) (visited : List Bool) (n : ℕ) : Type 0 where
-  pub size : length points ≡ 3584
+  pub size : 2 * n ≤ length points
   pub marks : length visited ≡ n
   pub few : n ≤ 1792
 

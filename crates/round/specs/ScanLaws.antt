@@ -13,7 +13,8 @@ use lib.Ieee.{Float, nan}
 use borrow.Author.Tests.{eq-eqb, ne-eqb, not-true, not-false}
 use Rattle.outline.specs.declared.point.Point.{Point}
 use Rattle.outline.specs.declared.point.Vertex.{Vertex}
-use Rattle.outline.specs.Points.{posOf}
+use Rattle.basis.specs.Number.{Tolerance}
+use Rattle.outline.specs.Points.{posOf, inBox}
 use Rattle.outline.specs.Outline.{vertexAt, pointAt}
 use Rattle.view.specs.declared.data.ViewData.{ViewData}
 use Rattle.view.specs.View.{Fit, vertexOf}
@@ -95,22 +96,24 @@ pub ruleset slicing = (view-is, there-of, fit-first, fit-second, start-first, st
 
 -- ---- the table of start points: those below i are written
 
-pub record Pointing (g : Given) (points : List Float) (i : ℕ) : Type 0 where
-  pub size : length points ≡ 3584
+pub record Pointing (g : Given) (n : ℕ) (points : List Float) (i : ℕ) : Type 0 where
+  pub size : 2 * g .slices ≤ length points
+  pub same : length points ≡ n
   pub upto : i ≤ g .slices
   pub holds : (j : ℕ) → j < i → pointAt points (2 * j) ≡ startPoint g j
 
 module _ (g : Given) (points : List Float) where
-  pub points-none : PointsFit g points → Pointing g points 0
-  points-none f = record { size = f .size; upto = omega arith; holds = λ j h. absurd (omega arith) }
+  pub points-none : PointsFit g points → Pointing g (length points) points 0
+  points-none f = record { size = f .size; same = refl; upto = omega arith; holds = λ j h. absurd (omega arith) }
 
-  pub points-more : (i : ℕ) (s : Point) → Sound g → Pointing g points i → i < g .slices → s ≡ startPoint g i
-      → Pointing g (set (set points (2 * i) (s .x)) (2 * i + 1) (s .y)) (i + 1)
+  pub points-more : (n i : ℕ) (s : Point) → Pointing g n points i → i < g .slices → s ≡ startPoint g i
+      → Pointing g n (set (set points (2 * i) (s .x)) (2 * i + 1) (s .y)) (i + 1)
   unfolding pointAt
-  points-more i s k p h e =
-      let m : 2 * i + 1 < length points = omega (arith, k .few, p .size) in
+  points-more n i s p h e =
+      let m : 2 * i + 1 < length points = omega (arith, p .size) in
       record {
         size = simp length-set (p .size);
+        same = simp length-set (p .same);
         upto = omega arith;
         holds = λ j d. go j (decLt j i) d m;
       }
@@ -135,10 +138,14 @@ module _ (g : Given) (points : List Float) where
           )
           e
 
-  pub points-end : (i : ℕ) → Pointing g points i → g .slices ≤ i → Points g points
-  points-end i p h = let e : i ≡ g .slices = omega (arith, p .upto) in record { size = p .size; holds = rw e at (p .holds) }
+  pub points-end : (n i : ℕ) → Pointing g n points i → g .slices ≤ i → Points g points
+  points-end n i p h = let e : i ≡ g .slices = omega (arith, p .upto) in record { size = p .size; holds = rw e at (p .holds) }
 
 pub ruleset pointing = (points-none, points-more, points-end)
+
+-- a start point that was read is held against the box
+pub near-of : (t : Tolerance) (end p : Point) (points : List Float) (i : ℕ) (r : Bool) → p ≡ pointAt points i → r ≡ inBox t end p → r ≡ inBox t end (pointAt points i)
+near-of t end p points i r e f = f ∙ ap (inBox t end) e
 
 -- ---- the scan: those below j were met
 

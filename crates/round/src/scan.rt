@@ -9,6 +9,7 @@ ghost use Rattle.round.specs.Ready.{nearEnd, PointThere, MarkThere, Both
 use basis::number::Tolerance;
 use outline::point;
 use outline::point::Point;
+use outline::read;
 use select::best;
 use select::best::Best;
 use select::class;
@@ -30,21 +31,16 @@ fn is_free(visited: &[bool], first: usize, j: usize) -> bool
 }
 
 // The start point of slice j is in the closed box around the end.
-fn is_near(points: &[f64; 3584], end: Point, t: Tolerance, j: usize) -> bool
+fn is_near(points: &[f64], end: Point, t: Tolerance, j: usize) -> bool
     requires { ⌜ PointThere (now points) j ⌝ }
     ensures { λ r. ⌜ r ≡ inBox t end (pointAt (now (points .entry)) (2 * j)) ⌝ }
 {
-    let a = 2 * j;
-    let start = Point {
-        x: points[a],
-        y: points[a + 1],
-    };
-    point::in_box(start, end, t)
+    point::in_box(read::point_at(points, 2 * j), end, t)
 }
 
 // Slice j is a candidate.
 fn is_candidate(
-    points: &[f64; 3584],
+    points: &[f64],
     visited: &[bool],
     first: usize,
     end: Point,
@@ -59,7 +55,7 @@ fn is_candidate(
 
 // The candidates of an end, in ascending number.
 pub(crate) fn scan(
-    points: &[f64; 3584],
+    points: &[f64],
     visited: &[bool],
     first: usize,
     end: Point,

@@ -74,7 +74,7 @@ pub fn add_slice(
 
 // Writes each slice's start point, x and y.
 pub fn fill_points(
-    points: &mut [f64; 3584],
+    points: &mut [f64],
     outline1: &[f64],
     outline2: &[f64],
     slice_at: &[usize],

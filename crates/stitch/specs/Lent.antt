@@ -145,6 +145,17 @@ pub record StitchFit (g : Given) (x : Lists) : Type 0 where
   pub sound : Sound g
   pub long : Long g x
 
+-- no more slices than so many
+pub record Few (most : ℕ) (g : Given) (x : Lists) : Type 0 where
+  pub fit : StitchFit g x
+  pub few : g .slices ≤ most
+
+-- a table for the slices' start points, and their marks: nothing has been visited
+pub record Tabled (g : Given) (points : List Float) (visited : List Bool) (x : Lists) : Type 0 where
+  pub fit : StitchFit g x
+  pub size : 2 * g .slices ≤ length points
+  pub marks : visited ≡ replicate (g .slices) false
+
 -- the answer, and each list by the room rule: the items, zero up to the need, what it held before
 pub record Written (g : Given) (x : Lists) (r : Stitched) (x′ : Lists) : Type 0 where
   pub rounds : r .rounds ≡ roundCount g

@@ -59,7 +59,7 @@ fn take_turn(
     outline2: &[f64],
     slice_at: &[usize],
     slice: &[f64],
-    points: &[f64; 3584],
+    points: &[f64],
     p: Plan,
     w: Tally,
     i: usize,
@@ -100,7 +100,7 @@ pub(crate) fn take_turns(
     outline2: &[f64],
     slice_at: &[usize],
     slice: &[f64],
-    points: &[f64; 3584],
+    points: &[f64],
     p: Plan,
 ) -> Tally
     requires { ⌜ TurnsFit (planned (now outline1) (now outline2) (now «slice_at») (now slice) p) (now points) (now visited) (lists (now room) (now ends) (now chain) (now «chain_ends») (now «chain_how»)) ⌝ }

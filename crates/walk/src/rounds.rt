@@ -41,7 +41,7 @@ pub fn walk_chain(
     outline2: &[f64],
     slice_at: &[usize],
     slice: &[f64],
-    points: &[f64; 3584],
+    points: &[f64],
     p: Plan,
     first: usize,
     before: usize,

@@ -15,7 +15,7 @@ place-requires : tie.Need-place-requires Inv-loop μ-loop
 place-requires c κs = search (needs, walking)
 
 loop-holds : tie.Need-loop-holds Inv-loop μ-loop
-loop-holds c = walk-start _ _ _ _ _ _ _ (c .before .before .before .before .before .before .before .before .before .before .before .before .before .before .pre) (c .before .before .before .before .place .ensures)
+loop-holds c = walk-start _ _ _ _ _ _ _ (c .before .before .before .before .before .before .before .before .before .before .before .before .before .before .before .pre) (c .before .before .before .before .place .ensures)
 
 mul-chain : tie.Need-mul-chain Inv-loop μ-loop
 mul-chain c = search needs
@@ -57,7 +57,7 @@ same-length-3 : tie.Need-same-length-3 Inv-loop μ-loop
 same-length-3 c = search (needs, walking)
 
 returns : tie.Need-returns Inv-loop μ-loop
-returns c = walk-whole _ _ _ _ _ _ _ (c .before .before .before .before .before .before .before .before .before .before .before .before .before .before .before .before .before .before .before .before .before .pre) (c .before .before .before .before .before .before .before .before .before .before .before .place .ensures) (walk-end _ _ _ _ _ _ _ (c .before .before .before .before .before .before .loop .inv) (c .before .before .before .next-of .ensures) (c .before .how .given .1))
+returns c = walk-whole _ _ _ _ _ _ _ (c .before .before .before .before .before .before .before .before .before .before .before .before .before .before .before .before .before .before .before .before .before .before .pre) (c .before .before .before .before .before .before .before .before .before .before .before .place .ensures) (walk-end _ _ _ _ _ _ _ (c .before .before .before .before .before .before .loop .inv) (c .before .before .before .next-of .ensures) (c .before .how .given .1))
 
 pub walk-chain-spec : {M : Type 1} → statement M
 walk-chain-spec =
