@@ -87,6 +87,35 @@ pub(crate) struct StitchAnswer {
     pub chains: usize,
 }
 
+/// `mask_winding_answer`
+#[repr(C)]
+#[derive(Debug, Clone, Copy, Default)]
+pub(crate) struct WindingAnswer {
+    pub refusal: u32,
+    pub winding: i64,
+}
+
+/// `mask_area_answer`
+#[repr(C)]
+#[derive(Debug, Clone, Copy, Default)]
+pub(crate) struct AreaAnswer {
+    pub refusal: u32,
+    pub negative: u32,
+    pub high: u64,
+    pub low: u64,
+}
+
+/// `mask_report_answer`
+#[repr(C)]
+#[derive(Debug, Clone, Copy, Default)]
+pub(crate) struct ReportAnswer {
+    pub refusal: u32,
+    pub count: usize,
+    pub zero: usize,
+    pub high: u64,
+    pub low: u64,
+}
+
 /// The numbers of vertices: x, y, bulge of each.
 pub(crate) fn numbers_of(vertices: &[Vertex]) -> &[f64] {
     // SAFETY: a `Vertex` is `repr(C)` and three f64 without padding, so the memory of the slice is
@@ -110,7 +139,8 @@ pub(crate) fn vertices_of(numbers: &[f64]) -> &[Vertex] {
 #[cfg(not(test))]
 mod archive {
     use super::{
-        CountAnswer, PruneAnswer, StitchAnswer, VerdictAnswer, VertexAnswer, View, ViewAnswer,
+        AreaAnswer, CountAnswer, PruneAnswer, ReportAnswer, StitchAnswer, VerdictAnswer,
+        VertexAnswer, View, ViewAnswer, WindingAnswer,
     };
     use crate::{Point, Split, Vertex};
 
@@ -277,6 +307,24 @@ mod archive {
             kept: *mut usize,
             kept_len: usize,
         ) -> CountAnswer;
+
+        fn mask_straight_winding(
+            outline: *const i64,
+            outline_len: usize,
+            vc: usize,
+            x: i64,
+            y: i64,
+        ) -> WindingAnswer;
+
+        fn mask_straight_area(outline: *const i64, outline_len: usize, vc: usize) -> AreaAnswer;
+
+        fn mask_straight_report(
+            points: *const i64,
+            points_len: usize,
+            ends: *const usize,
+            ends_len: usize,
+            loops: usize,
+        ) -> ReportAnswer;
     }
 
     pub(crate) fn view_vertex(
@@ -580,6 +628,29 @@ mod archive {
                 limit,
                 kept.as_mut_ptr(),
                 kept.len(),
+            )
+        }
+    }
+
+    pub(crate) fn straight_winding(outline: &[i64], vc: usize, x: i64, y: i64) -> WindingAnswer {
+        // SAFETY: pointer and length are those of one slice, which is only read.
+        unsafe { mask_straight_winding(outline.as_ptr(), outline.len(), vc, x, y) }
+    }
+
+    pub(crate) fn straight_area(outline: &[i64], vc: usize) -> AreaAnswer {
+        // SAFETY: pointer and length are those of one slice, which is only read.
+        unsafe { mask_straight_area(outline.as_ptr(), outline.len(), vc) }
+    }
+
+    pub(crate) fn straight_report(points: &[i64], ends: &[usize], loops: usize) -> ReportAnswer {
+        // SAFETY: each pointer and length are those of one slice, and both are only read.
+        unsafe {
+            mask_straight_report(
+                points.as_ptr(),
+                points.len(),
+                ends.as_ptr(),
+                ends.len(),
+                loops,
             )
         }
     }
