@@ -48,8 +48,10 @@ fn refusal(points: &[i64], ends: &[usize], loops: usize) -> u32
     let r = refuse::or_else(0, ends.len() != loops, 1);
     let r = refuse::or_else(r, refuse::bad_length(points.len(), 2, last_end(ends)), 1);
     let r = refuse::or_else(r, bad_sizes(ends), 2);
-    let r = refuse::or_else(r, !range::all_near(points), 18);
-    refuse::or_else(r, MOST_LOOPS < loops, 19)
+    let far = !range::all_near(points);
+    let many = MOST_LOOPS < loops;
+    let r = refuse::or_else(r, far, 18);
+    refuse::or_else(r, many, 19)
 }
 
 // The report on `loops` outlines: their vertices one outline after the other, and for each how many vertices all up to and with it have.
