@@ -1,9 +1,11 @@
 -- Document 02's report as a program: "one vertex a line as two whole numbers, outlines parted by an empty line". How a line is read, byte by byte:
 -- blanks, a whole number, blanks, a whole number, blanks; or blanks alone, which is an empty line.
-use Prim.Native.Nat.{ℕ, _+_, _-_, _*_}
+use Prim.Native.Nat.{ℕ, _+_, _-_, _*_, _≤_}
 use mathlib.Core.Bool.{Bool, true, cond, _&&_, _||_}
+use mathlib.Core.Path.{_≡_}
 use mathlib.Core.List.{List, [], _∷_}
 use lib.Dec.{eqb, ltb, leb}
+use lib.IntN.{ℤ, pos, _-ℤ_}
 use Rattle.lines.specs.declared.Line.{Line}
 
 -- a space, a tab or a carriage return
@@ -74,3 +76,14 @@ lineOf text = lineFrom fresh text
 -- it is a pair where it ended in the second number or in blanks after it
 abbrev pub isPair : Line → Bool
 isPair l = eqb (l .stage) 5 || eqb (l .stage) 6
+
+-- a number past the range is one past it, so that it is refused as what it is
+abbrev pub cappedOf : ℕ → ℕ
+cappedOf size = cond (ltb 400000000 size) 400000001 size
+
+unfoldable pub coordinateOf : ℕ → ℕ → ℤ
+coordinateOf negative size = cond (eqb negative 1) (pos 0 -ℤ pos (cappedOf size)) (pos (cappedOf size))
+
+pub record Capped (size r : ℕ) : Type 0 where
+  pub is : r ≡ cappedOf size
+  pub most : r ≤ 400000001

@@ -1,7 +1,8 @@
 // A line of text, byte by byte: a vertex as two whole numbers, an empty line, or neither.
+use exact::signed;
 ghost use mathlib.Core.Path.{_≡_};
 ghost use Prim.Native.Nat.{_≤_};
-ghost use Rattle.lines.specs.Lines.{isBlank, isDigit, more, blanksMore, onBlank, onMinus, onDigit, digitOf, digitRead, minusRead, shifted, moved, stageOf, otherRead, step};
+ghost use Rattle.lines.specs.Lines.{isBlank, isDigit, more, blanksMore, onBlank, onMinus, onDigit, digitOf, digitRead, minusRead, shifted, moved, stageOf, otherRead, step, coordinateOf, Capped};
 
 // What was read of a line: how far it came, the number that is being read, and the first number once it is read.
 pub struct Line {
@@ -165,4 +166,22 @@ pub fn take(l: Line, c: u8) -> Line
         return minus_read(l);
     }
     other_read(l, c)
+}
+
+// A number's size, and one past the range for all that are past it.
+fn capped(size: u64) -> u64
+    ensures { λ r. ⌜ Capped size r ⌝ }
+{
+    if 400_000_000 < size { 400_000_001 } else { size }
+}
+
+// A number that was read, as a coordinate.
+pub fn coordinate(negative: u32, size: u64) -> i64
+    ensures { λ r. ⌜ r ≡ coordinateOf negative size ⌝ }
+{
+    let n = signed::signed(capped(size));
+    if negative == 1 {
+        return signed::minus(0, n);
+    }
+    n
 }
