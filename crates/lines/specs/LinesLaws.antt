@@ -45,4 +45,4 @@ module _ (negative size c : ℕ) (n : ℤ) (k : Capped size c) (e : n ≡ pos c)
   coordinate-plus h = e ∙ ap pos (k .is) ∙ sym (ap (λ (b : Bool). cond b (pos 0 -ℤ pos (cappedOf size)) (pos (cappedOf size))) (ne-eqb negative 1 h))
 
   pub minus-fits : Fitting (pos 0 -ℤ n)
-  minus-fits = record { fits = fit (sub-near {a = pos 0} {b = n} (record { near = zero-le }) (as-near e (record { near = k .most }))) tt }
+  minus-fits = record { fits = fit (sub-near {m = 0} {a = pos 0} {b = n} (record { near = zero-le }) (as-near e (record { near = k .most }))) tt }
