@@ -137,4 +137,5 @@ trim-end text i h k s = record { inside = h; rest = sym (short (drop i text) few
     short (c ∷ d ∷ r) h = absurd (omega arith)
 
 pub ruleset spelling = (spell-none, spell-turn, spell-end)
+
 pub ruleset trimming = (trim-none, trim-more, trim-stop, trim-end)

@@ -37,7 +37,11 @@ fn more_of(size: u64, digit: u64) -> u64
     requires { ⌜ digit ≤ 255 ⌝ }
     ensures { λ r. ⌜ r ≡ more size digit ⌝ }
 {
-    if 400_000_000 < size { size } else { 10 * size + digit }
+    if 400_000_000 < size {
+        size
+    } else {
+        10 * size + digit
+    }
 }
 
 // A blank after a blank.
@@ -172,7 +176,11 @@ pub fn take(l: Line, c: u8) -> Line
 fn capped(size: u64) -> u64
     ensures { λ r. ⌜ Capped size r ⌝ }
 {
-    if 400_000_000 < size { 400_000_001 } else { size }
+    if 400_000_000 < size {
+        400_000_001
+    } else {
+        size
+    }
 }
 
 // A number that was read, as a coordinate.

@@ -25,11 +25,7 @@ pub extern "C" fn mask_straight_area(outline: &[i64], vc: usize) -> AreaAnswer
 
 // The report on outlines whose vertices lie one outline after the other: how many, how many with area zero, and the total of the absolute doubled areas.
 #[no_mangle]
-pub extern "C" fn mask_straight_report(
-    points: &[i64],
-    ends: &[usize],
-    loops: usize,
-) -> ReportAnswer
+pub extern "C" fn mask_straight_report(points: &[i64], ends: &[usize], loops: usize) -> ReportAnswer
     ensures { λ r. ⌜ r ≡ reportAnswer (now (points .entry)) (now (ends .entry)) loops ⌝ }
 {
     straight_entries::report::entry(points, ends, loops)

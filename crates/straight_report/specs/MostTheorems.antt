@@ -40,4 +40,3 @@ area-most {l} {n} o =
     let s = some o n (le-refl n) in
     subst (λ (z : ℤ). natAbs z ≤ 327680000000000000000) (part-end cross 320000000000000000 o (s .sum) (le-refl n) ∙ summed l)
     (apart-most (s .up) (s .down) 327680000000000000000 (omega (arith, s .sum .up-most, o .most)) (omega (arith, s .sum .down-most, o .most)))
-

@@ -34,7 +34,7 @@ fn front_ends(list: &[usize], n: usize) -> &[usize] {
 }
 
 fn winding(outline: &[i64], told: &[u8]) -> bool {
-    let a = mask::measuring::mask_straight_winding(
+    let a = straight_entries::winding::entry(
         outline,
         words::at(told, 0),
         words::number(told, 1),
@@ -47,7 +47,7 @@ fn winding(outline: &[i64], told: &[u8]) -> bool {
 }
 
 fn area(outline: &[i64], told: &[u8]) -> bool {
-    let a = mask::measuring::mask_straight_area(outline, words::at(told, 0));
+    let a = straight_entries::area::entry(outline, words::at(told, 0));
     if a.refusal as usize != words::at(told, 1) {
         return false;
     }
@@ -67,11 +67,15 @@ fn report(points: &[i64], told: &[u8]) -> bool {
     if count > 16 {
         return false;
     }
-    reported(points, front_ends(&list, count), words::from(told, count + 1))
+    reported(
+        points,
+        front_ends(&list, count),
+        words::from(told, count + 1),
+    )
 }
 
 fn reported(points: &[i64], ends: &[usize], told: &[u8]) -> bool {
-    let a = mask::measuring::mask_straight_report(points, ends, words::at(told, 0));
+    let a = straight_entries::report::entry(points, ends, words::at(told, 0));
     if a.refusal as usize != words::at(told, 1) {
         return false;
     }

@@ -1,4 +1,4 @@
-// Replays recorded answers of exact integers, data/vectors.bin, through the exported entries over straight masks. tools/compare-straight writes the file: a count, then for each case its entry, its length in words and its words.
+// Replays recorded answers of exact integers, data/vectors.bin, through the entries over straight masks. tools/compare-straight writes the file: a count, then for each case its entry, its length in words and its words.
 mod case;
 mod words;
 

@@ -16,8 +16,10 @@ minus-requires c κs =
     let s = c .before .before in
     let a = c .before .signed in
     let b = c .signed2 in
-    record { fits = sub-fit (got (a .result) (a .ok) ∙ a .ensures) (got (b .result) (b .ok) ∙ b .ensures)
-    (fit (sub-near {a = pos (s .args .up)} {b = pos (s .args .down)} (record { near = s .pre .up-most }) (record { near = s .pre .down-most })) tt) }
+    record {
+      fits = sub-fit (got (a .result) (a .ok) ∙ a .ensures) (got (b .result) (b .ok) ∙ b .ensures)
+          (fit (sub-near {a = pos (s .args .up)} {b = pos (s .args .down)} (record { near = s .pre .up-most }) (record { near = s .pre .down-most })) tt);
+    }
 
 returns : tie.Need-returns
 returns c =
