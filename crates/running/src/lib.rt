@@ -48,7 +48,7 @@ fn sum_of(a: ReportAnswer, b: ReportAnswer) -> ReportAnswer
 }
 
 // The report on what two reports are of.
-pub fn join(a: ReportAnswer, b: ReportAnswer) -> ReportAnswer
+fn join(a: ReportAnswer, b: ReportAnswer) -> ReportAnswer
     requires { ⌜ Both a b ⌝ }
     ensures { λ r. ⌜ Joined a b r ⌝ }
 {
