@@ -63,7 +63,7 @@ going-none {l} {ends} p = record { at = zero-le; none-sum = nothing (zeros (outl
     nothing : (n : ℕ) → 0 + n ≡ n
     nothing n = omega arith
 
-last-least : (d : ℕ) (es : List ℕ) → sizesFault d es ≡ false → d ≤ lastOf d es
+pub last-least : (d : ℕ) (es : List ℕ) → sizesFault d es ≡ false → d ≤ lastOf d es
 unfolding sizesFault lastOf
 last-least d [] e = le-refl d
 last-least d (e ∷ es) h =
