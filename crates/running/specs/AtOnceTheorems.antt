@@ -237,10 +237,10 @@ module _ (l : List ℤ) (ends : List ℕ) (o : List ℤ) (vc : ℕ) (long : leng
       let t : eqb (lowest n1 n2) 0 ≡ true = eq-eqb (lowest n1 n2) 0 z in
       let number : reportRefusal allPoints allEnds (length allEnds) ≡ cond m' 19 0 = number-all ∙ ap (λ (b : Bool). cond b (cond m' 19 0) (lowest n1 n2)) t in
       let begun : joined first second ≡ cond m' (reportRefused 19) (reportFound (length ends + 1) (reportOf (os ++ (spots o ∷ [])))) =
-          (λ i. cond (eqb (lowest (refusal-first i) (refusal-second i)) 0) (cond (ltb 4096 (first .count + second .count)) (reportRefused 19) (summed first second)) (reportRefused (lowest (refusal-first i) (refusal-second i))))
-          ∙ ap (λ (b : Bool). cond b (cond (ltb 4096 (first .count + second .count)) (reportRefused 19) (summed first second)) (reportRefused (lowest n1 n2))) t
-          ∙ (λ i. cond (ltb 4096 (found-first z i .count + found-second z i .count)) (reportRefused 19) (summed (found-first z i) (found-second z i)))
-          ∙ ap (λ (r : ReportAnswer). cond m' (reportRefused 19) r) (sums-all os (spots o) (length ends)) in
+      (λ i. cond (eqb (lowest (refusal-first i) (refusal-second i)) 0) (cond (ltb 4096 (first .count + second .count)) (reportRefused 19) (summed first second)) (reportRefused (lowest (refusal-first i) (refusal-second i))))
+      ∙ ap (λ (b : Bool). cond b (cond (ltb 4096 (first .count + second .count)) (reportRefused 19) (summed first second)) (reportRefused (lowest n1 n2))) t
+      ∙ (λ i. cond (ltb 4096 (found-first z i .count + found-second z i .count)) (reportRefused 19) (summed (found-first z i) (found-second z i)))
+      ∙ ap (λ (r : ReportAnswer). cond m' (reportRefused 19) r) (sums-all os (spots o) (length ends)) in
       by-test m'
       (λ u. begun ∙ ap (λ (b : Bool). cond b (reportRefused 19) (reportFound (length ends + 1) (reportOf (os ++ (spots o ∷ []))))) u
       ∙ sym (refused-of (reportRefusal allPoints allEnds (length allEnds)) 19 (reportFound (length allEnds) (reportOf (outlines allPoints 0 allEnds))) (number ∙ ap (λ (b : Bool). cond b 19 0) u) (λ e. omega arith)))
