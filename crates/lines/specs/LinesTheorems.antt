@@ -1,11 +1,11 @@
 -- A line of two numerals reads as their numbers: exactly where they are in range, and as past the range where they are past it.
 use Prim.Native.Nat.{ℕ, _+_, _-_, _*_, _≤_, _<_}
 use native.Mathlib.Omega.{arith}
-use mathlib.Core.Path.{_≡_, refl, sym, ap, _∙_}
+use mathlib.Core.Path.{_≡_, refl, ap, _∙_}
 use mathlib.Core.Bool.{Bool, true, false, cond}
 use mathlib.Core.List.{List, [], _∷_, _++_}
 use lib.Dec.{eqb, ltb}
-use borrow.Author.Tests.{lt-ltb, le-ltb, ltb-true, ltb-false}
+use borrow.Author.Tests.{lt-ltb, ltb-true}
 use Rattle.basis.specs.Choice.{by-test, and-left, and-right}
 use Rattle.basis.specs.All.{allOf}
 use Rattle.lines.specs.declared.Line.{Line}
