@@ -11,7 +11,7 @@ use lib.Signed.{mag, nonNeg}
 use mir.Syntax.{w64}
 use mir.Val.{Fits, SFits, toZ, ofZ}
 use mir.Facts.{toZ-ofZ, fits-natAbs}
-use Rattle.exact.specs.Fit.{Near, Fitting, NotBelow}
+use Rattle.exact.specs.Fit.{Near, NotBelow}
 
 -- ---- how far from 0
 pub abs-neg : (z : ℤ) → natAbs (negℤ z) ≡ natAbs z
@@ -83,9 +83,6 @@ mul-read e f h = toZ-ofZ (mul-fit e f h) ∙ (λ i. e i *ℤ f i)
 
 pub sub-read : {r s a b : ℤ} → r ≡ a → s ≡ b → SFits w64 (a -ℤ b) → toZ w64 (ofZ w64 (r -ℤ s)) ≡ a -ℤ b
 sub-read e f h = toZ-ofZ (sub-fit e f h) ∙ (λ i. e i -ℤ f i)
-
-pub fitting-read : {r s a b : ℤ} → r ≡ a → s ≡ b → Fitting (a -ℤ b) → SFits w64 (r -ℤ s)
-fitting-read e f h = sub-fit e f (h .fits)
 
 -- what a cast from i64 to u64 asks: of the number that is read back, which is the number
 pub cast-ok : (z : ℤ) → SFits w64 z → NotBelow z → T (nonNeg (toZ w64 (ofZ w64 z))) × Fits w64 (natAbs (toZ w64 (ofZ w64 z)))

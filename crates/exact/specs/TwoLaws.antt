@@ -1,6 +1,6 @@
 -- The laws of two words: they say one number, and one number has one pair of them; sums, differences and comparisons word by word.
 use Prim.Native.Nat.{ℕ, _+_, _-_, _*_, _/_, _%_, _^_, _<_, _≤_}
-use mathlib.Core.Path.{_≡_, refl, sym, ap, _∙_}
+use mathlib.Core.Path.{_≡_, sym, ap, _∙_}
 use mathlib.Core.Bool.{Bool, true, false, cond}
 use native.Mathlib.Omega.{arith}
 use native.Mathlib.Nat.{lt-of-mul-lt-mul-right, lt-of-le-of-lt, le-trans, le-add-right}

@@ -1,7 +1,7 @@
 -- Document 02's report as a program: "one vertex a line as two whole numbers, outlines parted by an empty line". How a line is read, byte by byte:
 -- blanks, a whole number, blanks, a whole number, blanks; or blanks alone, which is an empty line.
 use Prim.Native.Nat.{ℕ, _+_, _-_, _*_, _≤_}
-use mathlib.Core.Bool.{Bool, true, cond, _&&_, _||_}
+use mathlib.Core.Bool.{Bool, true, cond, _&&_}
 use mathlib.Core.Path.{_≡_}
 use mathlib.Core.List.{List, [], _∷_}
 use lib.Dec.{eqb, ltb, leb}
@@ -74,8 +74,12 @@ abbrev pub lineOf : List ℕ → Line
 lineOf text = lineFrom fresh text
 
 -- it is a pair where it ended in the second number or in blanks after it
-abbrev pub isPair : Line → Bool
-isPair l = eqb (l .stage) 5 || eqb (l .stage) 6
+unfoldable pub isPair : Line → Bool
+isPair l = cond (eqb (l .stage) 5) true (eqb (l .stage) 6)
+
+-- and empty where there was nothing but blanks
+abbrev pub isEmpty : Line → Bool
+isEmpty l = eqb (l .stage) 0
 
 -- a number past the range is one past it, so that it is refused as what it is
 abbrev pub cappedOf : ℕ → ℕ

@@ -1,7 +1,7 @@
 -- Worked examples, each computed. A byte is its ASCII code.
-use Prim.Native.Nat.{ℕ, _+_, _-_, _*_}
+use Prim.Native.Nat.{ℕ, _-_}
 use mathlib.Core.Path.{_≡_, refl}
-use mathlib.Core.List.{List, [], _∷_}
+use mathlib.Core.List.{[], _∷_}
 use Rattle.lines.specs.declared.Line.{Line}
 use Rattle.lines.specs.Lines.{isBlank, isDigit, blanksMore, onBlank, onMinus, onDigit, more, stageOf, otherRead, step, lineFrom, lineOf}
 

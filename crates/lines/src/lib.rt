@@ -2,7 +2,7 @@
 use exact::signed;
 ghost use mathlib.Core.Path.{_≡_};
 ghost use Prim.Native.Nat.{_≤_};
-ghost use Rattle.lines.specs.Lines.{isBlank, isDigit, more, blanksMore, onBlank, onMinus, onDigit, digitOf, digitRead, minusRead, shifted, moved, stageOf, otherRead, step, coordinateOf, Capped};
+ghost use Rattle.lines.specs.Lines.{isBlank, isDigit, more, blanksMore, onBlank, onMinus, onDigit, digitOf, digitRead, minusRead, shifted, moved, stageOf, otherRead, step, isPair, isEmpty, coordinateOf, Capped};
 
 // What was read of a line: how far it came, the number that is being read, and the first number once it is read.
 pub struct Line {
@@ -170,6 +170,23 @@ pub fn take(l: Line, c: u8) -> Line
         return minus_read(l);
     }
     other_read(l, c)
+}
+
+// The line is a pair: it ended in the second number, or in blanks after it.
+pub fn is_pair(l: Line) -> bool
+    ensures { λ r. ⌜ r ≡ isPair l ⌝ }
+{
+    if l.stage == 5 {
+        return true;
+    }
+    l.stage == 6
+}
+
+// The line is empty, but for blanks.
+pub fn is_empty(l: Line) -> bool
+    ensures { λ r. ⌜ r ≡ isEmpty l ⌝ }
+{
+    l.stage == 0
 }
 
 // A number's size, and one past the range for all that are past it.

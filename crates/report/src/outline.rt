@@ -138,11 +138,10 @@ fn line_read(s: State, points: &mut [i64]) -> State
     requires { ⌜ Reported (s .«so_far») ⌝ }
     ensures { λ r. ⌜ Reported (r .«so_far») ⌝ }
 {
-    let stage = s.line.stage;
-    if stage == 0 {
+    if lines::is_empty(s.line) {
         return outline_read(s, points);
     }
-    if stage == 5 || stage == 6 {
+    if lines::is_pair(s.line) {
         return vertex_read(s, points);
     }
     no_pair(s)
@@ -188,7 +187,7 @@ fn last_line(s: State, points: &mut [i64]) -> State
     requires { ⌜ Reported (s .«so_far») ⌝ }
     ensures { λ r. ⌜ Reported (r .«so_far») ⌝ }
 {
-    if s.line.stage == 0 {
+    if lines::is_empty(s.line) {
         return s;
     }
     line_read(s, points)

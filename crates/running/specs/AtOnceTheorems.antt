@@ -1,7 +1,7 @@
 -- A report made one outline at a time is the report on all outlines at once: `joined` of the report on some outlines and of that on one more is what `mask_straight_report` answers of them all.
-use Prim.Native.Nat.{ℕ, zero, suc, _+_, _-_, _*_, _/_, _%_, _^_, _≤_, _<_}
+use Prim.Native.Nat.{ℕ, zero, suc, _+_, _-_, _*_, _/_, _%_, _^_, _≤_}
 use native.Mathlib.Omega.{arith}
-use native.Mathlib.Nat.{add-assoc, le-trans}
+use native.Mathlib.Nat.{add-assoc}
 use mathlib.Core.Path.{_≡_, refl, sym, ap, subst, _∙_}
 use mathlib.Core.Bool.{Bool, true, false, not, cond, _&&_, _||_}
 use mathlib.Core.List.{List, [], _∷_, _++_}
@@ -9,8 +9,8 @@ use lib.Dec.{eqb, ltb}
 use lib.ListN.{length, take, drop, length-append, length-drop}
 use lib.Seq.{take-all, take-append-le, drop-append-le, drop-at}
 use lib.IntN.{ℤ, natAbs}
-use borrow.Author.Tests.{eq-eqb, ne-eqb, eqb-true, eqb-false, ltb-true, ltb-false, lt-ltb, le-ltb}
-use Rattle.basis.specs.Choice.{by-test, clash, or-left, or-right}
+use borrow.Author.Tests.{eq-eqb, ne-eqb, eqb-true, eqb-false, ltb-true, lt-ltb}
+use Rattle.basis.specs.Choice.{by-test, or-left, or-right}
 use Rattle.basis.specs.All.{all-append}
 use Rattle.basis.specs.Refuse.{firstOf, answer, lengthFault, sizeFault}
 use Rattle.basis.specs.RefuseLaws.{ok-length, size-ok}
@@ -22,7 +22,7 @@ use Rattle.straight_entries.specs.declared.answer.ReportAnswer.{ReportAnswer}
 use Rattle.straight_entries.specs.Answers.{reportRefused, reportFound}
 use Rattle.straight_entries.specs.Range.{inReach, allInReach}
 use Rattle.straight_entries.specs.ReportEntry.{reportRefusal, reportAnswer, report-accepted}
-use Rattle.running.specs.Running.{lowest, total, summed, joined}
+use Rattle.running.specs.Running.{lowest, summed, joined}
 
 -- ---- lists of ends, one more
 or-false : (b : Bool) → (b || false) ≡ b

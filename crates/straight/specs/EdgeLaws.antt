@@ -1,5 +1,5 @@
 -- Laws of one edge: its four numbers, and what it adds.
-use Prim.Native.Nat.{ℕ, _+_, _*_, _<_}
+use Prim.Native.Nat.{ℕ, _+_, _*_}
 use mathlib.Core.Path.{_≡_, refl, sym}
 use mathlib.Core.Bool.{true, false, true≢false}
 use mathlib.Core.List.{List}
@@ -7,7 +7,6 @@ use native.Mathlib.Nat.{le-refl}
 use native.Mathlib.Omega.{arith}
 use borrow.Author.Tests.{ltb-false}
 use lib.Signed.{ltZ}
-use lib.ListN.{length, getD}
 use lib.IntN.{ℤ, pos, negsuc, natAbs, _*ℤ_}
 use Rattle.exact.specs.Fit.{Near, NotBelow}
 use Rattle.exact.specs.FitLaws.{mul-near}

@@ -1,15 +1,15 @@
 -- Theorems on every outline. Document 02, K8: "Reversing an outline negates both answers; starting it at another vertex changes neither"; "An edge of length 0 adds nothing".
 use Prim.Native.Nat.{ℕ, zero, suc}
 use mathlib.Core.Path.{_≡_, refl, sym, ap, _∙_}
-use mathlib.Core.Bool.{Bool, true, false, _&&_}
-use mathlib.Core.List.{List, _∷_, _++_, reverse}
+use mathlib.Core.Bool.{false, _&&_}
+use mathlib.Core.List.{List, [], _∷_, _++_, reverse}
 use lib.Dec.{leb, ltb}
 use lib.IntN.{ℤ, pos, negsuc, negℤ, _+ℤ_, _-ℤ_, _*ℤ_, +ℤ-invr, negℤ-+ℤ}
 use lib.Signed.{ltZ, leZ}
 use native.Mathlib.Omega.{arith}
 use borrow.Author.Tests.{le-ltb, lt-ltb, leb-true}
 use Rattle.basis.specs.Choice.{by-test}
-use Rattle.straight.specs.Plane.{Spot, side, left, right, spans, one, crossing, twice, winding, cross, area}
+use Rattle.straight.specs.Plane.{Spot, spots, side, left, right, spans, one, crossing, twice, winding, cross, area}
 use Rattle.exact.specs.IntegerLaws.{neg-minus, neg-mul, mul-neg, mul-sub, sub-mul, sub-both}
 use Rattle.straight.specs.AroundLaws.{started, repeated, reversed}
 
@@ -98,3 +98,13 @@ winding-started a b p = started (λ a b. crossing p (twice a) (twice b)) a b
 pub winding-repeated : (a : List Spot) (q : Spot) (b : List Spot) (p : Spot) → winding (a ++ q ∷ q ∷ b) p ≡ winding (a ++ q ∷ b) p
 unfolding winding
 winding-repeated a q b p = repeated (λ a b. crossing p (twice a) (twice b)) (λ s. crossing-nothing p (twice s)) a q b
+
+-- ---- every outline can be handed in: its numbers, x and y in turn, are read back as its vertices
+abbrev pub flat : List Spot → List ℤ
+flat [] = []
+flat (s ∷ r) = s .x ∷ s .y ∷ flat r
+
+pub spots-flat : (o : List Spot) → spots (flat o) ≡ o
+unfolding spots
+spots-flat [] = refl
+spots-flat (s ∷ r) = ap (λ (l : List Spot). s ∷ l) (spots-flat r)

@@ -14,7 +14,7 @@ use Rattle.exact.specs.Fit.{Near}
 use Rattle.exact.specs.FitLaws.{as-near, mul-near, sub-near}
 use Rattle.straight.specs.Plane.{Spot, spots, crossing, spans, twice, one, cross, around, winding, area}
 use Rattle.straight.specs.PlaneTheorems.{left-turns, cross-turns}
-use Rattle.straight.specs.Ready.{Edge, Seen, Outline, Probed, Few, spotAt, next, rises, above, gain}
+use Rattle.straight.specs.Ready.{Edge, Seen, Outline, Probed, spotAt, next, rises, above, gain}
 use Rattle.straight.specs.PartLaws.{Part, same-part, part-more, edge-on, edge-back}
 
 -- the probe as it is read back

@@ -7,7 +7,7 @@ ghost use Rattle.straight.specs.Plane.{left, spans, cross, twice};
 ghost use Rattle.straight.specs.Ready.{Four, Six, Held, Edge, Seen, spotAt, rises, gain};
 
 // a b - c d, of numbers whose products fit.
-pub fn gap(a: i64, b: i64, c: i64, d: i64) -> i64
+fn gap(a: i64, b: i64, c: i64, d: i64) -> i64
     requires { ⌜ Four a b c d ⌝ }
     ensures { λ r. ⌜ r ≡ a *ℤ b -ℤ c *ℤ d ⌝ }
 {
@@ -15,7 +15,7 @@ pub fn gap(a: i64, b: i64, c: i64, d: i64) -> i64
 }
 
 // Above 0 where (x, y) is strictly left of the line from (ax, ay) through (bx, by).
-pub fn side_of(ax: i64, ay: i64, bx: i64, by: i64, x: i64, y: i64) -> i64
+fn side_of(ax: i64, ay: i64, bx: i64, by: i64, x: i64, y: i64) -> i64
     requires { ⌜ Six ax ay bx by x y ⌝ }
     ensures { λ r. ⌜ r ≡ (bx -ℤ ax) *ℤ (y -ℤ ay) -ℤ (x -ℤ ax) *ℤ (by -ℤ ay) ⌝ }
 {
@@ -23,7 +23,7 @@ pub fn side_of(ax: i64, ay: i64, bx: i64, by: i64, x: i64, y: i64) -> i64
 }
 
 // Twice the number at k.
-pub fn doubled(l: &[i64], k: usize) -> i64
+fn doubled(l: &[i64], k: usize) -> i64
     requires { ⌜ Held (now l) k ⌝ }
     ensures { λ r. ⌜ r ≡ pos 2 *ℤ getD (now (l .entry)) k (pos 0) ⌝ }
 {
@@ -31,7 +31,7 @@ pub fn doubled(l: &[i64], k: usize) -> i64
 }
 
 // Whether the edge from vertex i to vertex j rises past y: y1 ≤ y < y2, all doubled.
-pub fn spans_at(l: &[i64], i: usize, j: usize, x: i64, y: i64) -> bool
+fn spans_at(l: &[i64], i: usize, j: usize, x: i64, y: i64) -> bool
     requires { ⌜ Seen (now l) i j x y ⌝ }
     ensures { λ r. ⌜ r ≡ spans (twice (spotAt (now (l .entry)) i)) (twice (spotAt (now (l .entry)) j)) (record { x = x; y = y }) ⌝ }
 {
@@ -43,7 +43,7 @@ pub fn spans_at(l: &[i64], i: usize, j: usize, x: i64, y: i64) -> bool
 }
 
 // Whether (x, y) is strictly left of it.
-pub fn left_at(l: &[i64], i: usize, j: usize, x: i64, y: i64) -> bool
+fn left_at(l: &[i64], i: usize, j: usize, x: i64, y: i64) -> bool
     requires { ⌜ Seen (now l) i j x y ⌝ }
     ensures { λ r. ⌜ r ≡ left (twice (spotAt (now (l .entry)) i)) (twice (spotAt (now (l .entry)) j)) (record { x = x; y = y }) ⌝ }
 {
@@ -54,8 +54,8 @@ pub fn left_at(l: &[i64], i: usize, j: usize, x: i64, y: i64) -> bool
     signed::below(0, side_of(ax, ay, bx, by, x, y))
 }
 
-// Both.
-pub fn rises_at(l: &[i64], i: usize, j: usize, x: i64, y: i64) -> bool
+// Whether it rises past y with (x, y) strictly left of it.
+pub(crate) fn rises_at(l: &[i64], i: usize, j: usize, x: i64, y: i64) -> bool
     requires { ⌜ Seen (now l) i j x y ⌝ }
     ensures { λ r. ⌜ r ≡ rises (record { x = x; y = y }) (twice (spotAt (now (l .entry)) i)) (twice (spotAt (now (l .entry)) j)) ⌝ }
 {
@@ -67,7 +67,7 @@ pub fn rises_at(l: &[i64], i: usize, j: usize, x: i64, y: i64) -> bool
 }
 
 // What the edge from vertex i to vertex j adds to the doubled area.
-pub fn cross_at(l: &[i64], i: usize, j: usize) -> i64
+fn cross_at(l: &[i64], i: usize, j: usize) -> i64
     requires { ⌜ Edge (now l) i j ⌝ }
     ensures { λ r. ⌜ r ≡ cross (spotAt (now (l .entry)) i) (spotAt (now (l .entry)) j) ⌝ }
 {
@@ -75,7 +75,7 @@ pub fn cross_at(l: &[i64], i: usize, j: usize) -> i64
 }
 
 // The same, and 0 where it is negative.
-pub fn gain_at(l: &[i64], i: usize, j: usize) -> u64
+pub(crate) fn gain_at(l: &[i64], i: usize, j: usize) -> u64
     requires { ⌜ Edge (now l) i j ⌝ }
     ensures { λ r. ⌜ r ≡ gain (spotAt (now (l .entry)) i) (spotAt (now (l .entry)) j) ⌝ }
 {

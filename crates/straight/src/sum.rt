@@ -12,7 +12,7 @@ ghost use Rattle.straight.specs.Ready.{Outline, Probed, Few, next};
 ghost use Rattle.straight.specs.Words.{areaWords};
 
 // The number of the vertex after i, of n.
-pub fn after(i: usize, n: usize) -> usize
+fn after(i: usize, n: usize) -> usize
     requires { ⌜ i < n ⌝ }
     ensures { λ r. ⌜ r ≡ next i n ⌝ }
 {
@@ -20,14 +20,14 @@ pub fn after(i: usize, n: usize) -> usize
 }
 
 // 1 for yes.
-pub fn one_of(t: bool) -> u64
+fn one_of(t: bool) -> u64
     ensures { λ r. ⌜ r ≡ one t ⌝ }
 {
     if t { 1 } else { 0 }
 }
 
 // up - down.
-pub fn balance(up: u64, down: u64) -> i64
+fn balance(up: u64, down: u64) -> i64
     requires { ⌜ Few up down ⌝ }
     ensures { λ r. ⌜ r ≡ pos up -ℤ pos down ⌝ }
 {
@@ -59,7 +59,7 @@ pub struct Area {
 }
 
 // up - down.
-pub fn apart(up: Two, down: Two) -> Area
+fn apart(up: Two, down: Two) -> Area
     ensures { λ r. ⌜ r ≡ areaWords (pos (value up) -ℤ pos (value down)) ⌝ }
 {
     if two::less(up, down) {

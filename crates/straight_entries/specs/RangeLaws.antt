@@ -1,6 +1,5 @@
 -- What a number in range is, and the test of a number that the machine reads back.
-use Prim.Native.Nat.{ℕ, zero, suc, _^_, _≤_, _<_, suc-le-suc, zero-le}
-use native.Mathlib.Omega.{arith}
+use Prim.Native.Nat.{ℕ, zero, suc, _^_, _<_, suc-le-suc, zero-le}
 use mathlib.Core.Path.{_≡_, sym, ap, _∙_, subst}
 use mathlib.Core.Bool.{Bool, true, false, _&&_, true≢false}
 use mathlib.Core.List.{List}
@@ -13,7 +12,7 @@ use mir.Val.{SFits, toZ, ofZ}
 use mir.Facts.{toZ-ofZ}
 use borrow.Author.Tests.{leb-true, ltb-true, ltb-false}
 use Rattle.basis.specs.Choice.{by-test, and-left, and-right}
-use Rattle.basis.specs.All.{allOf, all-at}
+use Rattle.basis.specs.All.{all-at}
 use Rattle.exact.specs.Fit.{Near}
 use Rattle.exact.specs.FitLaws.{got}
 use Rattle.straight_entries.specs.Range.{inReach, allInReach}

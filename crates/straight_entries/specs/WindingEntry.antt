@@ -1,6 +1,6 @@
 -- The entry `mask_straight_winding`: its refusals, its answer, and what acceptance gives. Number 18 also looks at the probe.
 use Prim.Native.Nat.{ℕ}
-use mathlib.Core.Path.{_≡_, sym, ap, _∙_}
+use mathlib.Core.Path.{_≡_, sym, _∙_}
 use mathlib.Core.Bool.{not}
 use mathlib.Core.List.{List, [], _∷_}
 use lib.ListN.{length}

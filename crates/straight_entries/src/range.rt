@@ -4,21 +4,21 @@ ghost use Rattle.straight_entries.specs.Range.{inReach, allInReach};
 use exact::signed;
 
 // A coordinate of a vertex.
-pub fn near_vertex(z: i64) -> bool
+fn near_vertex(z: i64) -> bool
     ensures { λ r. ⌜ r ≡ inReach 400000000 z ⌝ }
 {
     signed::at_most(-400_000_000, z) && signed::at_most(z, 400_000_000)
 }
 
 // A doubled coordinate of a probe.
-pub fn near_probe(z: i64) -> bool
+pub(crate) fn near_probe(z: i64) -> bool
     ensures { λ r. ⌜ r ≡ inReach 800000000 z ⌝ }
 {
     signed::at_most(-800_000_000, z) && signed::at_most(z, 800_000_000)
 }
 
 // Every coordinate of the list is one of a vertex.
-pub fn all_near(l: &[i64]) -> bool
+pub(crate) fn all_near(l: &[i64]) -> bool
     ensures { λ r. ⌜ r ≡ allInReach (now (l .entry)) ⌝ }
 {
     let mut ok = true;

@@ -1,4 +1,3 @@
-use native.Mathlib.Omega.{arith}
 use Rattle.exact.specs.TwoLaws.{words, carry-most}
 use borrow.Author.Needs.{needs}
 use Rattle.exact.proofs.two.add.Statement.{statement}
