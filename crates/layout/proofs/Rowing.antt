@@ -1,24 +1,15 @@
 -- The loops over rows: what is left to do, over what is done, is the whole. A turn takes one row off what is left.
-use Prim.Native.Nat.{ℕ, zero, suc, _+_, _-_, _*_, _≤_, _<_}
+use Prim.Native.Nat.{ℕ, suc, _+_, _-_, _*_, _≤_, _<_}
 use mathlib.Core.Path.{_≡_, refl, sym, ap, _∙_}
 use mathlib.Core.List.{List, _++_}
 use native.Mathlib.Omega.{arith}
-use native.Mathlib.Nat.{suc-mul}
 use lib.ListN.{length, drop, length-drop}
 use lib.Seq.{drop-drop, sets, length-sets}
 use Rattle.layout.specs.Layout.{size, pack, unpack, rows}
 use Rattle.layout.specs.Ready.{ShapeAt, ShapeRead, ShapeFrom, RowsAt, RowsFrom}
 use Rattle.layout.specs.LayoutLaws.{length-pack, length-unpack, unpack-append, pack-append}
 use Rattle.layout.specs.StoreLaws.{sets-then}
-
--- k steps of s from p on end by m: the first does, and the others from p + s on
-pub step-inside : (p k s m : ℕ) → 0 < k → p + k * s ≤ m → p + s ≤ m
-step-inside p zero s m h i = absurd (omega arith)
-step-inside p (suc k) s m h i = omega (arith, rw suc-mul at i)
-
-pub step-left : (p k s m : ℕ) → 0 < k → p + k * s ≤ m → p + s + (k - 1) * s ≤ m
-step-left p zero s m h i = absurd (omega arith)
-step-left p (suc k) s m h i = let e : suc k - 1 ≡ k = omega arith in rw e (omega (arith, rw suc-mul at i))
+use Rattle.layout.specs.StepLaws.{step-inside, step-left}
 
 -- ---- reading
 pub record ReadingRows (b : List ℕ) (at : ℕ) (ws : List ℕ) (stride n : ℕ) (vs : List ℕ) (to : ℕ) (vs′ : List ℕ) (p q left : ℕ) : Type 0 where

@@ -3,3 +3,4 @@ pub mod Ready
 pub mod LayoutLaws
 pub mod NumberLaws
 pub mod StoreLaws
+pub mod StepLaws

@@ -19,3 +19,6 @@ sets-then l i n xs ys e = rw (sets-append l i xs ys, e)
 -- stores from the front on
 pub sets-front : {A : Type 0} (l xs : List A) → length xs ≤ length l → sets l 0 xs ≡ xs ++ drop (length xs) l
 sets-front l xs h = let e : 0 + length xs ≡ length xs = omega arith in sets-eq xs l 0 (omega arith) ∙ ap (λ (k : ℕ). xs ++ drop k l) e
+
+pub sets-after : {A : Type 0} (l : List A) (n : ℕ) (xs ys : List A) → length xs ≡ n → sets (sets l 0 xs) n ys ≡ sets l 0 (xs ++ ys)
+sets-after l n xs ys e = let z : 0 + n ≡ n = omega arith in rw z at (sets-then l 0 n xs ys e)

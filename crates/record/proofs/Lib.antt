@@ -1,0 +1,4 @@
+pub mod Heading
+pub mod Gathering
+pub mod Reading
+pub mod Versions
