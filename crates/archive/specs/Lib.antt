@@ -1,0 +1,5 @@
+pub mod Archive
+pub mod Ready
+pub mod ValueLaws
+pub mod KeepLaws
+pub mod RoundTrip
