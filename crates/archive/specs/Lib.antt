@@ -2,4 +2,3 @@ pub mod Archive
 pub mod Ready
 pub mod ValueLaws
 pub mod KeepLaws
-pub mod RoundTrip
