@@ -2,7 +2,7 @@
 use Prim.Native.Nat.{ℕ, zero, suc, _+_, _*_, _^_, _≤_, _<_}
 use mathlib.Core.Bool.{Bool, true, false, not}
 use mathlib.Core.Path.{_≡_, sym, ap, _∙_}
-use mathlib.Core.List.{List}
+use mathlib.Core.List.{List, [], _∷_}
 use native.Mathlib.Omega.{arith}
 use native.Mathlib.Nat.{mul-le-mul}
 use borrow.Author.Tests.{leb-true, not-true, not-false}
@@ -10,15 +10,15 @@ use lib.Dec.{leb, eqb}
 use lib.Ieee.{Float}
 use lib.ListN.{length, getD, drop, List·getD-append}
 use Rattle.basis.specs.Choice.{and-left}
-use Rattle.basis.specs.Refuse.{firstOf}
-use Rattle.basis.specs.RefuseLaws.{orElse}
+use Rattle.basis.specs.Refuse.{row, firstOf}
+use Rattle.basis.specs.RefuseLaws.{firstFrom, orElse, then-rows}
 use Rattle.layout.specs.Layout.{unpack, numOf}
 use Rattle.layout.specs.LayoutLaws.{length-unpack}
 use Rattle.layout.specs.Ready.{Fitted, fit-none, fit-one, ShapeAt, ShapeRead}
 use Rattle.layout.specs.StoreLaws.{sets-front}
 use Rattle.record.specs.declared.form.Version.{Version}
 use Rattle.record.specs.declared.head.Head.{Head}
-use Rattle.record.specs.Record.{markOk, frameRows}
+use Rattle.record.specs.Record.{markOk, frameRows, takenRows, countRows}
 use Rattle.record.specs.Ready.{HeadFit, HeadRead, Sized}
 
 -- ---- the mark
@@ -104,3 +104,8 @@ module _ {v : Version} {hs b : List ℕ} (h : HeadFit v hs b) {z f : List ℕ} (
               third = field-below (v .later + 3) 2 (omega arith) (h .head .count3);
             };
       }
+
+-- ---- the count's refusal
+pub counted : (n m : ℕ) (h : Head) (told found r : ℕ) → told ≡ m → found ≡ orElse 0 (not (eqb n told)) 13 → r ≡ firstFrom found (takenRows (h .vc1) (h .vc2) (h .slices)) → r ≡ firstFrom 0 (countRows n m h)
+counted n m h told found r e f g =
+    then-rows r found 0 (row (not (eqb n m)) 13 ∷ []) (takenRows (h .vc1) (h .vc2) (h .slices)) g (unfold firstFrom in (f ∙ ap (λ (k : ℕ). orElse 0 (not (eqb n k)) 13) e))

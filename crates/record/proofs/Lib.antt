@@ -1,4 +1,1 @@
 pub mod Heading
-pub mod Gathering
-pub mod Reading
-pub mod Versions

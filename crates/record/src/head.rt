@@ -23,6 +23,12 @@ pub struct Head {
     pub slices: usize,
 }
 
+// What a reader answers: number 0 and the head, or its number and nothing.
+pub struct Seen {
+    pub refusal: u32,
+    pub head: Head,
+}
+
 // At least five bytes, the first three of them `PBR`.
 fn is_marked(bytes: &[u8]) -> bool
     ensures { λ r. ⌜ r ≡ markOk (now (bytes .entry)) ⌝ }

@@ -19,7 +19,7 @@ use Rattle.stitch_entries.specs.StitchEntry.{stitchNumber, StitchLeft}
 use Rattle.layout.specs.Layout.{unpack}
 use Rattle.layout.specs.LayoutLaws.{length-unpack}
 use Rattle.record.specs.declared.head.Head.{Head}
-use Rattle.record.specs.declared.read.Seen.{Seen}
+use Rattle.record.specs.declared.head.Seen.{Seen}
 use Rattle.record.specs.Form.{form1, bodyOf}
 use Rattle.record.specs.Record.{headIn, bodyIn, slicesAt, outline1Of, outline2Of, codesOf, numbersOf, stitchOf, stitchIn, readRefusal, seenRefused, seenGiven, ReadLeft}
 use Rattle.record.specs.RecordLaws.{length-body, length-outline1, length-outline2, length-codes, length-numbers}

@@ -6,8 +6,8 @@ ghost use Rattle.stitch.specs.Between.{lists};
 ghost use Rattle.stitch_entries.specs.StitchEntry.{StitchLeft};
 ghost use Rattle.vault.specs.Vault.{replayRefused, replayOf, ReplayLeft};
 ghost use Rattle.vault.specs.Ready.{HeldFit};
+use reader::read;
 use record::head::Head;
-use record::read;
 use stitch_entries::answer::StitchAnswer;
 use stitch_entries::stitching;
 

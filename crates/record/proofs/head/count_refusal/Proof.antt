@@ -1,5 +1,5 @@
 use borrow.Author.Needs.{needs}
-use Rattle.record.proofs.Reading.{counted}
+use Rattle.record.proofs.Heading.{counted}
 use Rattle.record.proofs.head.count_refusal.Statement.{statement}
 use Rattle.record.proofs.head.count_refusal.Tie as tie
 

@@ -1,10 +1,10 @@
 use borrow.Author.Needs.{needs}
-use Rattle.record.proofs.Versions.{version1}
-use Rattle.record.proofs.read.read.Statement.{statement}
-use Rattle.record.proofs.read.read.Tie as tie
-use Rattle.record.proofs.read.read.Reads as reads
-use Rattle.record.proofs.read.read.Lts as lts
-use Rattle.record.proofs.read.read_form.Reads as read-form-reads
+use Rattle.reader.proofs.Versions.{version1}
+use Rattle.reader.proofs.read.read.Statement.{statement}
+use Rattle.reader.proofs.read.read.Tie as tie
+use Rattle.reader.proofs.read.read.Reads as reads
+use Rattle.reader.proofs.read.read.Lts as lts
+use Rattle.reader.proofs.read.read_form.Reads as read-form-reads
 
 -- src/read.rt:81:38
 slice-aggregate-read-form : tie.Need-slice-aggregate-read-form

@@ -8,8 +8,8 @@ use lib.Seq.{drop-drop, length-take-le, sets, length-sets}
 use Rattle.layout.specs.Ready.{CopyAt}
 use Rattle.layout.specs.StepLaws.{step-inside, step-left}
 use Rattle.layout.specs.StoreLaws.{sets-then}
 use Rattle.record.specs.Form.{column}
-use Rattle.record.specs.Ready.{ColumnFit}
+use Rattle.reader.specs.Ready.{ColumnFit}
 
 pub record Gathering {A B : Type 0} (g : A → B) (vs : List A) (from stride offset per n : ℕ) (l l′ : List B) (p q left : ℕ) : Type 0 where
   pub part : offset + per ≤ stride

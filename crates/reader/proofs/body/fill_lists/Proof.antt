@@ -1,7 +1,7 @@
 use borrow.Author.Needs.{needs}
 use Rattle.record.specs.Record.{outline1Of, outline2Of, codesOf, numbersOf}
-use Rattle.record.proofs.body.fill_lists.Statement.{statement}
-use Rattle.record.proofs.body.fill_lists.Tie as tie
+use Rattle.reader.proofs.body.fill_lists.Statement.{statement}
+use Rattle.reader.proofs.body.fill_lists.Tie as tie
 
 mul-n1 : tie.Need-mul-n1
 mul-n1 c = search needs

@@ -1,7 +1,7 @@
 use borrow.Author.Needs.{needs}
-use Rattle.record.proofs.Reading.{frame-fault, head-there, same-head, whole-fault, body-fit, read-refused, read-filled}
-use Rattle.record.proofs.read.read_form.Statement.{statement}
-use Rattle.record.proofs.read.read_form.Tie as tie
+use Rattle.reader.proofs.Reading.{frame-fault, head-there, same-head, whole-fault, body-fit, read-refused, read-filled}
+use Rattle.reader.proofs.read.read_form.Statement.{statement}
+use Rattle.reader.proofs.read.read_form.Tie as tie
 
 frame-refusal-requires : tie.Need-frame-refusal-requires
 frame-refusal-requires c κs = search needs

@@ -1,20 +1,14 @@
-// The reader.
 ghost use mathlib.Core.Path.{_≡_};
 ghost use Rattle.record.specs.Form.{form1};
 ghost use Rattle.record.specs.Record.{seenRefused, seenGiven, ReadLeft};
 ghost use Rattle.record.specs.Ready.{formOf, VersionOk};
 use crate::body;
-use crate::form;
-use crate::form::Version;
-use crate::head;
-use crate::head::Head;
+use record::form;
+use record::form::Version;
+use record::head;
+use record::head::Head;
+use record::head::Seen;
 use select::class::Starts;
-
-// What a reader answers: number 0 and the head, or its number and nothing.
-pub struct Seen {
-    pub refusal: u32,
-    pub head: Head,
-}
 
 fn seen_refused(number: u32) -> Seen
     ensures { λ r. ⌜ r ≡ seenRefused number ⌝ }

@@ -12,24 +12,20 @@ use lib.Seq.{drop-drop, take-at, sets, length-sets}
 use lib.Ieee.{Float}
 use Rattle.basis.specs.Number.{+0}
 use Rattle.basis.specs.Refuse.{Row, row, firstOf}
-use Rattle.basis.specs.RefuseLaws.{Clear, clear, clear-left, clear-right, firstFrom, first-from, then-rows, orElse, answer-no, answer-yes}
+use Rattle.basis.specs.RefuseLaws.{Clear, clear, clear-left, clear-right, firstFrom, first-from, then-rows, answer-no, answer-yes}
 use Rattle.basis.specs.Room.{roomOf}
 use Rattle.layout.specs.Layout.{size, unpack, rows}
 use Rattle.layout.specs.LayoutLaws.{length-unpack, unpack-append, size-rows, length-rows}
 use Rattle.layout.specs.Ready.{Narrow, narrow-none, narrow-one, RowsAt}
 use Rattle.layout.specs.StoreLaws.{sets-after, sets-front}
 use Rattle.record.specs.declared.form.Version.{Version}
 use Rattle.record.specs.declared.head.Head.{Head}
-use Rattle.record.specs.declared.read.Seen.{Seen}
+use Rattle.record.specs.declared.head.Seen.{Seen}
 use Rattle.record.specs.Form.{Form, form1, vertexShape, bodyOf}
-use Rattle.record.specs.Record.{headIn, bodyIn, outline1Of, outline2Of, slicesAt, codesOf, numbersOf, stitchOf, stitchIn, frameRows, lengthOf, lengthIn, takenRows, countRows, roomRows, readRefusal, seenRefused, seenGiven, ReadLeft}
-use Rattle.record.specs.Ready.{formOf, EntryOk, HeadOk, VersionOk, HeadFit, HeadRead, ListsFit, ListsFilled, Whole, ValuesFit, BodyFit, bodyValues}
+use Rattle.record.specs.Record.{headIn, bodyIn, outline1Of, outline2Of, slicesAt, codesOf, numbersOf, stitchOf, stitchIn, frameRows, lengthOf, lengthIn, countRows, roomRows, readRefusal, seenRefused, seenGiven, ReadLeft}
+use Rattle.record.specs.Ready.{formOf, VersionOk, HeadFit, HeadRead}
+use Rattle.reader.specs.Ready.{ListsFit, ListsFilled, Whole, BodyFit, bodyValues}
 use Rattle.record.specs.RecordLaws.{vertex-size, length-body, length-outline1, length-outline2, length-codes, length-numbers, sets-room, first-found, first-later}
-
--- ---- the count's refusal
-pub counted : (n m : ℕ) (h : Head) (told found r : ℕ) → told ≡ m → found ≡ orElse 0 (not (eqb n told)) 13 → r ≡ firstFrom found (takenRows (h .vc1) (h .vc2) (h .slices)) → r ≡ firstFrom 0 (countRows n m h)
-counted n m h told found r e f g =
-    then-rows r found 0 (row (not (eqb n m)) 13 ∷ []) (takenRows (h .vc1) (h .vc2) (h .slices)) g (unfold firstFrom in (f ∙ ap (λ (k : ℕ). orElse 0 (not (eqb n k)) 13) e))
 
 -- ---- the values that follow the head
 vertex-narrow : Narrow vertexShape

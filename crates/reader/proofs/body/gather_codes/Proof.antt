@@ -1,12 +1,11 @@
 use borrow.Author.Needs.{needs}
 use native.Mathlib.Omega.{arith}
-use Rattle.layout.specs.Layout.{numOf}
-use Rattle.record.proofs.Gathering.{Gathering, gathering-none, gathering-row, gathering-room, gathering-copy, gathering-more, gathering-end}
-use Rattle.record.proofs.body.gather_numbers.Statement.{statement}
-use Rattle.record.proofs.body.gather_numbers.Tie as tie
+use Rattle.reader.proofs.Gathering.{Gathering, same, gathering-none, gathering-row, gathering-room, gathering-copy, gathering-codes, gathered-codes}
+use Rattle.reader.proofs.body.gather_codes.Statement.{statement}
+use Rattle.reader.proofs.body.gather_codes.Tie as tie
 
 abbrev Inv-loop : tie.InvT-loop
-Inv-loop values from stride offset per count out₀ p₀ q₀ left₀ out p q left = Gathering numOf values from stride offset per count out₀ out p q left
+Inv-loop values from stride offset per count out₀ p₀ q₀ left₀ out p q left = Gathering same values from stride offset per count out₀ out p q left
 
 abbrev μ-loop : tie.MeasureT-loop
 μ-loop values from stride offset per count out₀ p₀ q₀ left₀ out p q left = left
@@ -14,11 +13,11 @@ abbrev μ-loop : tie.MeasureT-loop
 loop-holds : tie.Need-loop-holds Inv-loop μ-loop
 loop-holds c = search (needs, gathering-none)
 
-add-copy-numbers : tie.Need-add-copy-numbers Inv-loop μ-loop
-add-copy-numbers c = let g = c .before .loop .inv in omega (arith, gathering-row g (c .loop-test .taken), g .part)
+add-copy : tie.Need-add-copy Inv-loop μ-loop
+add-copy c = let g = c .before .loop .inv in omega (arith, gathering-row g (c .loop-test .taken), g .part)
 
-copy-numbers-requires : tie.Need-copy-numbers-requires Inv-loop μ-loop
-copy-numbers-requires c κs = search (needs, gathering-copy)
+copy-requires : tie.Need-copy-requires Inv-loop μ-loop
+copy-requires c κs = search (needs, gathering-copy)
 
 add-p : tie.Need-add-p Inv-loop μ-loop
 add-p c = omega (arith, gathering-row (c .before .before .before .before .before .loop .inv) (c .before .before .before .before .loop-test .taken))
@@ -33,23 +32,23 @@ loop-less : tie.Need-loop-less Inv-loop μ-loop
 loop-less c = search needs
 
 loop-again : tie.Need-loop-again Inv-loop μ-loop
-loop-again c = search (needs, gathering-more)
+loop-again c = search (needs, gathering-codes)
 
 same-length : tie.Need-same-length Inv-loop μ-loop
 same-length c = search needs
 
 returns : tie.Need-returns Inv-loop μ-loop
-returns c = search (needs, gathering-end)
+returns c = search (needs, gathered-codes)
 
-pub gather-numbers-spec : {M : Type 1} → statement M
-gather-numbers-spec =
+pub gather-codes-spec : {M : Type 1} → statement M
+gather-codes-spec =
     tie.close
     (tie.spec
     Inv-loop
     μ-loop
     loop-holds
-    add-copy-numbers
-    copy-numbers-requires
+    add-copy
+    copy-requires
     add-p
     add-q
     sub-left

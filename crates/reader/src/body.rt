@@ -4,13 +4,13 @@ ghost use mathlib.Core.List.{map};
 ghost use lib.ListN.{length, drop};
 ghost use lib.Seq.{sets};
 ghost use Rattle.layout.specs.Layout.{numOf};
 ghost use Rattle.record.specs.Form.{column};
-ghost use Rattle.record.specs.Ready.{ColumnFit, ListsFit, ListsFilled, ValuesFit, BodyFit, bodyValues};
-use crate::form;
-use crate::form::Version;
-use crate::head::Head;
+ghost use Rattle.reader.specs.Ready.{ColumnFit, ListsFit, ListsFilled, ValuesFit, BodyFit, bodyValues};
 use layout::copy;
 use layout::shape;
+use record::form;
+use record::form::Version;
+use record::head::Head;
 
 // Of `count` rows of `stride` values, the `per` values from `offset` on.
 fn gather_codes(

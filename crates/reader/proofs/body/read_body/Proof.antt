@@ -1,10 +1,10 @@
 use borrow.Author.Needs.{needs}
 use native.Mathlib.Omega.{arith}
-use Rattle.record.proofs.Reading.{entries-few, values-front}
+use Rattle.reader.proofs.Reading.{entries-few, values-front}
 use mathlib.Core.Path.{refl}
-use Rattle.record.proofs.Reading.{lists-fit, lists-filled}
-use Rattle.record.proofs.body.read_body.Statement.{statement}
-use Rattle.record.proofs.body.read_body.Tie as tie
+use Rattle.reader.proofs.Reading.{lists-fit, lists-filled}
+use Rattle.reader.proofs.body.read_body.Statement.{statement}
+use Rattle.reader.proofs.body.read_body.Tie as tie
 
 mul-n : tie.Need-mul-n
 mul-n c = search needs

@@ -1,8 +1,8 @@
 use borrow.Author.Needs.{needs}
-use Rattle.record.proofs.Reading.{vertex-rows, slice-rows, values-listed}
-use Rattle.record.proofs.Reading.{room-still}
-use Rattle.record.proofs.body.list_values.Statement.{statement}
-use Rattle.record.proofs.body.list_values.Tie as tie
+use Rattle.reader.proofs.Reading.{vertex-rows, slice-rows, values-listed}
+use Rattle.reader.proofs.Reading.{room-still}
+use Rattle.reader.proofs.body.list_values.Statement.{statement}
+use Rattle.reader.proofs.body.list_values.Tie as tie
 
 add-vertices : tie.Need-add-vertices
 add-vertices c = search needs
