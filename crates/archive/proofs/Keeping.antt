@@ -16,7 +16,9 @@ use Rattle.layout.specs.LayoutLaws.{length-pack}
 use Rattle.layout.specs.StoreLaws.{sets-front}
 use Rattle.select.specs.declared.class.Starts.{Starts}
 use Rattle.run.specs.Stitch.{Given, given}
+use Rattle.record.specs.declared.form.Version.{Version}
 use Rattle.record.specs.Form.{form1, bodyOf, mix}
+use Rattle.record.specs.Ready.{versionOf}
 use Rattle.record.specs.Record.{headOf, valuesOf, recordOf}
 use Rattle.record.specs.RecordLaws.{length-body, size-body, sets-room, first-found, first-later}
 use Rattle.archive.specs.declared.write.Written.{Written}
@@ -48,24 +50,25 @@ module _ (g : Given) {m : ℕ} (k : Keeps g m) where
       ap (take (3 * g .vc1 + 3 * g .vc2 + g .slices * 10 - 0)) (e ∙ sets-front vs all fits) ∙ take-at all (drop (length all) vs) _ (sym z)
 
   module _ (vs vs′ : List ℕ) (l : length vs ≡ 1024) (e : vs′ ≡ sets vs 0 (bodyValues (g .outline1) (g .outline2) (g .sliceAt) (g .slice) (g .slices))) where
-    pub pack-fits : {head : List ℕ} → head ≡ headOf 1 g
-        → PackFit (record { number = 1; bytes = 26; later = 8; stride = 54; most = 4610 }) (form1 .head) (length head) (form1 .entry)
+    pub pack-fits : {v : Version} {hs es head : List ℕ} → v ≡ versionOf form1 → hs ≡ form1 .head → es ≡ form1 .entry → head ≡ headOf 1 g
+        → PackFit v hs (length head) es
         (length (take (3 * g .vc1 + 3 * g .vc2 + g .slices * 10 - 0) vs′)) (g .vc1 + g .vc2) (g .slices) m
     unfolding lengthFor size
-    pack-fits f =
-        record {
+    pack-fits p q r f =
+        rw (p, q, r)
+        (record {
           heads = ap length f;
           bytes = refl;
           stride = refl;
           all = ap length (values-part vs vs′ l e) ∙ values-long ∙ omega arith;
           room = omega (arith, k .room);
-        }
+        })
 
-    pub kept-written : {head : List ℕ} (b : List ℕ) {b′ : List ℕ} → head ≡ headOf 1 g
-        → b′ ≡ sets b 0 (packed (form1 .head) head (form1 .entry) (take (3 * g .vc1 + 3 * g .vc2 + g .slices * 10 - 0) vs′) (g .vc1 + g .vc2) (g .slices)) → b′ ≡ sets b 0 (recordOf form1 g)
+    pub kept-written : {hs es head : List ℕ} (b : List ℕ) {b′ : List ℕ} → hs ≡ form1 .head → es ≡ form1 .entry → head ≡ headOf 1 g
+        → b′ ≡ sets b 0 (packed hs head es (take (3 * g .vc1 + 3 * g .vc2 + g .slices * 10 - 0) vs′) (g .vc1 + g .vc2) (g .slices)) → b′ ≡ sets b 0 (recordOf form1 g)
     unfolding recordOf valuesOf
-    kept-written {head} b {b′} f q =
-        q
+    kept-written {hs} {es} {head} b {b′} m n f q =
+        (rw (m, n) at q)
         ∙ ap (λ (x : List ℕ). sets b 0 (packed (form1 .head) x (form1 .entry) (take (3 * g .vc1 + 3 * g .vc2 + g .slices * 10 - 0) vs′) (g .vc1 + g .vc2) (g .slices))) f
         ∙ ap (λ (x : List ℕ). sets b 0 (packed (form1 .head) (headOf 1 g) (form1 .entry) x (g .vc1 + g .vc2) (g .slices))) (values-part vs vs′ l e)
 

@@ -72,8 +72,8 @@ fn length_of(vc1: usize, vc2: usize, slices: usize) -> usize
     requires { ⌜ KeepsIn vc1 vc2 slices ⌝ }
     ensures { λ r. ⌜ r ≡ lengthFor form1 vc1 vc2 slices ⌝ }
 {
-    form::VERSION1.bytes
-        + (vc1 * form::VERTEX_BYTES + (vc2 * form::VERTEX_BYTES + slices * form::VERSION1.stride))
+    form::HEAD1_BYTES
+        + (vc1 * form::VERTEX_BYTES + (vc2 * form::VERTEX_BYTES + slices * form::SLICE1_BYTES))
 }
 
 // Writes the record of a stitch that is not refused, where there is room.
@@ -93,14 +93,15 @@ fn write_kept(
     requires { ⌜ Keeps (given (now outline1) vc1 (now outline2) vc2 (now «slice_at») (now slice) slices starts selector tolerance) (length (now bytes)) ⌝ }
     ensures { λ _. ⌜ now (bytes .exit) ≡ sets (now (bytes .entry)) 0 (recordOf form1 (given (now (outline1 .entry)) vc1 (now (outline2 .entry)) vc2 (now («slice_at» .entry)) (now (slice .entry)) slices starts selector tolerance)) ⌝ }
 {
-    let widths = form::HEAD1;
-    let entry = form::SLICE1;
+    let v = form::version1();
+    let widths = form::head1();
+    let entry = form::slice1();
     let mut held = [0usize; form::VALUES];
     let n = 3 * vc1 + 3 * vc2 + slices * 10;
     let head = values::head_values(vc1, vc2, selector, tolerance, starts, slices);
     values::list_values(outline1, outline2, slice_at, slice, slices, &mut held);
     pack::pack_form(
-        form::VERSION1,
+        v,
         &widths,
         &head,
         &entry,

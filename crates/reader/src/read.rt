@@ -70,7 +70,8 @@ fn read_form(
 pub fn read(bytes: &[u8], o1: &mut [f64], o2: &mut [f64], at: &mut [usize], s: &mut [f64]) -> Seen
     ensures { λ r. ⌜ ReadLeft form1 (now (bytes .entry)) (now (o1 .entry)) (now (o2 .entry)) (now (at .entry)) (now (s .entry)) r (now (o1 .exit)) (now (o2 .exit)) (now (at .exit)) (now (s .exit)) ⌝ }
 {
-    let widths = form::HEAD1;
-    let entry = form::SLICE1;
-    read_form(bytes, form::VERSION1, &widths, &entry, o1, o2, at, s)
+    let v = form::version1();
+    let widths = form::head1();
+    let entry = form::slice1();
+    read_form(bytes, v, &widths, &entry, o1, o2, at, s)
 }

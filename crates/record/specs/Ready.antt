@@ -14,6 +14,10 @@ use Rattle.record.specs.Record.{headAt}
 abbrev pub formOf : Version → List ℕ → List ℕ → Form
 formOf v hs es = record { version = v .number; head = hs; later = v .later; entry = es; most = v .most }
 
+-- the version that a form is, beside its two tables
+abbrev pub versionOf : Form → Version
+versionOf f = record { number = f .version; bytes = size (f .head); later = f .later; stride = size (f .entry); most = f .most }
+
 pub record HeadOk (v : Version) (hs : List ℕ) : Type 0 where
   pub few : length hs ≤ 16
   pub narrow : Narrow hs

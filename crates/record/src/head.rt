@@ -63,19 +63,26 @@ pub fn head_in(bytes: &[u8], v: Version, widths: &[usize]) -> Head
     let j = i + 1;
     let k = i + 2;
     let l = i + 3;
+    let vc1 = f[4];
+    let vc2 = f[5];
+    let selector = f[6] as u32;
     let tolerance = copy::number(f[7]);
+    let pline2 = f[i];
+    let pline1_overlapping = f[j];
+    let pline2_overlapping = f[k];
+    let slices = f[l];
     let starts = Starts {
-        pline2: f[i],
-        pline1_overlapping: f[j],
-        pline2_overlapping: f[k],
+        pline2,
+        pline1_overlapping,
+        pline2_overlapping,
     };
     Head {
-        vc1: f[4],
-        vc2: f[5],
-        selector: f[6] as u32,
+        vc1,
+        vc2,
+        selector,
         tolerance,
         starts,
-        slices: f[l],
+        slices,
     }
 }
 

@@ -4,6 +4,15 @@ use Rattle.archive.proofs.Keeping.{pack-fits, kept-written}
 use Rattle.archive.proofs.write.write_kept.Statement.{statement}
 use Rattle.archive.proofs.write.write_kept.Tie as tie
 
+version1-requires : tie.Need-version1-requires
+version1-requires c κs = search needs
+
+head1-requires : tie.Need-head1-requires
+head1-requires c κs = search needs
+
+slice1-requires : tie.Need-slice1-requires
+slice1-requires c κs = search needs
+
 mul-n : tie.Need-mul-n
 mul-n c = search needs
 
@@ -50,18 +59,21 @@ add-pack-form : tie.Need-add-pack-form
 add-pack-form c = search needs
 
 pack-form-requires : tie.Need-pack-form-requires
-pack-form-requires c κs = pack-fits _ (c .before .before .before .before .before .before .before .before .before .before .before .before .before .before .before .pre) _ _ refl (c .before .before .before .before .before .before .before .list-values .ensures) (c .before .before .before .before .before .before .before .before .before .head-values .ensures)
+pack-form-requires c κs = pack-fits _ (c .before .before .before .before .before .before .before .before .before .before .before .before .before .before .before .before .before .before .pre) _ _ refl (c .before .before .before .before .before .before .before .list-values .ensures) (c .before .before .before .before .before .before .before .before .before .before .before .before .version1 .ensures) (c .before .before .before .before .before .before .before .before .before .before .before .head1 .ensures) (c .before .before .before .before .before .before .before .before .before .before .slice1 .ensures) (c .before .before .before .before .before .before .before .before .before .head-values .ensures)
 
 same-length : tie.Need-same-length
 same-length c = search needs
 
 returns : tie.Need-returns
-returns c = kept-written _ (c .before .before .before .before .before .before .before .before .before .before .before .before .before .before .before .before .before .before .pre) _ _ refl (c .before .before .before .before .before .before .before .before .before .before .list-values .ensures) _ (c .before .before .before .before .before .before .before .before .before .before .before .before .head-values .ensures) (c .before .before .pack-form .ensures)
+returns c = kept-written _ (c .before .before .before .before .before .before .before .before .before .before .before .before .before .before .before .before .before .before .before .before .before .pre) _ _ refl (c .before .before .before .before .before .before .before .before .before .before .list-values .ensures) _ (c .before .before .before .before .before .before .before .before .before .before .before .before .before .before .head1 .ensures) (c .before .before .before .before .before .before .before .before .before .before .before .before .before .slice1 .ensures) (c .before .before .before .before .before .before .before .before .before .before .before .before .head-values .ensures) (c .before .before .pack-form .ensures)
 
 pub write-kept-spec : {M : Type 1} → statement M
 write-kept-spec =
     tie.close
     (tie.spec
+    version1-requires
+    head1-requires
+    slice1-requires
     mul-n
     mul-n-2
     add-n

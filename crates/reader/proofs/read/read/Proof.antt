@@ -1,47 +1,48 @@
 use borrow.Author.Needs.{needs}
-use Rattle.reader.proofs.Versions.{version1}
+use Rattle.reader.proofs.Versions.{tables1, read1}
 use Rattle.reader.proofs.read.read.Statement.{statement}
 use Rattle.reader.proofs.read.read.Tie as tie
-use Rattle.reader.proofs.read.read.Reads as reads
-use Rattle.reader.proofs.read.read.Lts as lts
-use Rattle.reader.proofs.read.read_form.Reads as read-form-reads
 
--- src/read.rt:81:38
+version1-requires : tie.Need-version1-requires
+version1-requires c κs = search needs
+
+head1-requires : tie.Need-head1-requires
+head1-requires c κs = search needs
+
+slice1-requires : tie.Need-slice1-requires
+slice1-requires c κs = search needs
+
 slice-aggregate-read-form : tie.Need-slice-aggregate-read-form
 slice-aggregate-read-form c = search needs
 
--- src/read.rt:81:47
 slice-aggregate-read-form-2 : tie.Need-slice-aggregate-read-form-2
 slice-aggregate-read-form-2 c = search needs
 
--- src/read.rt:81:5
 read-form-requires : tie.Need-read-form-requires
-read-form-requires c κs = version1
+read-form-requires c κs = tables1 (c .before .before .before .before .before .before .before .before .version1 .ensures) (c .before .before .before .before .before .before .before .head1 .ensures) (c .before .before .before .before .before .before .slice1 .ensures)
 
--- src/read.rt:76:1
 same-length : tie.Need-same-length
 same-length c = search needs
 
--- src/read.rt:76:1
 same-length-2 : tie.Need-same-length-2
 same-length-2 c = search needs
 
--- src/read.rt:76:1
 same-length-3 : tie.Need-same-length-3
 same-length-3 c = search needs
 
--- src/read.rt:76:1
 same-length-4 : tie.Need-same-length-4
 same-length-4 c = search needs
 
--- src/read.rt:76:1
 returns : tie.Need-returns
-returns c = search needs
+returns c = read1 (c .before .before .before .before .before .before .before .before .before .before .before .before .before .before .before .before .before .version1 .ensures) (c .before .before .before .before .before .before .before .before .before .before .before .before .before .before .before .before .head1 .ensures) (c .before .before .before .before .before .before .before .before .before .before .before .before .before .before .before .slice1 .ensures) (c .before .before .before .before .before .before .before .before .read-form .ensures)
 
 pub read-spec : {M : Type 1} → statement M
 read-spec =
     tie.close
     (tie.spec
+    version1-requires
+    head1-requires
+    slice1-requires
     slice-aggregate-read-form
     slice-aggregate-read-form-2
     read-form-requires
