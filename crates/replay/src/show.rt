@@ -111,7 +111,7 @@ fn chains(
 }
 
 // The counts, and a line for each chain; or the number of a refusal.
-pub fn replay(bytes: &[u8]) {
+pub(crate) fn replay(bytes: &[u8]) {
     let mut room = [0.0f64; ROOM];
     let mut ends = [0usize; SLICES];
     let mut chain = [0usize; SLICES];
