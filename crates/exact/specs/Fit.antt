@@ -1,5 +1,5 @@
 -- How far a whole number is from 0, and that it fits 64 bits.
-use Prim.Native.Nat.{ℕ, _≤_}
+use Prim.Native.Nat.{ℕ, _^_, _≤_, _<_}
 use mathlib.Core.Path.{_≡_}
 use mathlib.Core.Bool.{true}
 use lib.IntN.{ℤ, natAbs}
@@ -14,6 +14,10 @@ pub record Near (m : ℕ) (z : ℤ) : Type 0 where
 -- z fits a signed number of 64 bits
 pub record Fitting (z : ℤ) : Type 0 where
   pub fits : SFits w64 z
+
+-- the unsigned number n can be a signed one of 64 bits
+pub record Signed (n : ℕ) : Type 0 where
+  pub below : n < 2 ^ 63
 
 pub record NotBelow (z : ℤ) : Type 0 where
   pub least : nonNeg z ≡ true

@@ -1,9 +1,8 @@
 // One signed step a function, so that callers speak of ℤ and never of bits.
 ghost use mathlib.Core.Path.{_≡_};
-ghost use Prim.Native.Nat.{_<_, _^_};
 ghost use lib.IntN.{pos, natAbs, _-ℤ_};
 ghost use lib.Signed.{ltZ, leZ};
-ghost use Rattle.exact.specs.Fit.{Fitting, NotBelow};
+ghost use Rattle.exact.specs.Fit.{Fitting, Signed, NotBelow};
 
 // a minus b, which fits.
 pub fn minus(a: i64, b: i64) -> i64
@@ -37,7 +36,7 @@ pub fn unsigned(x: i64) -> u64
 
 // An unsigned number that is small enough, as a signed one.
 pub fn signed(n: u64) -> i64
-    requires { ⌜ n < 2 ^ 63 ⌝ }
+    requires { ⌜ Signed n ⌝ }
     ensures { λ r. ⌜ r ≡ pos n ⌝ }
 {
     n as i64

@@ -1,0 +1,3 @@
+pub mod Mixing
+pub mod Packing
+pub mod Keeping

@@ -1,0 +1,4 @@
+pub mod Archive
+pub mod Ready
+pub mod ValueLaws
+pub mod KeepLaws

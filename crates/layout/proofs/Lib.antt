@@ -1,0 +1,5 @@
+pub mod Getting
+pub mod Putting
+pub mod Copying
+pub mod Shaping
+pub mod Rowing

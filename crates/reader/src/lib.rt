@@ -1,0 +1,3 @@
+// The reader of the record `PBR`.
+pub mod body;
+pub mod read;

@@ -1,0 +1,5 @@
+pub mod Form
+pub mod Record
+pub mod Ready
+pub mod RecordLaws
+pub mod RecordExamples
