@@ -4,13 +4,13 @@ use mathlib.Core.Path.{_≡_, refl, sym, ap, _∙_}
 use mathlib.Core.List.{List, [], _∷_, _++_, map}
 use native.Mathlib.Omega.{arith}
 use borrow.Author.Tests.{lt-ltb, le-ltb}
-use lib.Dec.{T, ltb}
+use lib.Dec.{ltb}
 use lib.ListN.{length, take, drop, length-append, length-map}
 use lib.Seq.{take-at, sets}
 use lib.Ieee.{Float}
 use Rattle.basis.specs.Number.{Tolerance}
 use Rattle.basis.specs.Refuse.{Row, row, firstOf}
-use Rattle.basis.specs.RefuseLaws.{Clear, clear, firstFrom, first-from, orElse, answer-no, answer-yes}
+use Rattle.basis.specs.RefuseLaws.{Clear, clear, firstFrom, first-from, answer-no, answer-yes}
 use Rattle.layout.specs.Layout.{size, pack, bitsOf}
 use Rattle.layout.specs.LayoutLaws.{length-pack}
 use Rattle.layout.specs.StoreLaws.{sets-front}

@@ -1,17 +1,16 @@
 -- What the absence of every refusal says of a stitch: it can be written.
-use Prim.Native.Nat.{ℕ, _+_, _*_, _≤_, _<_}
+use Prim.Native.Nat.{ℕ, _+_, _≤_}
 use mathlib.Core.Bool.{true, false, not, false≢true}
-use mathlib.Core.Path.{_≡_, refl, sym, ap, _∙_}
-use mathlib.Core.List.{List, [], _∷_, _++_}
-use native.Mathlib.Omega.{arith}
+use mathlib.Core.Path.{_≡_}
+use mathlib.Core.List.{List, _++_}
 use borrow.Author.Tests.{ltb-false, not-false}
-use lib.Dec.{T, ltb}
+use lib.Dec.{T}
 use lib.ListN.{length, getD}
 use lib.Ieee.{Float, nan, inf, fin, ofBits, isNan, lt, le}
 use Rattle.basis.specs.All.{all-at}
 use Rattle.basis.specs.Number.{absF, within, allWithin, tolerable}
-use Rattle.basis.specs.Refuse.{Row, row, firstOf}
-use Rattle.basis.specs.RefuseLaws.{Clear, clear, clear-left, clear-right, length-ok}
+use Rattle.basis.specs.Refuse.{Row}
+use Rattle.basis.specs.RefuseLaws.{Clear, clear-left, clear-right, length-ok}
 use Rattle.layout.specs.Ready.{NoNan}
 use Rattle.run.specs.Stitch.{Given}
 use Rattle.stitch_entries.specs.StitchRows.{listRows, codeRows, numberRows, indexRows}

@@ -1,12 +1,12 @@
 -- The loops over a shape's fields: what is left to do, over what is done, is the whole. A turn takes one field off what is left.
-use Prim.Native.Nat.{ℕ, suc, _+_, _^_, _≤_, _<_}
-use mathlib.Core.Path.{_≡_, refl, sym, ap, _∙_}
-use mathlib.Core.List.{List, [], _∷_, _++_}
+use Prim.Native.Nat.{ℕ, suc, _+_, _≤_, _<_}
+use mathlib.Core.Path.{_≡_, refl, ap, _∙_}
+use mathlib.Core.List.{List, [], _∷_}
 use native.Mathlib.Omega.{arith}
 use native.Mathlib.Numerals.{add-one}
-use lib.ListN.{length, getD, set, drop, length-set, length-drop, drop-of-length-le}
+use lib.ListN.{length, getD, set, drop, length-set, drop-of-length-le}
 use lib.Seq.{drop-cons, drop-drop, sets, length-sets}
-use Rattle.layout.specs.Layout.{size, valueOf, bytesOf, pack, unpack}
+use Rattle.layout.specs.Layout.{size, bytesOf, pack, unpack}
 use Rattle.layout.specs.Ready.{Narrow, narrow-one, Fitted, fit-none, fit-one, FieldAt, Value, ShapeAt, ShapeRead, ShapeFrom}
 use Rattle.layout.specs.LayoutLaws.{length-bytes}
 use Rattle.layout.specs.StoreLaws.{sets-then}

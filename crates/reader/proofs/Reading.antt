@@ -1,18 +1,16 @@
 -- What the reader is proved by.
 use Prim.Native.Nat.{ℕ, _+_, _-_, _*_, _≤_}
-use mathlib.Core.Bool.{not}
 use mathlib.Core.Path.{_≡_, refl, sym, ap, subst, _∙_}
-use mathlib.Core.List.{List, [], _∷_, _++_}
+use mathlib.Core.List.{List, _++_}
 use native.Mathlib.Omega.{arith}
 use native.Mathlib.Nat.{mul-le-mul}
 use borrow.Author.Tests.{ltb-false, eqb-true, not-false}
-use lib.Dec.{T, eqb}
-use lib.ListN.{length, take, drop, length-append}
+use lib.ListN.{length, take, drop}
 use lib.Seq.{drop-drop, take-at, sets, length-sets}
 use lib.Ieee.{Float}
 use Rattle.basis.specs.Number.{+0}
-use Rattle.basis.specs.Refuse.{Row, row, firstOf}
-use Rattle.basis.specs.RefuseLaws.{Clear, clear, clear-left, clear-right, firstFrom, first-from, then-rows, answer-no, answer-yes}
+use Rattle.basis.specs.Refuse.{firstOf}
+use Rattle.basis.specs.RefuseLaws.{clear, firstFrom, first-from, then-rows, answer-no, answer-yes}
 use Rattle.basis.specs.Room.{roomOf}
 use Rattle.layout.specs.Layout.{size, unpack, rows}
 use Rattle.layout.specs.LayoutLaws.{thin-narrow, length-unpack, unpack-append, size-rows, length-rows}
@@ -21,7 +19,7 @@ use Rattle.layout.specs.StoreLaws.{sets-after, sets-front}
 use Rattle.record.specs.declared.form.Version.{Version}
 use Rattle.record.specs.declared.head.Head.{Head}
 use Rattle.record.specs.declared.head.Seen.{Seen}
-use Rattle.record.specs.Form.{Form, form1, vertexShape, bodyOf}
+use Rattle.record.specs.Form.{Form, vertexShape, bodyOf}
 use Rattle.record.specs.Record.{headIn, bodyIn, outline1Of, outline2Of, slicesAt, codesOf, numbersOf, stitchOf, stitchIn, frameRows, lengthOf, lengthIn, countRows, roomRows, readRefusal, seenRefused, seenGiven, ReadLeft}
 use Rattle.record.specs.Ready.{formOf, VersionOk, HeadFit, HeadRead}
 use Rattle.reader.specs.Ready.{ListsFit, ListsFilled, Whole, BodyFit, bodyValues}

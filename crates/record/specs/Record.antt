@@ -13,7 +13,7 @@ use Rattle.layout.specs.Layout.{size, valueOf, pack, unpack, numOf, bitsOf}
 use Rattle.run.specs.Stitch.{Given, given}
 use Rattle.record.specs.declared.head.Head.{Head}
 use Rattle.record.specs.declared.head.Seen.{Seen}
-use Rattle.record.specs.Form.{Form, vertexShape, bodyOf, column, mix}
+use Rattle.record.specs.Form.{Form, bodyOf, column, mix}
 
 -- ---- what bytes hold
 

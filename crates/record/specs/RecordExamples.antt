@@ -4,10 +4,10 @@ use mathlib.Core.Path.{_≡_, refl}
 use mathlib.Core.List.{List, [], _∷_}
 use Rattle.basis.specs.Number.{+0}
 use Rattle.basis.specs.Refuse.{firstOf}
-use Rattle.layout.specs.Layout.{size, valueOf, unpack, numOf}
+use Rattle.layout.specs.Layout.{size, valueOf}
 use Rattle.record.specs.declared.head.Head.{Head}
 use Rattle.record.specs.Form.{form1}
-use Rattle.record.specs.Record.{headIn, lengthOf, lengthIn, markOk, readRefusal}
+use Rattle.record.specs.Record.{lengthOf, lengthIn, markOk, readRefusal}
 
 -- a head with these counts
 abbrev pub counts : ℕ → ℕ → ℕ → Head

@@ -1,22 +1,21 @@
 -- How long the parts of a record are, and that a reader's list is what its stitch has.
 use Prim.Native.Nat.{ℕ, zero, suc, _+_, _*_, _-_, _≤_}
 use mathlib.Core.Bool.{true, false, true≢false}
-use mathlib.Core.Path.{_≡_, refl, sym, ap, _∙_}
-use mathlib.Core.List.{List, [], _∷_, _++_, map}
+use mathlib.Core.Path.{_≡_, refl, _∙_}
+use mathlib.Core.List.{List, [], _∷_, _++_}
 use native.Mathlib.Omega.{arith}
 use native.Mathlib.Nat.{suc-mul}
-use lib.ListN.{length, take, drop, replicate, length-append, length-map, length-drop}
+use lib.ListN.{length, take, drop, length-append, length-map, length-drop}
 use lib.Seq.{length-take-le, sets}
-use lib.Ieee.{Float}
 use Rattle.basis.specs.Refuse.{Row, row, firstOf}
 use Rattle.basis.specs.RefuseLaws.{Clear}
 use Rattle.basis.specs.Room.{roomOf}
-use Rattle.layout.specs.Layout.{size, unpack, rows, numOf}
-use Rattle.layout.specs.LayoutLaws.{length-unpack, length-rows, size-rows, size-append}
+use Rattle.layout.specs.Layout.{size, rows, numOf}
+use Rattle.layout.specs.LayoutLaws.{length-rows, size-rows, size-append}
 use Rattle.layout.specs.StoreLaws.{sets-front}
 use Rattle.record.specs.declared.head.Head.{Head}
 use Rattle.record.specs.Form.{vertexShape, bodyOf, column}
-use Rattle.record.specs.Record.{bodyIn, outline1Of, outline2Of, slicesAt, codesOf, numbersOf, lengthOf}
+use Rattle.record.specs.Record.{outline1Of, outline2Of, slicesAt, codesOf, numbersOf}
 
 pub length-column : {A : Type 0} (stride offset per n : ℕ) (vs : List A) → offset + per ≤ stride → n * stride ≤ length vs → length (column stride offset per n vs) ≡ n * per
 unfolding column

@@ -5,7 +5,7 @@ use mathlib.Core.List.{List, [], _∷_, _++_, append-assoc}
 use native.Mathlib.Omega.{arith}
 use native.Mathlib.Nat.{suc-mul}
 use lib.ListN.{length, take, drop, length-append, length-drop, take-append-drop}
-use lib.Seq.{take-at, drop-at, take-add, drop-drop, length-take-le}
+use lib.Seq.{take-at, drop-at, take-add, length-take-le}
 use Rattle.record.specs.Form.{column, mix}
 
 -- a list of no elements

@@ -1,7 +1,7 @@
 -- Values that fit their fields, by the acceptance of a stitch.
 use Prim.Native.Nat.{ℕ, zero, suc, _+_, _*_, _^_, _≤_, _<_}
 use mathlib.Core.Bool.{true, false}
-use mathlib.Core.Path.{_≡_, refl, sym, ap, _∙_}
+use mathlib.Core.Path.{_≡_, refl, ap, _∙_}
 use mathlib.Core.List.{List, [], _∷_, _++_, map}
 use native.Mathlib.Nat.{pow-le-pow-right}
 use native.Mathlib.Omega.{arith}
@@ -13,7 +13,7 @@ use Rattle.basis.specs.Choice.{by-test, clash, and-left, and-right}
 use Rattle.basis.specs.Number.{absF, within, allWithin, tolerable}
 use Rattle.layout.specs.Layout.{rows, infinity, numOf, bitsOf}
 use Rattle.layout.specs.LayoutLaws.{thin-narrow, narrow-append, narrow-rows}
-use Rattle.layout.specs.NumberLaws.{Plain, AllPlain, plain-none, plain-one, bits-below, bits-num, nan-read}
+use Rattle.layout.specs.NumberLaws.{AllPlain, plain-none, plain-one, bits-below, bits-num, nan-read}
 use Rattle.layout.specs.Ready.{Narrow, narrow-one, Fitted, fit-none, fit-one}
 use Rattle.record.specs.Form.{form1, vertexShape, bodyOf, column, mix}
 use Rattle.archive.specs.KeepLaws.{within-no-nan}

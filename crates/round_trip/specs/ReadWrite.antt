@@ -1,21 +1,21 @@
 -- The other way: reading a record that is accepted, then writing what was read, gives the same bytes.
-use Prim.Native.Nat.{ℕ, _+_, _*_, _≤_, _<_}
-use mathlib.Core.Bool.{true, not}
+use Prim.Native.Nat.{ℕ, _+_, _*_, _≤_}
+use mathlib.Core.Bool.{true}
 use mathlib.Core.Path.{_≡_, refl, sym, ap, _∙_}
 use mathlib.Core.List.{List, [], _∷_, _++_, map}
 use native.Mathlib.Omega.{arith}
-use borrow.Author.Tests.{ltb-false, le-ltb, eqb-true, not-false}
+use borrow.Author.Tests.{le-ltb, eqb-true, not-false}
 use lib.Dec.{ltb, leb, eqb}
-use lib.ListN.{length, getD, take, drop, length-append, length-drop, take-append-drop}
+use lib.ListN.{length, getD, take, drop, length-drop, take-append-drop}
 use lib.Seq.{getD-drop, drop-drop, take-all}
 use Rattle.basis.specs.Choice.{and-left, and-right}
-use Rattle.basis.specs.Number.{allWithin, tolerable}
+use Rattle.basis.specs.Number.{tolerable}
 use Rattle.basis.specs.Refuse.{Row, row, firstOf}
 use Rattle.basis.specs.RefuseLaws.{Clear, clear, clear-left, clear-right, clear-both, none-clear}
 use Rattle.run.specs.Stitch.{Given}
 use Rattle.stitch_entries.specs.StitchRows.{listRows, codeRows, numberRows, indexRows}
 use Rattle.stitch_entries.specs.StitchEntry.{shapeRows}
-use Rattle.layout.specs.Layout.{size, valueOf, pack, unpack, numOf, bitsOf}
+use Rattle.layout.specs.Layout.{size, valueOf, pack, unpack, bitsOf}
 use Rattle.layout.specs.LayoutLaws.{Octets, octets-drop, length-unpack, unpack-fitted, pack-unpack}
 use Rattle.record.specs.declared.head.Head.{Head}
 use Rattle.record.specs.Form.{form1, bodyOf, column, mix}

@@ -1,36 +1,34 @@
 -- "Writing then reading a record gives the same stitch": of everything that the writer does not refuse, number for number, bit for bit.
-use Prim.Native.Nat.{ℕ, zero, suc, _+_, _*_, _/_, _^_, _≤_, _<_}
-use mathlib.Core.Bool.{Bool, true, false, not, cond, _||_}
+use Prim.Native.Nat.{ℕ, _+_, _*_, _/_, _≤_, _<_}
+use mathlib.Core.Bool.{Bool, true, false, not, cond}
 use mathlib.Core.Path.{_≡_, refl, sym, ap, subst, _∙_}
 use mathlib.Core.List.{List, [], _∷_, _++_, map, append-assoc, append-nil}
 use native.Mathlib.Nat.{mul-div-right}
 use native.Mathlib.Omega.{arith}
 use borrow.Author.Tests.{ltb-true, ltb-false, leb-true, le-ltb, le-leb, eq-eqb, eqb-true, not-false}
-use lib.Dec.{T, ltb, leb, eqb}
+use lib.Dec.{T, ltb, eqb}
 use lib.ListN.{length, getD, take, drop, length-append, length-map}
 use lib.Seq.{take-at, drop-at, drop-drop}
-use lib.Ieee.{Float, binary64, fits}
+use lib.Ieee.{binary64, fits}
 use Rattle.basis.specs.Choice.{by-test, or-left, or-right}
 use Rattle.basis.specs.Each.{placesBelow}
 use Rattle.basis.specs.EachLaws.{each-at}
-use Rattle.basis.specs.Number.{allWithin, tolerable}
-use Rattle.basis.specs.Refuse.{Row, row, firstOf}
-use Rattle.basis.specs.RefuseLaws.{Clear, clear, clear-left, none-clear, choice-ok, length-ok}
-use Rattle.select.specs.declared.class.Starts.{Starts}
-use Rattle.run.specs.Stitch.{Given, given}
+use Rattle.basis.specs.Number.{allWithin}
+use Rattle.basis.specs.Refuse.{row, firstOf}
+use Rattle.basis.specs.RefuseLaws.{Clear, clear, clear-left, none-clear, choice-ok}
+use Rattle.run.specs.Stitch.{Given}
 use Rattle.stitch_entries.specs.StitchRows.{knownSource, sourcesKnown, countFor, startsInside, offsetsInside, startsFault}
-use Rattle.layout.specs.Layout.{size, bytesOf, valueOf, pack, unpack, rows, numOf, bitsOf}
+use Rattle.layout.specs.Layout.{size, bytesOf, valueOf, pack, unpack, numOf, bitsOf}
 use Rattle.layout.specs.LayoutLaws.{unpack-pack, fitted-append, fitted-length, length-pack}
 use Rattle.layout.specs.NumberLaws.{Plain, AllPlain, num-bits, bits-below, nums-bits}
 use Rattle.layout.specs.Ready.{Fitted, fit-none, fit-one}
 use Rattle.record.specs.declared.head.Head.{Head}
-use Rattle.record.specs.Form.{form1, vertexShape, bodyOf, column, mix}
-use Rattle.record.specs.Record.{headAt, headIn, bodyIn, slicesAt, outline1Of, outline2Of, codesOf, numbersOf, stitchOf, stitchIn, markOk, frameRows, lengthOf, lengthIn, countRows, roomRows, readRefusal, headOf, valuesOf, recordOf}
+use Rattle.record.specs.Form.{form1, bodyOf, column, mix}
+use Rattle.record.specs.Record.{headAt, headIn, bodyIn, outline1Of, outline2Of, codesOf, numbersOf, stitchOf, stitchIn, markOk, frameRows, lengthOf, lengthIn, countRows, roomRows, readRefusal, headOf, valuesOf, recordOf}
 use Rattle.record.specs.RecordLaws.{size-body}
 use Rattle.archive.specs.Archive.{keepRows, lengthFor, lengthGiven, writeRefusal}
 use Rattle.archive.specs.Ready.{Keeps}
-use Rattle.archive.specs.KeepLaws.{tolerable-no-nan, lists-clear, taken-clear, codes-clear, numbers-clear, indexes-clear, keeps}
-use Rattle.archive.specs.ValueLaws.{length-mix}
+use Rattle.archive.specs.KeepLaws.{codes-clear, numbers-clear, indexes-clear, keeps}
 use Rattle.round_trip.specs.Columns.{codes-back, numbers-back}
 use Rattle.round_trip.specs.Fits.{Held, all-plain, bits-all-below, below-append, CodesFit, vertices-fitted, slices-fitted}
 

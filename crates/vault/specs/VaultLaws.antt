@@ -1,13 +1,13 @@
 -- From what the reader and the stitch leave to what a replay does.
 use Prim.Native.Nat.{ℕ, zero, suc, _+_, _-_, _*_, _≤_}
 use mathlib.Core.Path.{_≡_, refl, sym, ap, subst, _∙_}
-use mathlib.Core.List.{List, _++_}
+use mathlib.Core.List.{List}
 use native.Mathlib.Omega.{arith}
 use lib.ListN.{length, take, length-append}
 use lib.Ieee.{Float}
 use Rattle.basis.specs.Number.{+0, Tolerance}
 use Rattle.basis.specs.Refuse.{answer}
-use Rattle.basis.specs.RefuseLaws.{answer-no, answer-yes, answer-zero, answer-accepted}
+use Rattle.basis.specs.RefuseLaws.{answer-no, answer-yes, answer-accepted}
 use Rattle.basis.specs.Room.{roomOf}
 use Rattle.basis.specs.RoomLaws.{room-front}
 use Rattle.select.specs.declared.class.Starts.{Starts}
@@ -16,12 +16,11 @@ use Rattle.stitch.specs.Between.{Lists}
 use Rattle.stitch_entries.specs.declared.answer.StitchAnswer.{StitchAnswer}
 use Rattle.stitch_entries.specs.Answers.{stitchRefused, stitchGiven}
 use Rattle.stitch_entries.specs.StitchEntry.{stitchNumber, StitchLeft}
-use Rattle.layout.specs.Layout.{unpack}
 use Rattle.layout.specs.LayoutLaws.{length-unpack}
 use Rattle.record.specs.declared.head.Head.{Head}
 use Rattle.record.specs.declared.head.Seen.{Seen}
 use Rattle.record.specs.Form.{form1, bodyOf}
-use Rattle.record.specs.Record.{headIn, bodyIn, slicesAt, outline1Of, outline2Of, codesOf, numbersOf, stitchOf, stitchIn, readRefusal, seenRefused, seenGiven, ReadLeft}
+use Rattle.record.specs.Record.{headIn, bodyIn, slicesAt, stitchOf, stitchIn, readRefusal, seenRefused, seenGiven, ReadLeft}
 use Rattle.record.specs.RecordLaws.{length-body, length-outline1, length-outline2, length-codes, length-numbers}
 use Rattle.vault.specs.declared.replay.ReplayAnswer.{ReplayAnswer}
 use Rattle.vault.specs.Vault.{heldIn, formNumber, replayNumber, replayRefused, replayGiven, replayOf, ReplayLeft}

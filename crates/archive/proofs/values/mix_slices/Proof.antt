@@ -1,5 +1,4 @@
 use borrow.Author.Needs.{needs}
-use native.Mathlib.Omega.{arith}
 use Rattle.archive.proofs.Mixing.{Mixing, mixing-none, mixing-codes, mixing-numbers, mixing-more, mixing-end}
 use Rattle.archive.proofs.values.mix_slices.Statement.{statement}
 use Rattle.archive.proofs.values.mix_slices.Tie as tie

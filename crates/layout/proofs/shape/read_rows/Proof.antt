@@ -1,6 +1,6 @@
 use borrow.Author.Needs.{needs}
 use native.Mathlib.Omega.{arith}
-use Rattle.layout.proofs.Rowing.{ReadingRows, reading-rows-none, reading-row, reading-room, reading-shape, reading-rows-more, reading-rows-end}
+use Rattle.layout.proofs.Rowing.{ReadingRows, reading-rows-none, reading-row, reading-shape, reading-rows-more, reading-rows-end}
 use Rattle.layout.proofs.shape.read_rows.Statement.{statement}
 use Rattle.layout.proofs.shape.read_rows.Tie as tie
 

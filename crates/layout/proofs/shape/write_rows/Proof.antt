@@ -1,6 +1,6 @@
 use borrow.Author.Needs.{needs}
 use native.Mathlib.Omega.{arith}
-use Rattle.layout.proofs.Rowing.{WritingRows, writing-rows-none, writing-row, writing-source, writing-shape, writing-rows-more, writing-rows-end}
+use Rattle.layout.proofs.Rowing.{WritingRows, writing-rows-none, writing-row, writing-shape, writing-rows-more, writing-rows-end}
 use Rattle.layout.proofs.shape.write_rows.Statement.{statement}
 use Rattle.layout.proofs.shape.write_rows.Tie as tie
 

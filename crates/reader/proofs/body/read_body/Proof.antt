@@ -1,6 +1,6 @@
 use borrow.Author.Needs.{needs}
 use native.Mathlib.Omega.{arith}
-use Rattle.reader.proofs.Reading.{entries-few, values-front}
+use Rattle.reader.proofs.Reading.{entries-few}
 use mathlib.Core.Path.{refl}
 use Rattle.reader.proofs.Reading.{lists-fit, lists-filled}
 use Rattle.reader.proofs.body.read_body.Statement.{statement}

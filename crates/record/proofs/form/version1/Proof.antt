@@ -1,4 +1,3 @@
-use borrow.Author.Needs.{needs}
 use mathlib.Core.Path.{refl}
 use Rattle.layout.specs.Layout.{size}
 use Rattle.record.proofs.form.version1.Statement.{statement}
