@@ -1,13 +1,16 @@
 -- Laws of shapes, for any widths: what is packed has the shape's length, and each way there and back is the identity.
 use Prim.Native.Nat.{ℕ, zero, suc, _+_, _*_, _/_, _%_, _^_, _≤_, _<_}
+use mathlib.Core.Bool.{Bool, true, false, _&&_, true≢false}
 use mathlib.Core.Path.{_≡_, refl, sym, ap, _∙_}
 use mathlib.Core.List.{List, [], _∷_, _++_, append-assoc}
 use native.Mathlib.Omega.{arith}
 use native.Mathlib.Nat.{suc-mul, pow-suc, div-add-mod, div-lt-iff-lt-mul}
+use borrow.Author.Tests.{leb-true}
+use lib.Dec.{leb}
 use lib.ListN.{length, getD, take, drop, length-append, length-drop}
 use lib.Seq.{drop-at, drop-drop, getD-drop, take-add}
 use Rattle.layout.specs.Layout.{size, bytesOf, valueOf, pack, unpack, rows}
-use Rattle.layout.specs.Ready.{Fitted, fit-none, fit-one}
+use Rattle.layout.specs.Ready.{Narrow, narrow-none, narrow-one, Fitted, fit-none, fit-one}
 
 -- ---- lengths
 pub length-bytes : (w v : ℕ) → length (bytesOf w v) ≡ w
@@ -114,3 +117,29 @@ unfolding pack unpack size
 pack-unpack [] b h k = refl
 pack-unpack (w ∷ ws) b h k =
     rw (value-octets w b h (omega arith), pack-unpack ws (drop w b) (octets-drop w b h) (rw length-drop (omega arith))) (sym (take-add w (size ws) b))
+
+-- ---- a table's widths, by one computed test
+abbrev pub thin : List ℕ → Bool
+thin [] = true
+thin (w ∷ ws) = leb w 8 && thin ws
+
+pub thin-narrow : (ws : List ℕ) → thin ws ≡ true → Narrow ws
+thin-narrow [] h = narrow-none
+thin-narrow (w ∷ ws) h = narrow-one (leb-true w 8 (left (leb w 8) (thin ws) h)) (thin-narrow ws (right (leb w 8) (thin ws) h))
+  where
+    left : (a b : Bool) → (a && b) ≡ true → a ≡ true
+    left true b e = refl
+    left false b e = e
+
+    right : (a b : Bool) → (a && b) ≡ true → b ≡ true
+    right true b e = e
+    right false b e = absurd (true≢false (sym e))
+
+pub narrow-append : {ws us : List ℕ} → Narrow ws → Narrow us → Narrow (ws ++ us)
+narrow-append narrow-none q = q
+narrow-append (narrow-one h p) q = narrow-one h (narrow-append p q)
+
+pub narrow-rows : (n : ℕ) {ws : List ℕ} → Narrow ws → Narrow (rows n ws)
+unfolding rows
+narrow-rows zero p = narrow-none
+narrow-rows (suc n) p = narrow-append p (narrow-rows n p)

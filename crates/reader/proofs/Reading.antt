@@ -13,8 +13,8 @@ use Rattle.basis.specs.Refuse.{firstOf, firstFrom}
 use Rattle.basis.specs.RefuseLaws.{clear, first-from, then-rows, answer-no, answer-yes}
 use Rattle.basis.specs.Room.{roomOf}
 use Rattle.layout.specs.Layout.{size, unpack, rows}
-use Rattle.layout.specs.LayoutLaws.{length-unpack, unpack-append, size-rows, length-rows}
-use Rattle.layout.specs.Ready.{Narrow, narrow-none, narrow-one, RowsAt}
+use Rattle.layout.specs.LayoutLaws.{thin-narrow, length-unpack, unpack-append, size-rows, length-rows}
+use Rattle.layout.specs.Ready.{Narrow, RowsAt}
 use Rattle.layout.specs.StoreLaws.{sets-after, sets-front}
 use Rattle.record.specs.declared.form.Version.{Version}
 use Rattle.record.specs.declared.head.Head.{Head}
@@ -27,7 +27,7 @@ use Rattle.record.specs.RecordLaws.{vertex-size, length-body, length-outline1, 
 
 -- ---- the values that follow the head
 vertex-narrow : Narrow vertexShape
-vertex-narrow = let e : 8 ≤ 8 = omega arith in narrow-one e (narrow-one e (narrow-one e narrow-none))
+vertex-narrow = thin-narrow vertexShape refl
 
 module _ {v : Version} {es : List ℕ} {n : ℕ} {h : Head} (w : Whole v es n h) where
   pub entries-few : h .slices * length es ≤ 448

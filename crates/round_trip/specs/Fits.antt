@@ -1,20 +1,20 @@
 -- Values that fit their fields, by the acceptance of a stitch.
 use Prim.Native.Nat.{ℕ, zero, suc, _+_, _*_, _^_, _≤_, _<_}
-use mathlib.Core.Bool.{Bool, true, false, _&&_}
+use mathlib.Core.Bool.{true, false}
 use mathlib.Core.Path.{_≡_, refl, ap, _∙_}
 use mathlib.Core.List.{List, [], _∷_, _++_, map}
 use native.Mathlib.Nat.{pow-le-pow-right}
 use native.Mathlib.Omega.{arith}
-use borrow.Author.Tests.{leb-true}
-use lib.Dec.{T, leb}
+use lib.Dec.{T}
 use lib.ListN.{length, getD, take, drop}
 use lib.Ieee.{Float, binary64, fits, nanBits, ofBits, lt, le, eq}
 use Rattle.basis.specs.All.{allOf}
 use Rattle.basis.specs.Choice.{by-test, clash, and-left, and-right}
 use Rattle.basis.specs.Number.{absF, within, allWithin, tolerable}
 use Rattle.layout.specs.Layout.{rows, infinity, numOf, bitsOf}
+use Rattle.layout.specs.LayoutLaws.{thin-narrow, narrow-append, narrow-rows}
 use Rattle.layout.specs.NumberLaws.{AllPlain, plain-none, plain-one, bits-below, bits-num, nan-read}
-use Rattle.layout.specs.Ready.{Narrow, narrow-none, narrow-one, Fitted, fit-none, fit-one}
+use Rattle.layout.specs.Ready.{Narrow, narrow-one, Fitted, fit-none, fit-one}
 use Rattle.record.specs.Form.{form1, vertexShape, bodyOf, column, mix}
 use Rattle.archive.specs.KeepLaws.{within-no-nan}
 
@@ -118,31 +118,11 @@ unfolding column
 below-column stride offset per zero b = below-none
 below-column stride offset per (suc n) b = below-append (below-take per (below-drop offset b)) (below-column stride offset per n (below-drop stride b))
 
-narrow-append : {ws us : List ℕ} → Narrow ws → Narrow us → Narrow (ws ++ us)
-narrow-append narrow-none q = q
-narrow-append (narrow-one h p) q = narrow-one h (narrow-append p q)
-
-narrow-rows : (n : ℕ) {ws : List ℕ} → Narrow ws → Narrow (rows n ws)
-unfolding rows
-narrow-rows zero p = narrow-none
-narrow-rows (suc n) p = narrow-append p (narrow-rows n p)
-
--- a shape's widths, by one computed test
-thin : List ℕ → Bool
-thin [] = true
-thin (w ∷ ws) = leb w 8 && thin ws
-
-thin-narrow : (ws : List ℕ) → thin ws ≡ true → Narrow ws
-unfolding thin
-thin-narrow [] h = narrow-none
-thin-narrow (w ∷ ws) h = narrow-one (leb-true w 8 (and-left (leb w 8) (thin ws) h)) (thin-narrow ws (and-right (leb w 8) (thin ws) h))
-
 pub head-narrow : Narrow (form1 .head)
-unfolding thin
 head-narrow = thin-narrow (form1 .head) refl
 
 pub body-narrow : (v n : ℕ) → Narrow (bodyOf (form1 .entry) v n)
-unfolding thin bodyOf
+unfolding bodyOf
 body-narrow v n = narrow-append (narrow-rows v (thin-narrow vertexShape refl)) (narrow-rows n (thin-narrow (form1 .entry) refl))
 
 -- ---- a pattern that is read as a number in range, or as a tolerance, is no NaN's

@@ -1,3 +1,4 @@
 pub mod Vault
 pub mod Ready
 pub mod VaultLaws
+pub mod VaultTheorems
