@@ -39,33 +39,61 @@ fn tally(counts: &mut [usize], entry: usize, holds: bool) {
     words::add(counts, 3);
 }
 
-// One case: how many words it takes, and 0 where it is not all there.
-fn replay(bytes: &[u8], at: usize, counts: &mut [usize]) -> usize {
-    let own = words::from(bytes, at);
-    let entry = words::at(own, 0);
-    let length = words::at(own, 1);
-    if length >= 8192 {
-        return 0;
+// The front of a list, to be written.
+fn front(buf: &mut [u8], n: usize) -> &mut [u8] {
+    if n > buf.len() {
+        return &mut buf[..0];
     }
-    if length + 2 > own.len() / 8 {
-        return 0;
+    &mut buf[0..n]
+}
+
+// Reads so many bytes into a list that is as long: yes where they were all there.
+fn filled(fd: i32, buf: &mut [u8]) -> bool {
+    let n = buf.len();
+    io::read_full(fd, buf) == n
+}
+
+// Reads so many words to the front of the buffer.
+fn read_words(fd: i32, buf: &mut [u8], n: usize) -> bool {
+    if n > buf.len() / 8 {
+        return false;
     }
-    tally(counts, entry, case::holds(entry, words::from(own, 2)));
-    length + 2
+    filled(fd, front(buf, 8 * n))
+}
+
+// One case: its entry and its length, then its words. Yes where it was all there.
+fn replay(fd: i32, buf: &mut [u8], counts: &mut [usize]) -> bool {
+    if !read_words(fd, buf, 2) {
+        return false;
+    }
+    let entry = words::at(buf, 0);
+    let n = words::at(buf, 1);
+    if !read_words(fd, buf, n) {
+        return false;
+    }
+    tally(counts, entry, case::holds(entry, buf));
+    true
 }
 
 // As many cases as the file's head says, and fewer where it breaks off.
-fn replay_all(bytes: &[u8], count: usize, counts: &mut [usize]) {
+fn replay_all(fd: i32, count: usize, buf: &mut [u8], counts: &mut [usize]) {
     let mut k: usize = 0;
-    let mut at: usize = 1;
     while k < count {
-        let taken = replay(bytes, at, counts);
-        if taken == 0 {
+        if !replay(fd, buf, counts) {
             break;
         }
-        at = std::num::wrapping_add_usize(at, taken);
         k += 1;
     }
+}
+
+// The whole file.
+fn replay_file(fd: i32, buf: &mut [u8], counts: &mut [usize]) {
+    if !read_words(fd, buf, 1) {
+        return;
+    }
+    let all = words::at(buf, 0);
+    words::put(counts, 5, all);
+    replay_all(fd, all, buf, counts);
 }
 
 fn main() {
@@ -74,12 +102,9 @@ fn main() {
         os::fail(b"vectors.bin");
         return;
     }
-    let mut bytes = [0u8; 262144];
-    let n = io::read_full(fd, &mut bytes);
-    libc::close(fd);
+    let mut buf = io::buffer();
     let mut counts = [0usize; 6];
-    let all = words::at(&bytes[..n], 0);
-    words::put(&mut counts, 5, all);
-    replay_all(&bytes[..n], all, &mut counts);
+    replay_file(fd, &mut buf, &mut counts);
+    libc::close(fd);
     show(&counts);
 }

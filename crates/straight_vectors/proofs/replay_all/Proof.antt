@@ -6,19 +6,16 @@ use Rattle.straight_vectors.proofs.replay_all.Statement.{statement}
 use Rattle.straight_vectors.proofs.replay_all.Tie as tie
 
 abbrev Inv-loop : tie.InvT-loop
-Inv-loop bytes count counts₀ k₀ at₀ counts k at = (length counts ≡ length counts₀) × (k ≤ count)
+Inv-loop fd count buf₀ counts₀ k₀ buf counts k = (length buf ≡ length buf₀) × (length counts ≡ length counts₀) × (k ≤ count)
 
 abbrev μ-loop : tie.MeasureT-loop
-μ-loop bytes count counts₀ k₀ at₀ counts k at = count - k
+μ-loop fd count buf₀ counts₀ k₀ buf counts k = count - k
 
 loop-holds : tie.Need-loop-holds Inv-loop μ-loop
 loop-holds c = search needs
 
 replay-requires : tie.Need-replay-requires Inv-loop μ-loop
 replay-requires c κs = search needs
-
-wrapping-add-usize-requires : tie.Need-wrapping-add-usize-requires Inv-loop μ-loop
-wrapping-add-usize-requires c κs = search needs
 
 add-k : tie.Need-add-k Inv-loop μ-loop
 add-k c = search needs
@@ -32,11 +29,17 @@ loop-again c = search needs
 same-length : tie.Need-same-length Inv-loop μ-loop
 same-length c = search needs
 
+same-length-2 : tie.Need-same-length-2 Inv-loop μ-loop
+same-length-2 c = search needs
+
 returns : tie.Need-returns Inv-loop μ-loop
 returns c = search needs
 
-same-length-2 : tie.Need-same-length-2 Inv-loop μ-loop
-same-length-2 c = search needs
+same-length-3 : tie.Need-same-length-3 Inv-loop μ-loop
+same-length-3 c = search needs
+
+same-length-4 : tie.Need-same-length-4 Inv-loop μ-loop
+same-length-4 c = search needs
 
 returns-2 : tie.Need-returns-2 Inv-loop μ-loop
 returns-2 c = search needs
@@ -49,11 +52,12 @@ replay-all-spec =
     μ-loop
     loop-holds
     replay-requires
-    wrapping-add-usize-requires
     add-k
     loop-less
     loop-again
     same-length
-    returns
     same-length-2
+    returns
+    same-length-3
+    same-length-4
     returns-2)
