@@ -21,6 +21,7 @@ mod tree {
     include!("theirs.rs");
 }
 
+use archive::{Point, StitchAnswer, Vertex, View};
 use ours::{CutRoom, Pair, Slices, StitchRoom};
 use shapes::Outlines;
 use std::hint::black_box;
@@ -69,6 +70,12 @@ impl Input {
             shared,
             order,
         }
+    }
+
+    /// Room for the slices of a prune, exactly as long as the need.
+    fn slice_room(&self, rooms: &[CutRoom; 2]) -> Slices {
+        let candidates = rooms[0].count + rooms[1].count;
+        Slices::room(candidates + 2 * self.pair.laps())
     }
 
     /// Room for one outline, with cuts, splits, candidates and inside answers in it.
@@ -175,13 +182,29 @@ fn candidates(families: &[Family]) {
 fn check_slices(input: &Input, rooms: &[CutRoom; 2], slices: &mut Slices) {
     let theirs = input.shared.slices(UNION);
     let answer = ours::prune(&input.pair, UNION, rooms, slices);
-    assert_eq!(answer.starts, theirs.starts);
+    let starts = answer.starts;
+    let starts = [
+        starts.pline2,
+        starts.pline1_overlapping,
+        starts.pline2_overlapping,
+    ];
+    assert_eq!(starts, theirs.starts);
     assert_eq!(answer.slices, theirs.count());
     assert_eq!(slices.slice_at[..4 * answer.slices], theirs.slice_at);
     assert_eq!(slices.slice[..6 * answer.slices], theirs.slice);
     let inside = [&rooms[0].inside[..], &rooms[1].inside[..]];
     let answered = scan::flat(&input.shared.prune_answered(UNION, inside));
     assert_eq!(answered.slice_at, theirs.slice_at);
+}
+
+/// Slicing and pruning of both outlines, the inside answers handed in.
+fn our_pruning(input: &Input, rooms: &mut [CutRoom; 2], slices: &mut Slices) {
+    for (outline, room) in rooms.iter_mut().enumerate() {
+        input
+            .shared
+            .our_candidates(black_box(&input.pair), outline, room);
+    }
+    done(ours::prune(&input.pair, UNION, rooms, slices));
 }
 
 fn prune(families: &[Family]) {
@@ -191,16 +214,10 @@ fn prune(families: &[Family]) {
             let rooms = || [input.room(0), input.room(1)];
             let (mut handed, mut whole, sliced) = (rooms(), rooms(), rooms());
             let inside = [&sliced[0].inside[..], &sliced[1].inside[..]];
-            let need = sliced[0].count + sliced[1].count + pair.lap_at.len() / 7 * 2;
-            let [mut to1, mut to2, mut to3] = [0; 3].map(|_| Slices::room(need));
+            let [mut to1, mut to2, mut to3] = [0; 3].map(|_| input.slice_room(&sliced));
             check_slices(input, &sliced, &mut to3);
             let times = measure(&mut [
-                &mut || {
-                    for outline in [0, 1] {
-                        shared.our_candidates(black_box(pair), outline, &mut handed[outline]);
-                    }
-                    done(ours::prune(pair, UNION, &handed, &mut to1));
-                },
+                &mut || our_pruning(input, &mut handed, &mut to1),
                 &mut || done(shared.prune_answered(UNION, inside)),
                 &mut || {
                     for outline in [0, 1] {
@@ -289,7 +306,7 @@ const JOBS: [(&str, MakeJob, usize); 7] = [
 ];
 
 /// The loops of the original that looks through a list must be ours to the last bit.
-fn check_loops(theirs: &scan::Loops, answer: &ours::StitchAnswer, room: &StitchRoom) {
+fn check_loops(theirs: &scan::Loops, answer: &StitchAnswer, room: &StitchRoom) {
     assert_eq!(answer.loops, theirs.len());
     let vertices = theirs.iter().flat_map(|lp| lp.pline.vertex_data.iter());
     let numbers: Vec<f64> = vertices.flat_map(|v| [v.x, v.y, v.bulge]).collect();
@@ -347,12 +364,19 @@ fn view_vertices() {
         let outline = shapes::star(size)[0].clone();
         let pline = scan::polyline(&outline);
         let view = PlineViewData::from_entire_pline(&pline);
-        let flat = ours::View {
+        let flat = View {
             start_index: view.start_index,
             end_index_offset: view.end_index_offset,
-            updated_start: [outline[0], outline[1], outline[2]],
+            updated_start: Vertex {
+                x: outline[0],
+                y: outline[1],
+                bulge: outline[2],
+            },
             updated_end_bulge: view.updated_end_bulge,
-            end_point: [view.end_point.x, view.end_point.y],
+            end_point: Point {
+                x: view.end_point.x,
+                y: view.end_point.y,
+            },
             inverted_direction: 0,
         };
         let times = measure(&mut [
@@ -363,32 +387,62 @@ fn view_vertices() {
     }
 }
 
-/// Makes one of our calls again and again for two seconds, for a profiler.
-fn repeat(stage: &str, input: &str, size: usize) {
+/// Makes one call so many times, or for two seconds, and then tells the shortest time of a call.
+fn call_again(calls: Option<usize>, call: &mut dyn FnMut()) {
+    if let Some(calls) = calls {
+        (0..calls).for_each(|_| call());
+        return;
+    }
+    let (start, mut shortest) = (Instant::now(), f64::INFINITY);
+    while start.elapsed() < Duration::from_secs(2) {
+        shortest = shortest.min(timing::batch(call, 100));
+    }
+    println!("{shortest:.1} ns");
+}
+
+/// Makes one call again and again, for a profiler.
+fn repeat(stage: &str, input: &str, size: usize, calls: Option<usize>) {
     let (make, outline): (fn(usize) -> Outlines, usize) = match input {
         "star" => (shapes::star, 0),
         "comb" => (shapes::comb, 1),
-        _ => panic!("the inputs are star and comb"),
+        "arcs" => (shapes::round_star, 0),
+        _ => panic!("the inputs are star, comb and arcs"),
     };
-    let start = Instant::now();
-    let until_late = |call: &mut dyn FnMut()| {
-        while start.elapsed() < Duration::from_secs(2) {
-            (0..100).for_each(|_| call());
-        }
-    };
-    if stage == "stitch" {
+    let many = |call: &mut dyn FnMut()| call_again(calls, call);
+    if stage.ends_with("stitch") {
         let job = pruned(make(size), UNION);
         let mut room = StitchRoom::new(&job.slices);
         let slices = &job.slices;
-        until_late(&mut || done(ours::stitch(&job.outlines, slices, 0, TOLERANCE, &mut room)));
+        let theirs = scan::Stitch::new(&job.outlines, slices, TOLERANCE);
+        match stage {
+            "stitch" => {
+                many(&mut || done(ours::stitch(&job.outlines, slices, 0, TOLERANCE, &mut room)));
+            }
+            "rust-stitch" => many(&mut || done(theirs.run(0))),
+            _ => panic!("there is no stage {stage}"),
+        }
         return;
     }
     let input = Input::new(make(size), size);
-    let mut room = input.room(outline);
+    let (pair, shared) = (&input.pair, &input.shared);
+    let mut rooms = [input.room(0), input.room(1)];
+    let inside = [rooms[0].inside.clone(), rooms[1].inside.clone()];
+    let mut slices = input.slice_room(&rooms);
+    let room = &mut rooms[outline];
     match stage {
-        "order" => until_late(&mut || ours::cut_order(&input.pair, outline, &mut room)),
-        "candidates" => until_late(&mut || ours::candidates(&input.pair, outline, &mut room)),
-        _ => panic!("the stages are order, candidates and stitch"),
+        "order" => many(&mut || ours::cut_order(pair, outline, room)),
+        "candidates" => many(&mut || ours::candidates(pair, outline, room)),
+        "splits" => many(&mut || shared.split_cuts(outline, room)),
+        "midpoints" => many(&mut || shared.use_midpoints(room)),
+        "slicing" => many(&mut || shared.our_candidates(pair, outline, room)),
+        "pruning" => many(&mut || our_pruning(&input, &mut rooms, &mut slices)),
+        "rust-order" => many(&mut || shared.cut_order(&input.order, outline)),
+        "rust-slicing" => many(&mut || done(shared.candidates(outline))),
+        "rust-pruning" => {
+            let inside = [&inside[0][..], &inside[1][..]];
+            many(&mut || done(shared.prune_answered(UNION, inside)));
+        }
+        _ => panic!("there is no stage {stage}"),
     }
 }
 
@@ -443,10 +497,14 @@ fn compare(to: &str) {
 fn main() {
     let arguments: Vec<String> = std::env::args().skip(1).collect();
     let arguments: Vec<&str> = arguments.iter().map(String::as_str).collect();
+    let number = |text: &str| text.parse().expect("a number");
     match arguments[..] {
-        ["repeat", stage, input, size] => repeat(stage, input, size.parse().expect("a size")),
+        ["repeat", stage, input, size] => repeat(stage, input, number(size), None),
+        ["repeat", stage, input, size, calls] => {
+            repeat(stage, input, number(size), Some(number(calls)));
+        }
         ["once"] => time_all(),
         [to] => compare(to),
-        _ => panic!("usage: bench FILE.svg, bench once, or bench repeat STAGE INPUT SIZE"),
+        _ => panic!("usage: bench FILE.svg, bench once, or bench repeat STAGE INPUT SIZE [CALLS]"),
     }
 }

@@ -169,35 +169,37 @@ impl Shared {
         slices
     }
 
-    /// The splits of the cuts, which stand in order in the room, by the crate's own function.
+    /// The splits of the cuts, which stand in order in the room, by the crate's own function: one a
+    /// cut, and one more a segment with several. Only what is read of them is written.
     pub fn split_cuts(&self, outline: usize, room: &mut CutRoom) {
         let vertices = &self.plines[outline].vertex_data[..];
-        let cuts = room.cut_at.chunks_exact(3).zip(room.cut.chunks_exact(2));
-        let mut cuts = cuts.zip(room.splits.chunks_exact_mut(9)).peekable();
-        let mut before = usize::MAX;
-        let mut running = vertices[0];
-        while let Some(((at, point), splits)) = cuts.next() {
-            let segment = at[0];
-            let (first, end) = (
-                vertices[segment],
-                vertices.get(segment + 1).unwrap_or(&vertices[0]),
-            );
-            let point = Vector2::new(point[0], point[1]);
-            let is_first = segment != before;
-            let is_last = cuts.peek().is_none_or(|((next, _), _)| next[0] != segment);
-            let from = if is_first { first } else { running };
-            let split = seg_split_at_point(from, *end, point, self.tolerance);
+        let (cut_at, _) = room.cut_at.as_chunks::<3>();
+        let (points, _) = room.cut.as_chunks::<2>();
+        let (splits, _) = room.splits.as_chunks_mut::<9>();
+        let count = cut_at.len();
+        let (points, splits) = (&points[..count], &mut splits[..count]);
+        let mut i = 0;
+        while i < count {
+            let segment = cut_at[i][0];
+            let start = vertices[segment];
+            let end = *vertices.get(segment + 1).unwrap_or(&vertices[0]);
+            let first = i;
+            let mut running = start;
+            while i < count && cut_at[i][0] == segment {
+                let point = Vector2::new(points[i][0], points[i][1]);
+                let split = seg_split_at_point(running, end, point, self.tolerance);
+                set_vertex(&mut splits[i], 0, split.updated_start);
+                set_vertex(&mut splits[i], 3, split.split_vertex);
+                running = split.split_vertex;
+                i += 1;
+            }
+            let last = i - 1;
             // At a segment's only cut the split of the whole segment is the same one.
-            let whole = if is_last && !is_first {
-                seg_split_at_point(first, *end, point, self.tolerance).split_vertex
-            } else {
-                split.split_vertex
-            };
-            let (a, b) = (split.updated_start, split.split_vertex);
-            let numbers = [a.x, a.y, a.bulge, b.x, b.y, b.bulge];
-            splits[..6].copy_from_slice(&numbers);
-            splits[6..].copy_from_slice(&[whole.x, whole.y, whole.bulge]);
-            (before, running) = (segment, split.split_vertex);
+            if last > first {
+                let point = Vector2::new(points[last][0], points[last][1]);
+                running = seg_split_at_point(start, end, point, self.tolerance).split_vertex;
+            }
+            set_vertex(&mut splits[last], 6, running);
         }
     }
 
@@ -205,6 +207,11 @@ impl Shared {
     pub fn our_candidates(&self, pair: &Pair, outline: usize, room: &mut CutRoom) {
         self.split_cuts(outline, room);
         candidates(pair, outline, room);
+        self.use_midpoints(room);
+    }
+
+    /// The midpoint of each candidate, by the crate's own function.
+    pub fn use_midpoints(&self, room: &CutRoom) {
         for n in room.probe[..6 * room.count].chunks_exact(6) {
             let _ = black_box(probe_midpoint(n));
         }
@@ -218,6 +225,12 @@ impl Shared {
             *inside = u8::from(other.winding_number(probe_midpoint(n)) != 0);
         }
     }
+}
+
+fn set_vertex(numbers: &mut [f64; 9], at: usize, v: PlineVertex) {
+    numbers[at] = v.x;
+    numbers[at + 1] = v.y;
+    numbers[at + 2] = v.bulge;
 }
 
 fn probe_midpoint(n: &[f64]) -> Vector2 {

@@ -33,7 +33,8 @@ impl Times {
     }
 }
 
-fn batch(side: &mut dyn FnMut(), calls: usize) -> f64 {
+/// Nanoseconds of a call, taken over so many.
+pub fn batch(side: &mut dyn FnMut(), calls: usize) -> f64 {
     let start = Instant::now();
     for _ in 0..calls {
         side();

@@ -19,8 +19,8 @@ pub fn queries() -> usize {
 }
 
 /// Stands for the trait of numbers that can be indexed. Of the original we know the name, and that
-/// it brings `total_cmp`.
-pub trait IndexableNum: Copy + PartialOrd + num_traits::Num {
+/// it brings `total_cmp`. That such a number becomes an f64 only the tree of the benchmark asks for.
+pub trait IndexableNum: Copy + PartialOrd + num_traits::Num + num_traits::ToPrimitive {
     fn total_cmp(&self, other: &Self) -> Ordering;
 }
 
@@ -86,7 +86,8 @@ impl<T: IndexableNum> AABB<T> {
         }
     }
 
-    fn touches(&self, other: &Self) -> bool {
+    /// Whether the two share a point, sides included.
+    pub fn touches(&self, other: &Self) -> bool {
         self.min_x <= other.max_x
             && self.max_x >= other.min_x
             && self.min_y <= other.max_y

@@ -9,8 +9,8 @@ use lib.ListN.{length, take, drop, length-append, length-map}
 use lib.Seq.{take-at, sets}
 use lib.Ieee.{Float}
 use Rattle.basis.specs.Number.{Tolerance}
-use Rattle.basis.specs.Refuse.{Row, row, firstOf}
-use Rattle.basis.specs.RefuseLaws.{Clear, clear, firstFrom, first-from, answer-no, answer-yes}
+use Rattle.basis.specs.Refuse.{Row, row, firstOf, firstFrom}
+use Rattle.basis.specs.RefuseLaws.{Clear, clear, first-from, answer-no, answer-yes}
 use Rattle.layout.specs.Layout.{size, pack, bitsOf}
 use Rattle.layout.specs.LayoutLaws.{length-pack}
 use Rattle.layout.specs.StoreLaws.{sets-front}

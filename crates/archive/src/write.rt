@@ -2,7 +2,7 @@
 ghost use mathlib.Core.Path.{_≡_};
 ghost use lib.ListN.{length};
 ghost use lib.Seq.{sets};
-ghost use Rattle.basis.specs.RefuseLaws.{firstFrom};
+ghost use Rattle.basis.specs.Refuse.{firstFrom};
 ghost use Rattle.run.specs.Stitch.{given};
 ghost use Rattle.record.specs.Form.{form1};
 ghost use Rattle.record.specs.Record.{recordOf};

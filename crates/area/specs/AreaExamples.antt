@@ -1,5 +1,5 @@
 -- Closed examples, computed.
-use mathlib.Core.Bool.{true, false}
+use mathlib.Core.Bool.{false}
 use mathlib.Core.Path.{_≡_, refl}
 use mathlib.Core.List.{[], _∷_}
 use lib.Ieee.{Float, fin, neg, lt, ofBits}

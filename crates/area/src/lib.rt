@@ -5,7 +5,7 @@ use basis::number;
 use basis::room;
 
 // A loop stays: its area, whatever its sign, is not less than the limit.
-pub fn is_kept(area: f64, limit: f64) -> bool
+fn is_kept(area: f64, limit: f64) -> bool
     ensures { λ r. ⌜ r ≡ isKept limit area ⌝ }
 {
     let size = number::magnitude(area);

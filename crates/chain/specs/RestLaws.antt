@@ -1,7 +1,7 @@
 -- A chain and the room around it: its last vertex, its numbers, and the rest of a room that is lent on.
 use Prim.Native.Nat.{ℕ, zero, suc, _+_, _-_, _*_, _≤_, _<_}
 use mathlib.Core.Path.{_≡_, refl, ap, _∙_}
-use mathlib.Core.List.{List, [], _∷_, _++_, append-assoc, append-nil, flatMap, reverse, reverse-cons}
+use mathlib.Core.List.{List, _∷_, _++_, append-assoc, append-nil, flatMap, reverse, reverse-cons}
 use native.Mathlib.Omega.{arith}
 use lib.ListN.{length, take, drop, length-drop, drop-of-length-le}
 use lib.Seq.{take-suc, take-at, drop-at, take-all, length-take-le}

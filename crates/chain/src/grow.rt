@@ -36,7 +36,7 @@ fn is_repeat(room: &[f64], n: usize, v: Vertex, t: Tolerance) -> bool
 }
 
 // Adds the vertex, or gives its bulge to the chain's last where the two agree in position. Says how many vertices the chain has now.
-pub fn add_or_replace_vertex(room: &mut [f64], n: usize, v: Vertex, t: Tolerance) -> usize
+pub(crate) fn add_or_replace_vertex(room: &mut [f64], n: usize, v: Vertex, t: Tolerance) -> usize
     requires { ⌜ OneMore (now room) n ⌝ }
     ensures { λ r. ⌜ Added t v n (now (room .entry)) r (now (room .exit)) ⌝ }
 {

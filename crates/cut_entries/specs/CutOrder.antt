@@ -10,8 +10,8 @@ use Rattle.basis.specs.Refuse.{Row, row, firstOf, answer}
 use Rattle.basis.specs.RefuseLaws.{Clear, clear, clear-left, clear-right, answer-no, answer-yes}
 use Rattle.cuts.specs.Cuts.{Given, given, cutCount}
 use Rattle.cuts.specs.Order.{Roomy, cutNumbers, cutPoints, Written}
-use Rattle.cut_entries.specs.declared.answer.CountAnswer.{CountAnswer}
-use Rattle.cut_entries.specs.Answers.{countRefused, counted}
+use Rattle.basis.specs.declared.answer.CountAnswer.{CountAnswer}
+use Rattle.basis.specs.Answers.{countRefused, counted}
 use Rattle.cut_entries.specs.CutRows.{tooMany, listRows, valueRows, indexRows, cutRoomFault}
 use Rattle.cut_entries.specs.CutRowsLaws.{few-told, room-ok, cuts-accepted}
 

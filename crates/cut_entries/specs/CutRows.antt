@@ -5,7 +5,7 @@ use mathlib.Core.List.{List, [], _∷_}
 use lib.ListN.{length}
 use lib.Dec.{ltb, eqb}
 use Rattle.basis.specs.Number.{allWithin, tolerable}
-use Rattle.basis.specs.Each.{placesBelow}
+use Rattle.basis.specs.Each.{placesBelow, placesAtMost}
 use Rattle.basis.specs.Refuse.{Row, row, lengthFault, sizeFault, sourceFault}
 use Rattle.cuts.specs.Cuts.{Given}
 
@@ -33,7 +33,7 @@ abbrev pub valueRows : Given → ℕ → List Row
 valueRows g source =
     row (sizeFault (g .vc)) 2
     ∷ row (sourceFault source) 3
-    ∷ row (not (placesBelow 7 4 2 (g .lapAt))) 3
+    ∷ row (not (placesAtMost 7 4 1 (g .lapAt))) 3
     ∷ row (not (tolerable (g .tolerance))) 4
     ∷ row (not (allWithin (g .outline))) 5
     ∷ row (not (allWithin (g .hit))) 5

@@ -1,7 +1,7 @@
 // The refusals that `mask_cut_order` and `mask_candidates` share, part by part of their table. Each part goes on from what was found so far.
 ghost use mathlib.Core.Path.{_≡_};
 ghost use Prim.Native.Nat.{_<_};
-ghost use Rattle.basis.specs.RefuseLaws.{firstFrom};
+ghost use Rattle.basis.specs.Refuse.{firstFrom};
 ghost use Rattle.cuts.specs.Cuts.{given};
 ghost use Rattle.cut_entries.specs.CutRows.{Which, Width, whichOf, tooMany, listRows, valueRows, indexRows, cutRoomFault, cutLengthFault};
 use basis::items;
@@ -85,7 +85,7 @@ pub fn value_refusal(
 {
     let r = refuse::or_else(r, refuse::bad_size(vc), 2);
     let r = refuse::or_else(r, refuse::bad_source(source), 3);
-    let r = refuse::or_else(r, !items::all_below(lap_at, 7, 4, 2), 3);
+    let r = refuse::or_else(r, !items::all_at_most(lap_at, 7, 4, 1), 3);
     let r = refuse::or_else(r, !number::in_tolerance(t), 4);
     let r = refuse::or_else(r, !number::all_in_range(outline), 5);
     let r = refuse::or_else(r, !number::all_in_range(hit), 5);

@@ -1,5 +1,3 @@
-// The two entries over cuts: what is refused, then one call down. The crate `mask` exports them.
-pub mod answer;
-pub mod candidates;
+// The entry over the order of the cuts, and the refusals of both entries over cuts. The crate `mask` exports them.
 pub mod faults;
 pub mod order;

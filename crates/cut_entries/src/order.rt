@@ -1,14 +1,14 @@
 ghost use mathlib.Core.Path.{_≡_};
 ghost use Rattle.cuts.specs.Cuts.{given};
 ghost use Rattle.cut_entries.specs.CutRows.{Which, whichOf};
-ghost use Rattle.basis.specs.RefuseLaws.{firstFrom};
+ghost use Rattle.basis.specs.Refuse.{firstFrom};
 ghost use Rattle.cut_entries.specs.CutOrder.{orderRoomRows, cutOrderRefusal, CutOrdered};
-use crate::answer;
-use crate::answer::CountAnswer;
 use crate::faults;
+use basis::answer;
+use basis::answer::CountAnswer;
 use basis::number::Tolerance;
 use basis::refuse;
-use cuts::write;
+use cut_order::write;
 
 // Number 9.
 fn room_refusal(r: u32, hits: usize, laps: usize, numbers: usize, points: usize) -> u32

@@ -5,10 +5,10 @@ use mathlib.Core.Path.{_≡_}
 use mathlib.Core.List.{List}
 use lib.ListN.{length, getD}
 use lib.Dec.{ltb, eqb}
-use lib.Ieee.{Float, nan}
+use lib.Ieee.{Float}
 use Rattle.basis.specs.Number.{Tolerance}
 use Rattle.outline.specs.declared.point.Point.{Point}
-use Rattle.outline.specs.Outline.{Whole, wrap}
+use Rattle.outline.specs.Outline.{Whole, wrap, pointAt}
 use Rattle.view.specs.Create.{nearVertex}
 use Rattle.cuts.specs.declared.cut.Case.{Case}
 use Rattle.cuts.specs.declared.cut.Cut.{Cut}
@@ -35,10 +35,6 @@ given o vc w ha h hn la l ln t =
 -- and of lists with what stands beside them
 abbrev pub givenIn : List Float → List ℕ → List Float → List ℕ → List Float → Case → Given
 givenIn o ha h la l s = given o (s .vc) (s .which) ha h (s .hits) la l (s .laps) (s .tolerance)
-
--- the point whose two numbers stand from place i on
-unfoldable pub pointAt : List Float → ℕ → Point
-pointAt s i = record { x = getD s i nan; y = getD s (i + 1) nan }
 
 -- "A basic intersection is a cut at its start index on that outline." Intersection i has two indexes, one for each outline, and two numbers.
 unfoldable pub hitCut : List ℕ → List Float → ℕ → ℕ → Cut

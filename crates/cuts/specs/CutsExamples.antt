@@ -5,10 +5,10 @@ use mathlib.Core.List.{List, [], _∷_, flatMap}
 use lib.Ieee.{Float, binary64, ofBits, lt, add, sub, mul}
 use Rattle.basis.specs.Number.{+0, one, agree, absF}
 use Rattle.outline.specs.Points.{pointsAgree}
-use Rattle.outline.specs.Outline.{vertexAt, outlineAt, wrap}
+use Rattle.outline.specs.Outline.{vertexAt, outlineAt, wrap, pointAt}
 use Rattle.view.specs.Create.{nearVertex}
-use Rattle.cuts.specs.Cuts.{Given, given, pointAt, hitCut, moved, markedEnd, lapCut, cutOf}
-use Rattle.cuts.specs.Order.{distSquared, distance, sooner, earlier, insert, ordered, orderOf, codeOf, cutNumbers, cutPoints}
+use Rattle.cuts.specs.Cuts.{Given, given, hitCut, moved, markedEnd, lapCut, cutOf}
+use Rattle.cuts.specs.Order.{distSquared, distance, sooner, earlier, insert, ordered, orderOf, cutNumbers, cutPoints}
 
 abbrev two : Float
 two = ofBits binary64 0x4000_0000_0000_0000
@@ -64,6 +64,6 @@ pub record Examples : Type 0 where
   pub opposingSecond : cutNumbers (lapOf 1) ≡ 0 ∷ 1 ∷ 0 ∷ 1 ∷ 0 ∷ 1 ∷ []
 
 pub examples : Examples
-unfolding cutNumbers cutPoints flatMap orderOf ordered insert earlier sooner cutOf hitCut lapCut moved markedEnd pointAt codeOf distance distSquared nearVertex pointsAgree agree absF vertexAt outlineAt wrap ofBits lt add sub mul
+unfolding cutNumbers cutPoints flatMap orderOf ordered insert earlier sooner cutOf hitCut lapCut moved markedEnd pointAt distance distSquared nearVertex pointsAgree agree absF vertexAt outlineAt wrap ofBits lt add sub mul
 examples =
     record { aNumbers = refl; aPoints = refl; bNumbers = refl; bPoints = refl; nearerFirst = refl; opposingFirst = refl; opposingSecond = refl }

@@ -1,15 +1,4 @@
 pub mod Cuts
 pub mod Order
-pub mod Sort
-pub mod Write
-pub mod Sorted
-pub mod CutLaws
-pub mod SortLaws
-pub mod KeyLaws
-pub mod WriteLaws
-pub mod CutsLaws
+pub mod ArrivalLaws
 pub mod CutsExamples
-pub mod PatternLaws
-pub mod DistanceLaws
-pub mod OrderTheorems
-pub mod KeyOrderLaws

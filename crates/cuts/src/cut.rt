@@ -1,9 +1,8 @@
 // The cuts of one outline, by their numbers of arrival. Outline 1 and outline 2 differ in `which`, 0 or 1, and in nothing else.
 ghost use mathlib.Core.Path.{_≡_};
 ghost use Prim.Native.Nat.{_+_, _<_};
-ghost use lib.ListN.{length};
-ghost use Rattle.view.specs.Validate.{Segment};
-ghost use Rattle.cuts.specs.Cuts.{givenIn, pointAt, hitCut, moved, markedEnd, lapCut, cutOf, Arrival, HitFit, LapFit};
+ghost use Rattle.outline.specs.Outline.{Segment};
+ghost use Rattle.cuts.specs.Cuts.{givenIn, hitCut, moved, markedEnd, lapCut, cutOf, Arrival, HitFit, LapFit};
 use basis::number::Tolerance;
 use outline::point::Point;
 use outline::read;
@@ -26,23 +25,12 @@ pub struct Case {
     pub tolerance: Tolerance,
 }
 
-// The point whose two numbers stand from place i on.
-fn point_at(s: &[f64], i: usize) -> Point
-    requires { ⌜ i + 1 < length (now s) ⌝ }
-    ensures { λ r. ⌜ r ≡ pointAt (now (s .entry)) i ⌝ }
-{
-    Point {
-        x: s[i],
-        y: s[i + 1],
-    }
-}
-
 // The cut of a basic intersection.
 fn hit_cut(hit_at: &[usize], hit: &[f64], which: usize, i: usize) -> Cut
     requires { ⌜ HitFit (now «hit_at») (now hit) which i ⌝ }
     ensures { λ r. ⌜ r ≡ hitCut (now («hit_at» .entry)) (now (hit .entry)) which i ⌝ }
 {
-    let p = point_at(hit, 2 * i);
+    let p = read::point_at(hit, 2 * i);
     Cut {
         segment: hit_at[2 * i + which],
         mark: false,
@@ -86,7 +74,7 @@ fn lap_cut(
     requires { ⌜ LapFit (now outline) vc which (now «lap_at») (now lap) j end ⌝ }
     ensures { λ r. ⌜ r ≡ lapCut (now (outline .entry)) vc which (now («lap_at» .entry)) (now (lap .entry)) t j end ⌝ }
 {
-    let p = point_at(lap, 6 * j + 4 * end);
+    let p = read::point_at(lap, 6 * j + 4 * end);
     let i = lap_at[7 * j + 2 * end + which];
     let segment = moved_index(outline, vc, i, p, t);
     let marked = marked_end(which, lap_at[7 * j + 4]);
@@ -98,7 +86,7 @@ fn lap_cut(
 }
 
 // The cut of an arrival number: intersections first, then start and end of each overlap in turn.
-pub(crate) fn cut_of(
+pub fn cut_of(
     outline: &[f64],
     hit_at: &[usize],
     hit: &[f64],

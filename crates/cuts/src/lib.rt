@@ -1,5 +1,2 @@
-// The cuts of one outline and their order.
+// The cuts of one outline: what each arrival is.
 pub mod cut;
-mod keys;
-mod order;
-pub mod write;

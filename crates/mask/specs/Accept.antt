@@ -13,37 +13,37 @@ use Rattle.basis.specs.Number.{+0, allWithin, tolerable}
 use Rattle.basis.specs.Each.{placesBelow, placesAtMost}
 use Rattle.basis.specs.EachLaws.{at-each, at-below, at-most}
 use Rattle.basis.specs.RoomLaws.{room-front}
-use Rattle.basis.specs.Refuse.{sizeFault}
+use Rattle.basis.specs.Refuse.{sizeFault, sourceFault}
 use Rattle.basis.specs.RefuseLaws.{Clear, clear, clear-left, clear-right, clear-both, none-clear, answer-zero, answer-accepted, ok-length, ok-size}
 use Rattle.outline.specs.Outline.{Whole}
 use Rattle.cuts.specs.Cuts as cuts
-use Rattle.cuts.specs.CutsLaws.{points-within}
+use Rattle.cut_order.specs.CutsLaws.{points-within}
 use Rattle.slices.specs.Slices.{candCount, candNumbers, candShapes, candidatesOf, numbersOf, shapeOf}
 use Rattle.slices.specs.Ready as slices
-use Rattle.slices.specs.ItemLaws.{flat-length, wide-numbers, wide-shapes}
-use Rattle.slices.specs.SlicesTheorems.{count-most, starts-below, offsets-most}
-use Rattle.slices.specs.RangeTheorems.{InRange, shapes-in}
-use Rattle.cut_entries.specs.declared.answer.CountAnswer.{CountAnswer}
-use Rattle.cut_entries.specs.Answers.{countRefused}
+use Rattle.candidates.specs.ItemLaws.{flat-length, wide-numbers, wide-shapes}
+use Rattle.candidates.specs.SlicesTheorems.{count-most, starts-below, offsets-most}
+use Rattle.candidates.specs.RangeTheorems.{InRange, shapes-in}
+use Rattle.basis.specs.declared.answer.CountAnswer.{CountAnswer}
+use Rattle.basis.specs.Answers.{countRefused}
 use Rattle.cut_entries.specs.CutRows.{listRows, valueRows, indexRows}
-use Rattle.cut_entries.specs.Candidates.{alongCuts, splitLengthRows, splitRows, candRoomRows, candOpenRows, guardRows, candidatesRefusal, candNumber, Sliced, Accepted}
-use Rattle.cut_entries.specs.CandidatesLaws.{along-sound, cand-accepted}
+use Rattle.candidate_entries.specs.Candidates.{alongCuts, splitLengthRows, splitRows, candRoomRows, candOpenRows, guardRows, candidatesRefusal, candNumber, Sliced, Accepted}
+use Rattle.candidate_entries.specs.CandidatesLaws.{along-sound, cand-accepted}
 use Rattle.select.specs.declared.class.Starts.{Starts}
 use Rattle.prune.specs.Prune.{Cands, Overlaps, needOf, prunedOf, sliceCounts, sliceNumbers}
 use Rattle.prune.specs.Ready as prune
 use Rattle.prune.specs.Ready.{OverlapsFit}
-use Rattle.prune.specs.PruneTheorems as PruneTheorems
-use Rattle.prune.specs.PruneTheorems.{slices-few, starts-ascend, stitch-accepts}
+use Rattle.pruned.specs.PruneTheorems as PruneTheorems
+use Rattle.pruned.specs.PruneTheorems.{slices-few, starts-ascend, stitch-accepts}
 use Rattle.prune_entries.specs.declared.answer.PruneAnswer.{PruneAnswer}
 use Rattle.prune_entries.specs.Answers.{pruneRefused, pruneGiven}
 use Rattle.prune_entries.specs.PruneRows.{codesKnown, tooMany, roomFault}
 use Rattle.prune_entries.specs.PruneEntry.{Called, candsRows, lapsRows, codesRows, numbersRows, startsRows, reachesRows, inputRows, lentRows, pruneRefusal, pruneNumber, PruneLeft}
 use Rattle.prune_entries.specs.PruneEntryLaws.{prune-accepted, prune-sound}
 use Rattle.run.specs.Stitch as stitch
-use Rattle.stitch.specs.Between.{Lists, Long}
+use Rattle.stitch.specs.Lent.{Lists, Long}
 use Rattle.run.specs.Demand3Theorems.{no-rounds-fault}
 use Rattle.stitch_entries.specs.StitchRows as rows
-use Rattle.stitch_entries.specs.StitchRows.{knownSource, sourcesKnown, codeRows, numberRows, startsInside, offsetsInside, startsFault, roomRows}
+use Rattle.stitch_entries.specs.StitchRows.{sourcesKnown, codeRows, numberRows, startsInside, offsetsInside, startsFault, roomRows}
 use Rattle.stitch_entries.specs.StitchEntry as stitched
 use Rattle.stitch_entries.specs.StitchEntry.{shapeRows, stitchRefusal, stitchNumber}
 
@@ -254,8 +254,8 @@ pub record StitchPass (g : stitch.Given) (x : Lists) : Type 0 where
   pub slices : SlicesMade (g .vc1) (g .vc2) (g .slices) (g .starts) (g .sliceAt) (g .slice)
   pub long : Long g x
 
-source-known : (s : ℕ) → (s ≡ 1) ⊎ (s ≡ 2) → knownSource s ≡ true
-unfolding knownSource
+source-known : (s : ℕ) → (s ≡ 1) ⊎ (s ≡ 2) → not (sourceFault s) ≡ true
+unfolding sourceFault
 source-known s (inl e) = rw e
 source-known s (inr e) = rw e
 

@@ -3,7 +3,6 @@ use Prim.Native.Nat.{ℕ, _≤_}
 use mathlib.Core.Path.{_≡_}
 use mathlib.Core.List.{List, _++_}
 use lib.Dec.{T}
-use lib.ListN.{length}
 use lib.Ieee.{Float}
 use Rattle.basis.specs.Number.{Tolerance}
 use Rattle.basis.specs.Refuse.{Row, firstOf}
@@ -17,16 +16,16 @@ use Rattle.view_entries.specs.ViewVertex.{viewVertexRows, viewVertexRefusal}
 use Rattle.view_entries.specs.CreateEntry.{createRows, createRefusal}
 use Rattle.view_entries.specs.SingleEntry.{singleRows, singleRefusal}
 use Rattle.view_entries.specs.EntireEntry.{entireRows, entireRefusal}
-use Rattle.view_entries.specs.ValidateEntry.{validateRows, validateRefusal}
+use Rattle.verdict_entries.specs.ValidateEntry.{validateRows, validateRefusal}
 use Rattle.cuts.specs.Cuts as cuts
 use Rattle.cut_entries.specs.CutOrder.{cutOrderRows, cutOrderRefusal}
-use Rattle.cut_entries.specs.Candidates.{candOpenRows, guardRows, candidatesRefusal}
+use Rattle.candidate_entries.specs.Candidates.{candOpenRows, guardRows, candidatesRefusal}
 use Rattle.prune_entries.specs.PruneEntry.{Called, inputRows, lentRows, pruneRefusal}
 use Rattle.run.specs.Stitch as stitch
 use Rattle.stitch_entries.specs.StitchRows.{roomRows}
 use Rattle.stitch_entries.specs.StitchEntry as stitched
 use Rattle.stitch_entries.specs.StitchEntry.{shapeRows, stitchRefusal}
-use Rattle.stitch_entries.specs.AreaEntry.{areaRows, areaRefusal}
+use Rattle.area_entries.specs.AreaEntry.{areaRows, areaRefusal}
 
 -- a number and the table that it was looked up in
 pub record Lowest (rows : List Row) (number : ℕ) : Type 0 where

@@ -12,25 +12,25 @@ use Rattle.view_entries.specs.declared.input.View.{View}
 use Rattle.view_entries.specs.declared.input.Split.{Split}
 use Rattle.view_entries.specs.declared.answer.VertexAnswer.{VertexAnswer}
 use Rattle.view_entries.specs.declared.answer.ViewAnswer.{ViewAnswer}
-use Rattle.view_entries.specs.declared.answer.VerdictAnswer.{VerdictAnswer}
+use Rattle.verdict_entries.specs.declared.answer.VerdictAnswer.{VerdictAnswer}
 use Rattle.view_entries.specs.ViewVertex.{viewVertexAnswer}
 use Rattle.view_entries.specs.CreateEntry.{createAnswer}
 use Rattle.view_entries.specs.SingleEntry.{singleAnswer}
 use Rattle.view_entries.specs.EntireEntry.{entireAnswer}
-use Rattle.view_entries.specs.ValidateEntry.{validateAnswer}
+use Rattle.verdict_entries.specs.ValidateEntry.{validateAnswer}
 use Rattle.cuts.specs.Cuts as cuts
 use Rattle.slices.specs.Ready as slices
-use Rattle.cut_entries.specs.declared.answer.CountAnswer.{CountAnswer}
+use Rattle.basis.specs.declared.answer.CountAnswer.{CountAnswer}
 use Rattle.cut_entries.specs.CutOrder.{CutOrdered}
-use Rattle.cut_entries.specs.Candidates.{Sliced}
+use Rattle.candidate_entries.specs.Candidates.{Sliced}
 use Rattle.prune.specs.Ready as prune
 use Rattle.prune_entries.specs.declared.answer.PruneAnswer.{PruneAnswer}
 use Rattle.prune_entries.specs.PruneEntry.{Called, PruneLeft}
 use Rattle.run.specs.Stitch as stitch
-use Rattle.stitch.specs.Between.{Lists}
+use Rattle.stitch.specs.Lent.{Lists}
 use Rattle.stitch_entries.specs.declared.answer.StitchAnswer.{StitchAnswer}
 use Rattle.stitch_entries.specs.StitchEntry.{StitchLeft}
-use Rattle.stitch_entries.specs.AreaEntry.{AreaLeft}
+use Rattle.area_entries.specs.AreaEntry.{AreaLeft}
 
 pub vertex-one : (o : List Float) (vc : ℕ) (v : View) (k : ℕ) (r s : VertexAnswer) → r ≡ viewVertexAnswer o vc v k → s ≡ viewVertexAnswer o vc v k → r ≡ s
 vertex-one o vc v k r s e f = one-answer r s (viewVertexAnswer o vc v k) e f

@@ -4,20 +4,18 @@ use Prim.Native.Nat.{ℕ, _+_, _*_, _≤_, _<_}
 use mathlib.Core.Bool.{true}
 use mathlib.Core.Path.{_≡_, sym, ap, subst}
 use mathlib.Core.List.{List}
-use native.Mathlib.Omega.{arith}
 use lib.Dec.{eqb}
 use lib.ListN.{length, take}
 use lib.Ieee.{Float}
 use borrow.Author.Tests.{not-false}
 use Rattle.basis.specs.Each.{placesBelow, placesAtMost}
-use Rattle.basis.specs.EachLaws.{below-at, at-most}
 use Rattle.basis.specs.RefuseLaws.{answer-accepted}
 use Rattle.cuts.specs.Cuts as cuts
 use Rattle.slices.specs.Ready as slices
-use Rattle.cut_entries.specs.declared.answer.CountAnswer.{CountAnswer}
+use Rattle.basis.specs.declared.answer.CountAnswer.{CountAnswer}
 use Rattle.cut_entries.specs.CutRows.{whichOf}
 use Rattle.cut_entries.specs.CutRowsLaws.{which-lt, cuts-ready}
-use Rattle.cut_entries.specs.Candidates.{Sliced}
+use Rattle.candidate_entries.specs.Candidates.{Sliced}
 use Rattle.prune.specs.Prune.{Cands, Given, cands, overlaps, given, needOf}
 use Rattle.prune.specs.Ready as prune
 use Rattle.prune_entries.specs.declared.answer.PruneAnswer.{PruneAnswer}
@@ -25,7 +23,7 @@ use Rattle.prune_entries.specs.PruneRows.{codesKnown}
 use Rattle.prune_entries.specs.Answers.{pruneRefused}
 use Rattle.prune_entries.specs.PruneEntry.{Called, called, pruneNumber, PruneLeft}
 use Rattle.run.specs.Stitch as stitch
-use Rattle.stitch.specs.Between.{Lists, Long}
+use Rattle.stitch.specs.Lent.{Lists, Long}
 use Rattle.stitch_entries.specs.declared.answer.StitchAnswer.{StitchAnswer}
 use Rattle.stitch_entries.specs.Answers.{stitchRefused}
 use Rattle.stitch_entries.specs.StitchEntry.{stitchNumber, StitchLeft}
@@ -97,11 +95,9 @@ module _ (one : Made 1) (two : Made 2) (laps : Laps one two) where
       let q = passed two in
       let r = ready-of one in
       let sevens = r .lapSevens in
-      let codes : placesBelow 7 4 2 (one .handed .lapAt) ≡ true = not-false _ (p .values .1 .1 .0) in
       record {
         fit = record { few = r .fewLaps; at = sevens; shape = r .lapSixes };
-        codes = at-most 7 4 (one .handed .lapAt) (one .handed .laps) 1 (omega arith) sevens
-            (λ i h. let b = below-at 7 4 (one .handed .lapAt) (one .handed .laps) 2 (omega arith) sevens codes i h in omega arith);
+        codes = not-false _ (p .values .1 .1 .0);
         starts1 = index-row one (λ n. n) 0 (one .which) (not-false _ (p .indexes .1 .0));
         starts2 = of-first 1 (index-row two (λ n. n) 1 (two .which) (not-false _ (q .indexes .1 .0)));
         ends1 = index-row one (λ n. 2 + n) 0 (one .which) (not-false _ (p .indexes .1 .1 .0));

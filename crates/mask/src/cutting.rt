@@ -3,8 +3,8 @@ ghost use Rattle.cuts.specs.Cuts.{given};
 ghost use Rattle.slices.specs.Ready.{rooms};
 ghost use Rattle.cut_entries.specs.CutRows.{whichOf};
 ghost use Rattle.cut_entries.specs.CutOrder.{CutOrdered};
-ghost use Rattle.cut_entries.specs.Candidates.{Sliced};
-use cut_entries::answer::CountAnswer;
+ghost use Rattle.candidate_entries.specs.Candidates.{Sliced};
+use basis::answer::CountAnswer;
 
 // The cuts of the outline that the source names, in their order: segment, overlap mark, number of arrival and point of each.
 #[no_mangle]
@@ -60,7 +60,7 @@ pub extern "C" fn mask_candidates(
 ) -> CountAnswer
     ensures { λ r. ⌜ Sliced (given (now (outline .entry)) vc (whichOf source) (now («hit_at» .entry)) (now (hit .entry)) hits (now («lap_at» .entry)) (now (lap .entry)) laps tolerance) source (now (splits .entry)) (rooms (now («cand_at» .entry)) (now (cand .entry)) (now (probe .entry))) r (rooms (now («cand_at» .exit)) (now (cand .exit)) (now (probe .exit))) ⌝ }
 {
-    cut_entries::candidates::entry(
+    candidate_entries::slicing::entry(
         outline,
         vc,
         source,

@@ -1,9 +1,9 @@
 // The stitch and the area pass.
 ghost use Rattle.run.specs.Stitch.{given};
-ghost use Rattle.stitch.specs.Between.{lists};
+ghost use Rattle.stitch.specs.Lent.{lists};
 ghost use Rattle.stitch_entries.specs.StitchEntry.{StitchLeft};
-ghost use Rattle.stitch_entries.specs.AreaEntry.{AreaLeft};
-use cut_entries::answer::CountAnswer;
+ghost use Rattle.area_entries.specs.AreaEntry.{AreaLeft};
+use basis::answer::CountAnswer;
 use stitch_entries::answer::StitchAnswer;
 
 // The slices stitched into closed loops.
@@ -60,5 +60,5 @@ pub extern "C" fn mask_area_pass(
 ) -> CountAnswer
     ensures { λ r. ⌜ AreaLeft (now (areas .entry)) loops limit (now (kept .entry)) r (now (kept .exit)) ⌝ }
 {
-    stitch_entries::areas::entry(areas, loops, limit, kept)
+    area_entries::areas::entry(areas, loops, limit, kept)
 }

@@ -5,10 +5,10 @@ ghost use Rattle.view_entries.specs.ViewVertex.{viewVertexAnswer};
 ghost use Rattle.view_entries.specs.CreateEntry.{createAnswer};
 ghost use Rattle.view_entries.specs.SingleEntry.{singleAnswer};
 ghost use Rattle.view_entries.specs.EntireEntry.{entireAnswer};
-ghost use Rattle.view_entries.specs.ValidateEntry.{validateAnswer};
+ghost use Rattle.verdict_entries.specs.ValidateEntry.{validateAnswer};
 use outline::point::Point;
 use outline::point::Vertex;
-use view_entries::answer::VerdictAnswer;
+use verdict_entries::answer::VerdictAnswer;
 use view_entries::answer::VertexAnswer;
 use view_entries::answer::ViewAnswer;
 use view_entries::input::Split;
@@ -96,5 +96,5 @@ pub extern "C" fn mask_validate_for_source(
 ) -> VerdictAnswer
     ensures { λ r. ⌜ r ≡ validateAnswer (now (outline .entry)) vc view «start_on_segment» «end_on_segment» ⌝ }
 {
-    view_entries::validate::entry(outline, vc, view, start_on_segment, end_on_segment)
+    verdict_entries::validate::entry(outline, vc, view, start_on_segment, end_on_segment)
 }

@@ -4,11 +4,16 @@ use mathlib.Core.Path.{_≡_}
 use mathlib.Core.List.{List}
 use lib.ListN.{length, getD}
 use lib.Ieee.{Float, nan}
+use Rattle.outline.specs.declared.point.Point.{Point}
 use Rattle.outline.specs.declared.point.Vertex.{Vertex}
 
 -- the vertex whose three numbers stand at place i
 unfoldable pub vertexAt : List Float → ℕ → Vertex
 vertexAt o i = record { x = getD o (3 * i) nan; y = getD o (3 * i + 1) nan; bulge = getD o (3 * i + 2) nan }
+
+-- the point whose two numbers stand from place i on
+unfoldable pub pointAt : List Float → ℕ → Point
+pointAt s i = record { x = getD s i nan; y = getD s (i + 1) nan }
 
 -- "Indexes wrap by the vertex count vc."
 unfoldable pub wrap : ℕ → ℕ → ℕ
@@ -30,7 +35,20 @@ pub record Whole (o : List Float) (vc : ℕ) : Type 0 where
 pub record Triple (o : List Float) (i : ℕ) : Type 0 where
   pub inside : 3 * i + 2 < length o
 
--- an index that one wrap brings into the outline: below twice the vertex count
+-- two numbers from a place on
+pub record Two (s : List Float) (i : ℕ) : Type 0 where
+  pub inside : i + 1 < length s
+
+-- an index that one wrap brings below the vertex count: it is below twice that count
+pub record Turn (vc i : ℕ) : Type 0 where
+  pub twice : i < 2 * vc
+
+-- such an index into an outline
 pub record Near (o : List Float) (vc i : ℕ) : Type 0 where
   pub whole : Whole o vc
-  pub turn : i < 2 * vc
+  pub turn : Turn vc i
+
+-- a segment's number
+pub record Segment (o : List Float) (vc i : ℕ) : Type 0 where
+  pub whole : Whole o vc
+  pub inside : i < vc

@@ -1,13 +1,12 @@
 -- Laws of wrapping and reading.
-use Prim.Native.Nat.{ℕ, _+_, _-_, _*_, _%_, _≤_, _<_}
-use mathlib.Core.Path.{_≡_, refl, sym, ap, _∙_}
+use Prim.Native.Nat.{ℕ, _-_, _*_, _≤_, _<_}
+use mathlib.Core.Path.{_≡_, ap, _∙_}
 use mathlib.Core.List.{List}
 use native.Mathlib.Nat.{mod-lt, mod-eq-of-lt, mod-eq-sub-mod}
 use native.Mathlib.Omega.{arith}
-use lib.ListN.{length}
 use lib.Ieee.{Float}
 use Rattle.outline.specs.declared.point.Vertex.{Vertex}
-use Rattle.outline.specs.Outline.{Whole, Triple, Near, vertexAt, wrap, outlineAt}
+use Rattle.outline.specs.Outline.{Triple, Near, vertexAt, wrap, outlineAt}
 
 pub wrap-lt : (vc i : ℕ) → 0 < vc → wrap vc i < vc
 unfolding wrap

@@ -1,15 +1,26 @@
 // Reading an outline: three numbers a vertex, its indexes wrapped by the vertex count.
 ghost use mathlib.Core.Path.{_≡_};
-ghost use Prim.Native.Nat.{_*_, _<_};
-ghost use Rattle.outline.specs.Outline.{Triple, Near, wrap, vertexAt, outlineAt};
+ghost use Rattle.outline.specs.Outline.{Triple, Turn, Near, wrap, vertexAt, outlineAt, pointAt, Two};
+use crate::point::Point;
 use crate::point::Vertex;
 
 // An index below twice the vertex count, wrapped by it. Every wrapped index of the library comes from here.
 pub fn wrapped(i: usize, vc: usize) -> usize
-    requires { ⌜ i < 2 * vc ⌝ }
+    requires { ⌜ Turn vc i ⌝ }
     ensures { λ r. ⌜ r ≡ wrap vc i ⌝ }
 {
     i % vc
+}
+
+// The point whose two numbers stand from place i on.
+pub fn point_at(s: &[f64], i: usize) -> Point
+    requires { ⌜ Two (now s) i ⌝ }
+    ensures { λ r. ⌜ r ≡ pointAt (now (s .entry)) i ⌝ }
+{
+    Point {
+        x: s[i],
+        y: s[i + 1],
+    }
 }
 
 // The vertex at an index that the outline has.

@@ -1,6 +1,5 @@
 pub mod Prune
 pub mod Ready
+pub mod Sound
 pub mod PutLaws
-pub mod WriteLaws
-pub mod PruneTheorems
 pub mod PruneExamples

@@ -9,8 +9,8 @@ use Rattle.prune.specs.declared.mode.Wanted.{Wanted}
 use Rattle.prune.specs.declared.mode.Part.{Part}
 use Rattle.prune.specs.declared.mode.Parts.{Parts}
 use Rattle.prune.specs.declared.put.Head.{Head}
-use Rattle.prune.specs.declared.write.Ends.{Ends}
-use Rattle.prune.specs.declared.write.Pruned.{Pruned}
+use Rattle.prune.specs.declared.counts.Ends.{Ends}
+use Rattle.prune.specs.declared.counts.Pruned.{Pruned}
 
 -- ---- what is there
 

@@ -6,7 +6,7 @@ use mathlib.Core.List.{List, [], _∷_, flatMap}
 use lib.Ieee.{Float, fin}
 use lib.IntN.{pos}
 use Rattle.basis.specs.Number.{+0}
-use Rattle.prune.specs.declared.write.Pruned.{Pruned}
+use Rattle.prune.specs.declared.counts.Pruned.{Pruned}
 use Rattle.prune.specs.Prune.{Cands, Given, given, cands, overlaps, candHead, lapHead, lapInverted, keptTo, lapsTo, wantedOf, turnedOf, firstPart, secondPart, partsOf, slicesOf, prunedAt, prunedOf, sliceCounts, sliceNumbers}
 
 abbrev whole : ℕ → Float

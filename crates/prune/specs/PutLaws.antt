@@ -5,13 +5,13 @@ use mathlib.Core.List.{List, [], _∷_, _++_, flatMap}
 use native.Mathlib.Nat.{add-zero, add-suc, suc-add, mul-add}
 use native.Mathlib.Numerals.{towards-suc}
 use native.Mathlib.Omega.{arith}
-use lib.ListN.{length, getD, set, length-append}
+use lib.ListN.{length, set, length-append}
 use lib.Seq.{sets, length-sets}
-use lib.Ieee.{Float, nan}
+use lib.Ieee.{Float}
 use Rattle.basis.specs.FlatLaws.{flat-append, flat-length}
 use Rattle.prune.specs.declared.put.Head.{Head}
 use Rattle.prune.specs.Prune.{Slice, sliceOf, headNumbers, countsOf, shapeOf}
-use Rattle.prune.specs.Ready.{Rooms, CopyFit, Placed}
+use Rattle.prune.specs.Ready.{Rooms, CopyFit, Placed, threeAt, sixAt}
 
 -- ---- runs of stores
 
@@ -21,13 +21,6 @@ sets-append l i [] ys = rw add-zero
 sets-append {A} l i (x ∷ xs) ys =
     ap (λ (k : ℕ). sets (sets (set l i x) (suc i) xs) k ys) (add-suc i (length xs) ∙ sym (suc-add i (length xs)))
     ∙ sets-append (set l i x) (suc i) xs ys
-
--- three numbers from place i on; the six of item k
-abbrev pub threeAt : List Float → ℕ → List Float
-threeAt l i = getD l i nan ∷ getD l (i + 1) nan ∷ getD l (i + 2) nan ∷ []
-
-unfoldable pub sixAt : List Float → ℕ → List Float
-sixAt l k = threeAt l (6 * k) ++ threeAt l (6 * k + 3)
 
 pub six-put : (from l l₁ l₂ : List Float) (k n : ℕ) → l₁ ≡ sets l (6 * n) (threeAt from (6 * k)) → l₂ ≡ sets l₁ (6 * n + 3) (threeAt from (6 * k + 3))
     → l₂ ≡ sets l (6 * n) (sixAt from k)

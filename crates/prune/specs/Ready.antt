@@ -2,15 +2,15 @@
 use Prim.Native.Nat.{ℕ, _+_, _*_, _≤_, _<_}
 use mathlib.Core.Path.{_≡_}
 use mathlib.Core.Bool.{true, false}
-use mathlib.Core.List.{List, _++_, flatMap}
-use lib.ListN.{length}
+use mathlib.Core.List.{List, [], _∷_, _++_, flatMap}
+use lib.ListN.{length, getD}
 use lib.Seq.{sets}
-use lib.Ieee.{Float}
+use lib.Ieee.{Float, nan}
 use Rattle.basis.specs.Number.{+0}
 use Rattle.basis.specs.Room.{roomOf, cleared}
 use Rattle.prune.specs.declared.mode.Part.{Part}
-use Rattle.prune.specs.declared.write.Ends.{Ends}
-use Rattle.prune.specs.declared.write.Pruned.{Pruned}
+use Rattle.prune.specs.declared.counts.Ends.{Ends}
+use Rattle.prune.specs.declared.counts.Pruned.{Pruned}
 use Rattle.prune.specs.Prune.{Cands, Overlaps, Given, Slice, countsOf, shapeOf, keptTo, lapsTo, sliceCounts, sliceNumbers, needOf, prunedAt, prunedOf}
 
 -- the lists of an outline's candidates fit their count
@@ -54,6 +54,13 @@ pub record Written (g : Given) (l : Rooms) (r : Pruned) (l′ : Rooms) : Type 0 
   pub shape : l′ .shape ≡ roomOf +0 6 (needOf g) (sliceNumbers g) (l .shape)
 
 -- ---- writing
+
+-- three numbers from place i on; the six of item k
+abbrev pub threeAt : List Float → ℕ → List Float
+threeAt l i = getD l i nan ∷ getD l (i + 1) nan ∷ getD l (i + 2) nan ∷ []
+
+unfoldable pub sixAt : List Float → ℕ → List Float
+sixAt l k = threeAt l (6 * k) ++ threeAt l (6 * k + 3)
 
 -- these slices were written from number m up to r, and nothing else
 pub record Placed (s : List Slice) (l : Rooms) (m r : ℕ) (l′ : Rooms) : Type 0 where

@@ -1,4 +1,4 @@
 // Which candidates stay as slices, in which order and direction, with the overlaps behind them.
+pub mod counts;
 pub mod mode;
 pub mod put;
-pub mod write;

@@ -92,7 +92,7 @@ fn second_part(w: Wanted) -> Part
 }
 
 // How the candidates of both outlines become slices.
-pub(crate) fn parts_of(mode: u32, opposing: bool) -> Parts
+pub fn parts_of(mode: u32, opposing: bool) -> Parts
     ensures { λ r. ⌜ r ≡ partsOf mode opposing ⌝ }
 {
     let w = wanted_of(mode);

@@ -4,9 +4,8 @@ ghost use mathlib.Core.List.{[], _∷_};
 ghost use Prim.Native.Nat.{_+_, _*_};
 ghost use lib.Seq.{sets};
 ghost use Rattle.prune.specs.Prune.{headNumbers, sliceOf, candHead, lapInverted, lapHead};
-ghost use Rattle.prune.specs.PutLaws.{threeAt, sixAt};
 ghost use Rattle.basis.specs.Room.{RoomFor};
-ghost use Rattle.prune.specs.Ready.{CopyFit, CandFit, LapFit, rooms, PutFit, Placed};
+ghost use Rattle.prune.specs.Ready.{CopyFit, CandFit, LapFit, rooms, PutFit, Placed, threeAt, sixAt};
 use crate::mode::Part;
 
 // The counts of a slice.
@@ -18,7 +17,7 @@ pub struct Head {
 }
 
 // Those of candidate number k.
-pub(crate) fn cand_head(cand_at: &[usize], part: Part, k: usize) -> Head
+pub fn cand_head(cand_at: &[usize], part: Part, k: usize) -> Head
     requires { ⌜ CandFit (now «cand_at») k ⌝ }
     ensures { λ r. ⌜ r ≡ candHead (now («cand_at» .entry)) part k ⌝ }
 {
@@ -39,7 +38,7 @@ fn lap_inverted(lap_at: &[usize], first: bool, j: usize) -> usize
 }
 
 // Those of overlap number j, for outline 1 or for outline 2. Its view is of outline 2 in both.
-pub(crate) fn lap_head(lap_at: &[usize], first: bool, j: usize) -> Head
+pub fn lap_head(lap_at: &[usize], first: bool, j: usize) -> Head
     requires { ⌜ LapFit (now «lap_at») j ⌝ }
     ensures { λ r. ⌜ r ≡ lapHead (now («lap_at» .entry)) first j ⌝ }
 {
@@ -84,7 +83,7 @@ fn copy_six(from: &[f64], k: usize, room: &mut [f64], n: usize)
 }
 
 // Writes the slice with these counts and the six numbers of item k behind the n that stand there.
-pub(crate) fn put_slice(
+pub fn put_slice(
     h: Head,
     from: &[f64],
     k: usize,

@@ -1,6 +1,6 @@
 -- The flat answer of the entry.
 use Prim.Native.Nat.{ℕ}
-use Rattle.prune.specs.declared.write.Pruned.{Pruned}
+use Rattle.prune.specs.declared.counts.Pruned.{Pruned}
 use Rattle.prune_entries.specs.declared.answer.PruneAnswer.{PruneAnswer}
 
 -- "A refusal returns its number and zero counts"

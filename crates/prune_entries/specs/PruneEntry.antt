@@ -8,7 +8,7 @@ use Rattle.basis.specs.Room.{roomOf}
 use Rattle.basis.specs.Refuse.{Row, firstOf, answer}
 use Rattle.prune.specs.Prune.{Cands, Given, needOf, prunedOf, sliceCounts, sliceNumbers}
 use Rattle.prune.specs.Ready.{Rooms}
-use Rattle.prune.specs.PruneTheorems.{CandsSound, OverlapsSound}
+use Rattle.prune.specs.Sound.{CandsSound, OverlapsSound}
 use Rattle.prune_entries.specs.declared.answer.PruneAnswer.{PruneAnswer}
 use Rattle.prune_entries.specs.Answers.{pruneRefused, pruneGiven}
 use Rattle.prune_entries.specs.PruneRows.{candListRows, lapListRows, codeRows, numberRows, startRows, reachRows, roomRows}

@@ -5,11 +5,12 @@ use mathlib.Core.List.{_++_}
 use native.Mathlib.Omega.{arith}
 use lib.ListN.{length}
 use borrow.Author.Tests.{ltb-false, not-false}
-use Rattle.basis.specs.RefuseLaws.{Clear, clear, clear-left, clear-right, firstFrom, first-from, then-rows, length-ok, answer-no, answer-yes}
-use Rattle.prune.specs.declared.write.Pruned.{Pruned}
+use Rattle.basis.specs.Refuse.{firstFrom}
+use Rattle.basis.specs.RefuseLaws.{Clear, clear, clear-left, clear-right, first-from, then-rows, length-ok, answer-no, answer-yes}
+use Rattle.prune.specs.declared.counts.Pruned.{Pruned}
 use Rattle.prune.specs.Prune.{Cands}
 use Rattle.prune.specs.Ready.{CandsFit, OverlapsFit, Rooms, Ready, Written}
-use Rattle.prune.specs.PruneTheorems.{cands-sound, overlaps-sound}
+use Rattle.pruned.specs.PruneTheorems.{cands-sound, overlaps-sound}
 use Rattle.prune_entries.specs.declared.answer.PruneAnswer.{PruneAnswer}
 use Rattle.prune_entries.specs.Answers.{pruneRefused, pruneGiven}
 use Rattle.prune_entries.specs.PruneRowsLaws.{few-cands, few-laps, room-ok}

@@ -1,7 +1,7 @@
 // What the entry answers: how many slices there are and where their classes begin, by value.
 ghost use mathlib.Core.Path.{_≡_};
 ghost use Rattle.prune_entries.specs.Answers.{pruneRefused, pruneGiven};
-use prune::write::Pruned;
+use prune::counts::Pruned;
 use select::class::Starts;
 
 #[repr(C)]
@@ -11,7 +11,7 @@ pub struct PruneAnswer {
     pub starts: Starts,
 }
 
-pub fn prune_refused(number: u32) -> PruneAnswer
+pub(crate) fn prune_refused(number: u32) -> PruneAnswer
     ensures { λ r. ⌜ r ≡ pruneRefused number ⌝ }
 {
     PruneAnswer {
@@ -25,7 +25,7 @@ pub fn prune_refused(number: u32) -> PruneAnswer
     }
 }
 
-pub fn prune_given(pruned: Pruned) -> PruneAnswer
+pub(crate) fn prune_given(pruned: Pruned) -> PruneAnswer
     ensures { λ r. ⌜ r ≡ pruneGiven pruned ⌝ }
 {
     let starts = pruned.starts;

@@ -1,6 +1,6 @@
 // The refusals of `mask_prune`, part by part of their table. Each part goes on from what was found so far.
 ghost use mathlib.Core.Path.{_≡_};
-ghost use Rattle.basis.specs.RefuseLaws.{firstFrom};
+ghost use Rattle.basis.specs.Refuse.{firstFrom};
 ghost use Rattle.prune_entries.specs.PruneRows.{Width, tooMany, roomFault, codesKnown, candListRows, lapListRows, codeRows, numberRows, startRows, reachRows, roomRows};
 use basis::items;
 use basis::number;
@@ -41,7 +41,7 @@ fn bad_room(width: usize, len: usize, count1: usize, count2: usize, laps: usize)
 }
 
 // Number 1, of the candidates of one outline: the lengths of their lists, and their count.
-pub fn cand_list_refusal(r: u32, at: usize, cand: usize, inside: usize, count: usize) -> u32
+pub(crate) fn cand_list_refusal(r: u32, at: usize, cand: usize, inside: usize, count: usize) -> u32
     ensures { λ n. ⌜ n ≡ firstFrom r (candListRows at cand inside count) ⌝ }
 {
     let r = refuse::or_else(r, refuse::bad_length(at, 2, count), 1);
@@ -51,7 +51,7 @@ pub fn cand_list_refusal(r: u32, at: usize, cand: usize, inside: usize, count: u
 }
 
 // Number 1, of the overlaps.
-pub fn lap_list_refusal(r: u32, at: usize, lap: usize, laps: usize) -> u32
+pub(crate) fn lap_list_refusal(r: u32, at: usize, lap: usize, laps: usize) -> u32
     ensures { λ n. ⌜ n ≡ firstFrom r (lapListRows at lap laps) ⌝ }
 {
     let r = refuse::or_else(r, refuse::bad_length(at, 7, laps), 1);
@@ -91,7 +91,7 @@ pub fn number_refusal(r: u32, cand1: &[f64], cand2: &[f64], lap: &[f64]) -> u32
 }
 
 // Number 6: each index against its own outline. The view of an overlap is of outline 2.
-pub fn start_refusal(
+pub(crate) fn start_refusal(
     r: u32,
     vc1: usize,
     vc2: usize,
@@ -111,7 +111,7 @@ pub fn start_refusal(
 }
 
 // Number 7: each offset against its own outline.
-pub fn reach_refusal(
+pub(crate) fn reach_refusal(
     r: u32,
     vc1: usize,
     vc2: usize,

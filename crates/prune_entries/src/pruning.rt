@@ -1,13 +1,13 @@
 ghost use mathlib.Core.Path.{_≡_};
 ghost use lib.Dec.{eqb};
-ghost use Rattle.basis.specs.RefuseLaws.{firstFrom};
+ghost use Rattle.basis.specs.Refuse.{firstFrom};
 ghost use Rattle.prune.specs.Prune.{given, cands, overlaps};
 ghost use Rattle.prune.specs.Ready.{rooms};
 ghost use Rattle.prune_entries.specs.PruneEntry.{called, inputRows, PruneLeft};
 use crate::answer;
 use crate::answer::PruneAnswer;
 use crate::faults;
-use prune::write;
+use pruned::write;
 
 // Numbers 1 to 7: what is handed in.
 fn input_refusal(

@@ -9,8 +9,8 @@ use lib.ListN.{length, take, drop}
 use lib.Seq.{drop-drop, take-at, sets, length-sets}
 use lib.Ieee.{Float}
 use Rattle.basis.specs.Number.{+0}
-use Rattle.basis.specs.Refuse.{firstOf}
-use Rattle.basis.specs.RefuseLaws.{clear, firstFrom, first-from, then-rows, answer-no, answer-yes}
+use Rattle.basis.specs.Refuse.{firstOf, firstFrom}
+use Rattle.basis.specs.RefuseLaws.{clear, first-from, then-rows, answer-no, answer-yes}
 use Rattle.basis.specs.Room.{roomOf}
 use Rattle.layout.specs.Layout.{size, unpack, rows}
 use Rattle.layout.specs.LayoutLaws.{thin-narrow, length-unpack, unpack-append, size-rows, length-rows}

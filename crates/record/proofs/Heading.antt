@@ -10,8 +10,8 @@ use lib.Dec.{leb, eqb}
 use lib.Ieee.{Float}
 use lib.ListN.{length, getD, drop, List·getD-append}
 use Rattle.basis.specs.Choice.{and-left}
-use Rattle.basis.specs.Refuse.{row, firstOf}
-use Rattle.basis.specs.RefuseLaws.{firstFrom, orElse, then-rows}
+use Rattle.basis.specs.Refuse.{row, firstOf, firstFrom, orElse}
+use Rattle.basis.specs.RefuseLaws.{then-rows}
 use Rattle.layout.specs.Layout.{unpack, numOf}
 use Rattle.layout.specs.LayoutLaws.{length-unpack}
 use Rattle.layout.specs.Ready.{Fitted, fit-none, fit-one, ShapeAt, ShapeRead}

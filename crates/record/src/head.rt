@@ -1,7 +1,6 @@
 // The head of a record: its frame, its numbers, and what is refused by them.
 ghost use mathlib.Core.Path.{_≡_};
-ghost use Rattle.basis.specs.Refuse.{firstOf};
-ghost use Rattle.basis.specs.RefuseLaws.{firstFrom};
+ghost use Rattle.basis.specs.Refuse.{firstOf, firstFrom};
 ghost use Rattle.record.specs.Record.{markOk, frameRows, lengthOf, takenRows, countRows, roomRows};
 ghost use Rattle.record.specs.Ready.{HeadFit, HeadRead, Sized, Counts};
 use crate::form;

@@ -4,8 +4,9 @@ use mathlib.Core.Bool.{Bool, true, false, cond, _&&_}
 use lib.Dec.{eqb, ltb}
 use mathlib.Core.Path.{_≡_}
 use mathlib.Core.List.{List, [], _∷_}
-use lib.ListN.{length, getD}
-use lib.Ieee.{Float, nan}
+use lib.ListN.{length}
+use lib.Ieee.{Float}
+use Rattle.outline.specs.Outline.{pointAt}
 use Rattle.basis.specs.Number.{Tolerance}
 use Rattle.outline.specs.declared.point.Point.{Point}
 use Rattle.outline.specs.declared.point.Vertex.{Vertex}
@@ -13,7 +14,7 @@ use Rattle.outline.specs.Points.{inBox}
 use Rattle.view.specs.View.{Fit}
 use Rattle.select.specs.declared.class.Starts.{Starts}
 use Rattle.select.specs.declared.table.Choices.{Choices}
-use Rattle.select.specs.SelectLaws as select
+use Rattle.select.specs.Select.{Scanned}
 use Rattle.chain.specs.Held.{chainOf, Grown}
 use Rattle.round.specs.declared.plan.Plan.{Plan}
 use Rattle.round.specs.declared.scan.Seen.{Seen}
@@ -55,16 +56,13 @@ pub record SliceAdded (g : Given) (i n : ℕ) (room : List Float) (r : ℕ) (roo
 
 -- ---- the slices' start points, x and y of each
 
-abbrev pub pointAt : List Float → ℕ → Point
-pointAt points j = record { x = getD points (2 * j) nan; y = getD points (2 * j + 1) nan }
-
 pub record PointsFit (g : Given) (points : List Float) : Type 0 where
   pub sound : Sound g
-  pub size : length points ≡ 3584
+  pub size : 2 * g .slices ≤ length points
 
 pub record Points (g : Given) (points : List Float) : Type 0 where
-  pub size : length points ≡ 3584
-  pub holds : (j : ℕ) → j < g .slices → pointAt points j ≡ startPoint g j
+  pub size : 2 * g .slices ≤ length points
+  pub holds : (j : ℕ) → j < g .slices → pointAt points (2 * j) ≡ startPoint g j
 
 -- ---- the scan
 
@@ -72,21 +70,20 @@ pub record MarkThere (visited : List Bool) (j : ℕ) : Type 0 where
   pub inside : j < length visited
 
 pub record PointThere (points : List Float) (j : ℕ) : Type 0 where
-  pub size : length points ≡ 3584
-  pub low : j < 1792
+  pub inside : 2 * j + 1 < length points
 
 pub record BothThere (points : List Float) (visited : List Bool) (j : ℕ) : Type 0 where
   pub point : PointThere points j
   pub mark : MarkThere visited j
 
 pub record ScanFit (points : List Float) (visited : List Bool) (n : ℕ) : Type 0 where
-  pub size : length points ≡ 3584
+  pub size : 2 * n ≤ length points
   pub marks : length visited ≡ n
   pub few : n ≤ 1792
 
 -- slice j is a candidate of the end
 abbrev pub nearEnd : List Float → List Bool → ℕ → Point → Tolerance → ℕ → Bool
-nearEnd points visited first end t j = free visited first j && inBox t end (pointAt points j)
+nearEnd points visited first end t j = free visited first j && inBox t end (pointAt points (2 * j))
 
 abbrev pub hasAny : List ℕ → Bool
 hasAny [] = false
@@ -95,7 +92,7 @@ hasAny (j ∷ l) = true
 -- the numbers below n that pass were met: whether there was any, and of each choice the first that suits
 pub record Met (p : ℕ → Bool) (s : Starts) (c : Choices) (n : ℕ) (r : Seen) : Type 0 where
   pub any : r .any ≡ hasAny (passing p n)
-  pub best : select.Scanned c s (passing p n) (r .best)
+  pub best : Scanned c s (passing p n) (r .best)
 
 -- ---- a round
 

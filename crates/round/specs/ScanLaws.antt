@@ -13,20 +13,21 @@ use lib.Ieee.{Float, nan}
 use borrow.Author.Tests.{eq-eqb, ne-eqb, not-true, not-false}
 use Rattle.outline.specs.declared.point.Point.{Point}
 use Rattle.outline.specs.declared.point.Vertex.{Vertex}
-use Rattle.outline.specs.Points.{posOf}
-use Rattle.outline.specs.Outline.{vertexAt}
+use Rattle.basis.specs.Number.{Tolerance}
+use Rattle.outline.specs.Points.{posOf, inBox}
+use Rattle.outline.specs.Outline.{vertexAt, pointAt}
 use Rattle.view.specs.declared.data.ViewData.{ViewData}
 use Rattle.view.specs.View.{Fit, vertexOf}
 use Rattle.select.specs.declared.class.Starts.{Starts}
 use Rattle.select.specs.declared.table.Choices.{Choices}
 use Rattle.select.specs.declared.best.Best.{Best}
-use Rattle.select.specs.Select.{classOf, noneYet, offerOf}
+use Rattle.select.specs.Select.{classOf, noneYet, offerOf, Scanned}
 use Rattle.select.specs.SelectLaws as select
 use Rattle.chain.specs.Held.{ViewMore, Extended}
 use Rattle.round.specs.declared.plan.Plan.{Plan}
 use Rattle.run.specs.Run.{passing}
 use Rattle.run.specs.Stitch.{Given, ofFirst, sliceOffset, sliceEnd, sliceView, sliceOutline, sliceCount, sliceVertex, startPoint, addSlice}
-use Rattle.round.specs.Ready.{planned, Sound, SliceThere, SliceFit, SliceMore, SliceAdded, pointAt, PointsFit, Points, hasAny, Met}
+use Rattle.round.specs.Ready.{planned, Sound, SliceThere, SliceFit, SliceMore, SliceAdded, PointsFit, Points, hasAny, Met}
 
 -- ---- a slice
 
@@ -95,26 +96,29 @@ pub ruleset slicing = (view-is, there-of, fit-first, fit-second, start-first, st
 
 -- ---- the table of start points: those below i are written
 
-pub record Pointing (g : Given) (points : List Float) (i : ℕ) : Type 0 where
-  pub size : length points ≡ 3584
+pub record Pointing (g : Given) (n : ℕ) (points : List Float) (i : ℕ) : Type 0 where
+  pub size : 2 * g .slices ≤ length points
+  pub same : length points ≡ n
   pub upto : i ≤ g .slices
-  pub holds : (j : ℕ) → j < i → pointAt points j ≡ startPoint g j
+  pub holds : (j : ℕ) → j < i → pointAt points (2 * j) ≡ startPoint g j
 
 module _ (g : Given) (points : List Float) where
-  pub points-none : PointsFit g points → Pointing g points 0
-  points-none f = record { size = f .size; upto = omega arith; holds = λ j h. absurd (omega arith) }
+  pub points-none : PointsFit g points → Pointing g (length points) points 0
+  points-none f = record { size = f .size; same = refl; upto = omega arith; holds = λ j h. absurd (omega arith) }
 
-  pub points-more : (i : ℕ) (s : Point) → Sound g → Pointing g points i → i < g .slices → s ≡ startPoint g i
-      → Pointing g (set (set points (2 * i) (s .x)) (2 * i + 1) (s .y)) (i + 1)
-  points-more i s k p h e =
-      let m : 2 * i + 1 < length points = omega (arith, k .few, p .size) in
+  pub points-more : (n i : ℕ) (s : Point) → Pointing g n points i → i < g .slices → s ≡ startPoint g i
+      → Pointing g n (set (set points (2 * i) (s .x)) (2 * i + 1) (s .y)) (i + 1)
+  unfolding pointAt
+  points-more n i s p h e =
+      let m : 2 * i + 1 < length points = omega (arith, p .size) in
       record {
         size = simp length-set (p .size);
+        same = simp length-set (p .same);
         upto = omega arith;
         holds = λ j d. go j (decLt j i) d m;
       }
     where
-      go : (j : ℕ) → Dec (j < i) → j < i + 1 → 2 * i + 1 < length points → pointAt (set (set points (2 * i) (s .x)) (2 * i + 1) (s .y)) j ≡ startPoint g j
+      go : (j : ℕ) → Dec (j < i) → j < i + 1 → 2 * i + 1 < length points → pointAt (set (set points (2 * i) (s .x)) (2 * i + 1) (s .y)) (2 * j) ≡ startPoint g j
       go j (yes d) l m =
           simp (
             getD-set-other (set points (2 * i) (s .x)) (2 * i + 1) (2 * j) (s .y) nan (λ q. omega arith),
@@ -134,10 +138,14 @@ module _ (g : Given) (points : List Float) where
           )
           e
 
-  pub points-end : (i : ℕ) → Pointing g points i → g .slices ≤ i → Points g points
-  points-end i p h = let e : i ≡ g .slices = omega (arith, p .upto) in record { size = p .size; holds = rw e at (p .holds) }
+  pub points-end : (n i : ℕ) → Pointing g n points i → g .slices ≤ i → Points g points
+  points-end n i p h = let e : i ≡ g .slices = omega (arith, p .upto) in record { size = p .size; holds = rw e at (p .holds) }
 
 pub ruleset pointing = (points-none, points-more, points-end)
+
+-- a start point that was read is held against the box
+pub near-of : (t : Tolerance) (end p : Point) (points : List Float) (i : ℕ) (r : Bool) → p ≡ pointAt points i → r ≡ inBox t end p → r ≡ inBox t end (pointAt points i)
+near-of t end p points i r e f = f ∙ ap (inBox t end) e
 
 -- ---- the scan: those below j were met
 
@@ -145,7 +153,7 @@ pub record Meeting (p : ℕ → Bool) (s : Starts) (c : Choices) (n : ℕ) (a : 
   pub upto : j ≤ n
   pub few : n ≤ 1792
   pub any : a ≡ hasAny (passing p j)
-  pub best : select.Scanned c s (passing p j) b
+  pub best : Scanned c s (passing p j) b
 
 has-more : (l : List ℕ) (j : ℕ) → true ≡ hasAny (l ++ (j ∷ []))
 has-more [] j = refl

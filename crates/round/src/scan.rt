@@ -1,12 +1,15 @@
 // Document 01: "A round takes the candidates of the chain's last vertex that are unvisited or the chain's first slice, in ascending number".
 ghost use mathlib.Core.Path.{_≡_};
 ghost use mathlib.Core.Bool.{_&&_};
+ghost use Prim.Native.Nat.{_*_};
+ghost use Rattle.outline.specs.Outline.{pointAt};
 ghost use Rattle.outline.specs.Points.{inBox};
 ghost use Rattle.run.specs.Run.{free};
-ghost use Rattle.round.specs.Ready.{pointAt, nearEnd, PointThere, MarkThere, BothThere, ScanFit, Met};
+ghost use Rattle.round.specs.Ready.{nearEnd, PointThere, MarkThere, BothThere, ScanFit, Met};
 use basis::number::Tolerance;
 use outline::point;
 use outline::point::Point;
+use outline::read;
 use select::best;
 use select::best::Best;
 use select::class;
@@ -28,21 +31,16 @@ fn is_free(visited: &[bool], first: usize, j: usize) -> bool
 }
 
 // The start point of slice j is in the closed box around the end.
-fn is_near(points: &[f64; 3584], end: Point, t: Tolerance, j: usize) -> bool
+fn is_near(points: &[f64], end: Point, t: Tolerance, j: usize) -> bool
     requires { ⌜ PointThere (now points) j ⌝ }
-    ensures { λ r. ⌜ r ≡ inBox t end (pointAt (now (points .entry)) j) ⌝ }
+    ensures { λ r. ⌜ r ≡ inBox t end (pointAt (now (points .entry)) (2 * j)) ⌝ }
 {
-    let a = 2 * j;
-    let start = Point {
-        x: points[a],
-        y: points[a + 1],
-    };
-    point::in_box(start, end, t)
+    point::in_box(read::point_at(points, 2 * j), end, t)
 }
 
 // Slice j is a candidate.
 fn is_candidate(
-    points: &[f64; 3584],
+    points: &[f64],
     visited: &[bool],
     first: usize,
     end: Point,
@@ -50,14 +48,14 @@ fn is_candidate(
     j: usize,
 ) -> bool
     requires { ⌜ BothThere (now points) (now visited) j ⌝ }
-    ensures { λ r. ⌜ r ≡ (free (now (visited .entry)) first j && inBox t end (pointAt (now (points .entry)) j)) ⌝ }
+    ensures { λ r. ⌜ r ≡ (free (now (visited .entry)) first j && inBox t end (pointAt (now (points .entry)) (2 * j))) ⌝ }
 {
     is_free(visited, first, j) && is_near(points, end, t, j)
 }
 
 // The candidates of an end, in ascending number.
 pub(crate) fn scan(
-    points: &[f64; 3584],
+    points: &[f64],
     visited: &[bool],
     first: usize,
     end: Point,

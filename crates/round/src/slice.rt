@@ -1,6 +1,5 @@
 // The slices: their views, their start points, their vertices in a chain.
 ghost use mathlib.Core.Path.{_≡_};
-ghost use Rattle.chain.specs.Held.{chainOf};
 ghost use Rattle.run.specs.Stitch.{sliceView, startPoint};
 ghost use Rattle.round.specs.Ready.{planned, SliceThere, SliceFit, SliceMore, SliceAdded, PointsFit, Points};
 use crate::plan::Plan;
@@ -75,7 +74,7 @@ pub fn add_slice(
 
 // Writes each slice's start point, x and y.
 pub fn fill_points(
-    points: &mut [f64; 3584],
+    points: &mut [f64],
     outline1: &[f64],
     outline2: &[f64],
     slice_at: &[usize],

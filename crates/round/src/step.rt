@@ -44,7 +44,7 @@ fn taken(n: usize, first: usize, j: usize) -> Step
 
 // The candidates of the last vertex of a chain of n vertices, for the choices of the slice that was joined last.
 fn look(
-    points: &[f64; 3584],
+    points: &[f64],
     visited: &[bool],
     room: &[f64],
     n: usize,
@@ -63,7 +63,7 @@ fn look(
 
 // What the round comes to. No candidate, or no slice selected, discards the chain.
 pub fn next_of(
-    points: &[f64; 3584],
+    points: &[f64],
     visited: &[bool],
     room: &[f64],
     n: usize,

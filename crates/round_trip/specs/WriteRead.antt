@@ -14,10 +14,10 @@ use Rattle.basis.specs.Choice.{by-test, or-left, or-right}
 use Rattle.basis.specs.Each.{placesBelow}
 use Rattle.basis.specs.EachLaws.{each-at}
 use Rattle.basis.specs.Number.{allWithin}
-use Rattle.basis.specs.Refuse.{row, firstOf}
+use Rattle.basis.specs.Refuse.{row, firstOf, countFor, sourceFault}
 use Rattle.basis.specs.RefuseLaws.{Clear, clear, clear-left, none-clear, choice-ok}
 use Rattle.run.specs.Stitch.{Given}
-use Rattle.stitch_entries.specs.StitchRows.{knownSource, sourcesKnown, countFor, startsInside, offsetsInside, startsFault}
+use Rattle.stitch_entries.specs.StitchRows.{sourcesKnown, startsInside, offsetsInside, startsFault}
 use Rattle.layout.specs.Layout.{size, bytesOf, valueOf, pack, unpack, numOf, bitsOf}
 use Rattle.layout.specs.LayoutLaws.{unpack-pack, fitted-append, fitted-length, length-pack}
 use Rattle.layout.specs.NumberLaws.{Plain, AllPlain, num-bits, bits-below, nums-bits}
@@ -94,8 +94,8 @@ module _ (g : Given) (ok : Clear (keepRows g)) (held : HeldGiven g) where
       go true = kept .few .few1
       go false = kept .few .few2
 
-  source-small : (s : ℕ) → knownSource s ≡ true → s ≤ 2
-  unfolding knownSource
+  source-small : (s : ℕ) → not (sourceFault s) ≡ true → s ≤ 2
+  unfolding sourceFault
   source-small s e =
       by-test (eqb s 1) (λ t. omega (arith, eqb-true s 1 t))
       (λ f. by-test (eqb s 2) (λ t. omega (arith, eqb-true s 2 t)) (λ f2. absurd (mathlib.Core.Bool.false≢true (rw (f, f2) at e))))

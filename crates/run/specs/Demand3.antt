@@ -1,18 +1,15 @@
 -- Demand 3: the words in which it is said, over any rules.
 use Prim.Native.Nat.{ℕ, _+_, _-_, _≤_, _<_}
-use mathlib.Core.Bool.{Bool, true, false}
 use mathlib.Core.Path.{_≡_}
 use mathlib.Core.Logic.{_≢_}
 use mathlib.Core.List.{List, [], _∷_, map}
 use lib.Dec.{eqb}
 use lib.ListN.{length, getD}
+use Rattle.basis.specs.Choice.{codeOf}
+use Rattle.basis.specs.All.{All}
 use Rattle.run.specs.Run.{Rules, Chain, Ending, closed, tooSmall, noCandidate, noSelection, spent, Next, onto, ends, Round, run, slicesOf, roundsOf, orderOf}
 
 -- ---- words
-
-abbrev pub bit : Bool → ℕ
-bit true = 1
-bit false = 0
 
 -- the sum of a weight over a list
 abbrev pub sumOver : {A : Type 0} → (A → ℕ) → List A → ℕ
@@ -21,12 +18,7 @@ sumOver f (a ∷ l) = f a + sumOver f l
 
 -- how often a number stands in a list
 abbrev pub times : ℕ → List ℕ → ℕ
-times k l = sumOver (λ j. bit (eqb k j)) l
-
--- every element has the property
-abbrev pub All : {A : Type 0} → (A → Type 0) → List A → Type 0
-All P [] = Unit {0}
-All P (a ∷ l) = P a × All P l
+times k l = sumOver (λ j. codeOf (eqb k j)) l
 
 -- not empty, and the first number is below all that follow it
 abbrev pub LowestFirst : List ℕ → Type 0
@@ -72,6 +64,10 @@ leaves tooSmall m = 0
 leaves noCandidate m = 0
 leaves noSelection m = 0
 leaves spent m = 0
+
+-- how many vertices the loops of these chains have
+abbrev pub finished : {C : Type 0} → (C → ℕ) → List (Chain C) → ℕ
+finished size l = sumOver (λ c. leaves (c .ending) (size (c .built))) l
 
 -- One round, behind the m vertices of the finished loops: the chain has a vertex, and stays within the room before the join and while it is made.
 pub record Moment {C : Type 0} (size : C → ℕ) (f : ℕ → ℕ) (room m : ℕ) (r : Round C) : Type 0 where

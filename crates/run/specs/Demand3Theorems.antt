@@ -6,12 +6,13 @@ use mathlib.Core.Logic.{_≢_}
 use mathlib.Core.List.{List, [], map}
 use native.Mathlib.Omega.{arith}
 use lib.ListN.{length, length-map}
+use Rattle.basis.specs.All.{All}
 use Rattle.outline.specs.declared.point.Vertex.{Vertex}
 use Rattle.chain.specs.Chain.{addFirst, dropLast}
 use Rattle.run.specs.Run.{spent, onto, slicesOf, orderOf}
 use Rattle.run.specs.Stitch.{Given, sliceOffset, sliceVertex, rulesOf, runOf, loopsOf, howOf, roundCount, loopCount, chainCount}
 use Rattle.run.specs.Stitch.{roomItems, endItems, chainItems, chainEndItems, howItems, roundsFault, weightAt, needFor, needOf}
-use Rattle.run.specs.Demand3.{sumOver, times, All, LowestFirst, Ascending, firstSlice, Demand3, reach, Enough}
+use Rattle.run.specs.Demand3.{sumOver, times, LowestFirst, Ascending, firstSlice, Demand3, reach, Enough}
 use Rattle.run.specs.RunLaws.{demand3, same-length, no-slices}
 use Rattle.run.specs.NeedLaws.{enough, enough-end}
 use Rattle.run.specs.StitchLaws.{first-most, drop-length, weight, among, grows}

@@ -5,11 +5,12 @@ use mathlib.Core.Path.{_≡_, refl, sym, ap, subst, _∙_}
 use mathlib.Core.List.{List, [], _∷_, _++_, flatMap}
 use native.Mathlib.Omega.{arith}
 use lib.ListN.{length, getD}
+use Rattle.basis.specs.All.{All, all-snoc}
 use Rattle.run.specs.Run.{Rules, Ending, closed, tooSmall, noCandidate, noSelection, spent, Next, onto, ends, Chain, Underway, Finished, Stitched}
 use Rattle.run.specs.Run.{nextOf, roundOf, opened, onward, ended, walk, chainFrom, added, begun, turn, turns, run, slicesOf, orderOf}
 use Rattle.run.specs.Stitch.{sumBelow, needFor}
-use Rattle.run.specs.Demand3.{sumOver, All, firstSlice, reach, leaves, Moment, Within, Enough}
-use Rattle.run.specs.SumLaws.{sum-append, all-snoc}
+use Rattle.run.specs.Demand3.{finished, sumOver, firstSlice, reach, leaves, Moment, Within, Enough}
+use Rattle.run.specs.SumLaws.{sum-append}
 use Rattle.basis.specs.FlatLaws.{flat-snoc}
 use Rattle.run.specs.TallyLaws.{Tally, tally-weight, tally-most}
 use Rattle.run.specs.RunLaws.{Among, placed, placed-onward, placed-longer, Going, going-onward, going-opened, ended-slices, gone-chain, Kept, kept-turns, no-slices}
@@ -27,10 +28,6 @@ leaves-most tooSmall m = omega arith
 leaves-most noCandidate m = omega arith
 leaves-most noSelection m = omega arith
 leaves-most spent m = omega arith
-
--- how many vertices the loops of these chains have
-abbrev pub finished : {C : Type 0} → (C → ℕ) → List (Chain C) → ℕ
-finished size l = sumOver (λ c. leaves (c .ending) (size (c .built))) l
 
 -- one chain more
 enough-snoc : {C : Type 0} (size : C → ℕ) (f : ℕ → ℕ) (room m : ℕ) (l : List (Chain C)) (c : Chain C)

@@ -6,15 +6,15 @@ use mathlib.Core.Logic.{_≢_}
 use mathlib.Core.List.{List, [], _∷_, _++_, map, flatMap}
 use native.Mathlib.Omega.{arith}
 use lib.ListN.{length, length-append, length-reverse}
+use Rattle.basis.specs.All.{All}
 use Rattle.outline.specs.declared.point.Vertex.{Vertex}
 use Rattle.outline.specs.Points.{vertexNumbers}
 use Rattle.chain.specs.Chain.{dropLast}
 use Rattle.run.specs.Run.{Chain, Ending, closed, tooSmall, noCandidate, noSelection, spent, slicesOf, roundsOf, orderOf}
 use Rattle.run.specs.Stitch.{loopOf, loopsOf, howOf, totals, isSpent, anySpent}
-use Rattle.run.specs.Demand3.{sumOver, All, LowestFirst, leaves}
+use Rattle.run.specs.Demand3.{sumOver, LowestFirst, leaves, finished}
 use Rattle.run.specs.SumLaws.{sum-append}
 use Rattle.basis.specs.FlatLaws.{flat-snoc}
-use Rattle.run.specs.NeedLaws.{finished}
 use Rattle.run.specs.StitchLaws.{drop-length}
 
 -- ---- one chain more

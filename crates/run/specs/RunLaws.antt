@@ -9,14 +9,16 @@ use native.Mathlib.Omega.{arith}
 use lib.Dec.{eqb}
 use lib.ListN.{length, getD, set, length-append, length-map}
 use lib.Seq.{getD-set-same, getD-set-other}
+use Rattle.basis.specs.Choice.{codeOf}
+use Rattle.basis.specs.All.{All, all-imp, all-snoc}
 use Rattle.select.specs.declared.best.Selected.{Selected}
 use Rattle.select.specs.declared.best.Selected.the-variants.{Slice, NoSlice}
 use Rattle.run.specs.Run.{Rules, Ending, closed, tooSmall, noCandidate, noSelection, spent, Next, onto, ends, Chain, Underway, Finished, Stitched}
 use Rattle.run.specs.Run.{free, candidate, candidatesOf, taken, answered, asked, nextOf, roundOf, opened, onward, ended}
 use Rattle.run.specs.Run.{walk, chainFrom, added, begun, turn, turns, run, slicesOf, roundsOf, orderOf}
 use Rattle.run.specs.Stitch.{sumBelow}
-use Rattle.run.specs.Demand3.{bit, sumOver, All, LowestFirst, Ascending, firstSlice, Demand3}
-use Rattle.run.specs.SumLaws.{below-ones, below-out, below-in, weighed-all, sum-ones, all-snoc, all-imp, ascending-snoc}
+use Rattle.run.specs.Demand3.{sumOver, LowestFirst, Ascending, firstSlice, Demand3}
+use Rattle.run.specs.SumLaws.{below-ones, below-out, below-in, weighed-all, sum-ones, ascending-snoc}
 use Rattle.basis.specs.FlatLaws.{flat-snoc}
 use Rattle.run.specs.TallyLaws.{passing-mem, clash, unvisited, past-marks, marks-more, Tally, tally-none, tally-one, tally-most}
 
@@ -256,8 +258,8 @@ module _ {C : Type 0} (R : Rules C) (among : Among R) where
       let k = kept-turns (R .count) (omega arith) in
       record {
         rounds = omega (arith, same-length (run R), every-weight (λ j. 1), sum-ones (orderOf (run R)), below-ones (R .count));
-        once = λ k h. every-weight (λ j. bit (eqb k j)) ∙ below-in k (R .count) h;
-        only = λ k h. every-weight (λ j. bit (eqb k j)) ∙ below-out k (R .count) h;
+        once = λ k h. every-weight (λ j. codeOf (eqb k j)) ∙ below-in k (R .count) h;
+        only = λ k h. every-weight (λ j. codeOf (eqb k j)) ∙ below-out k (R .count) h;
         lowest = k .lowest;
         ascending = k .ascending;
         held = k .held;

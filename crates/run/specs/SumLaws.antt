@@ -9,8 +9,10 @@ use borrow.Author.Tests.{eq-eqb, ne-eqb}
 use lib.Dec.{eqb}
 use lib.ListN.{length, getD, set}
 use lib.Seq.{getD-set-same, getD-set-other}
+use Rattle.basis.specs.Choice.{codeOf}
+use Rattle.basis.specs.All.{All, all-snoc}
 use Rattle.run.specs.Stitch.{sumBelow}
-use Rattle.run.specs.Demand3.{bit, sumOver, All, Ascending}
+use Rattle.run.specs.Demand3.{sumOver, Ascending}
 
 -- ---- below a number
 
@@ -35,17 +37,17 @@ below-ones zero = refl
 below-ones (suc n) = omega (arith, below-ones n)
 
 -- how often k is among the numbers below n
-pub below-out : (k n : ℕ) → n ≤ k → sumBelow (λ j. bit (eqb k j)) n ≡ 0
+pub below-out : (k n : ℕ) → n ≤ k → sumBelow (λ j. codeOf (eqb k j)) n ≡ 0
 unfolding sumBelow
 below-out k zero h = refl
 below-out k (suc n) h = rw (ne-eqb k n (λ e. let z : k ≡ n = e in omega arith)) (omega (arith, below-out k n (omega arith)))
 
-pub below-in : (k n : ℕ) → k < n → sumBelow (λ j. bit (eqb k j)) n ≡ 1
+pub below-in : (k n : ℕ) → k < n → sumBelow (λ j. codeOf (eqb k j)) n ≡ 1
 unfolding sumBelow
 below-in k zero h = absurd (omega arith)
 below-in k (suc n) h = go (decLt k n) (below-in k n)
   where
-    go : Dec (k < n) → (k < n → sumBelow (λ j. bit (eqb k j)) n ≡ 1) → sumBelow (λ j. bit (eqb k j)) n + bit (eqb k n) ≡ 1
+    go : Dec (k < n) → (k < n → sumBelow (λ j. codeOf (eqb k j)) n ≡ 1) → sumBelow (λ j. codeOf (eqb k j)) n + codeOf (eqb k n) ≡ 1
     go (yes d) r = rw (ne-eqb k n (λ e. let z : k ≡ n = e in omega arith)) (omega (arith, r d))
     go (no d) r = rw (eq-eqb k n (omega arith)) (omega (arith, below-out k n (omega arith)))
 
@@ -96,14 +98,6 @@ sum-ones [] = refl
 sum-ones (a ∷ l) = omega (arith, sum-ones l)
 
 -- ---- one more at the end
-
-pub all-snoc : {A : Type 0} (P : A → Type 0) (l : List A) (a : A) → All P l → P a → All P (l ++ (a ∷ []))
-all-snoc P [] a h p = (p, tt)
-all-snoc P (b ∷ l) a h p = (h .0, all-snoc P l a (h .1) p)
-
-pub all-imp : {A : Type 0} (P Q : A → Type 0) → ((a : A) → P a → Q a) → (l : List A) → All P l → All Q l
-all-imp P Q f [] h = tt
-all-imp P Q f (a ∷ l) h = (f a (h .0), all-imp P Q f l (h .1))
 
 pub ascending-snoc : (l : List ℕ) (i : ℕ) → Ascending l → All (λ j. j < i) l → Ascending (l ++ (i ∷ []))
 ascending-snoc [] i a h = (tt, tt)

@@ -2,18 +2,19 @@
 use Prim.Native.Nat.{ℕ, zero, suc, _≤_, _<_}
 use mathlib.Core.Bool.{Bool, true, false, not, cond, _&&_, _||_, true≢false}
 use mathlib.Core.Path.{_≡_, refl, sym, ap, _∙_}
-use mathlib.Core.Logic.{_⊎_, inl, inr, ⊎-elim}
+use mathlib.Core.Logic.{_⊎_, inl, inr}
 use mathlib.Core.List.{List, [], _∷_, _++_, append-nil, List·Memᴰ, List·Memᴰ·head}
-use mathlib.Core.List.{List·Memᴰ·not-nil, List·Memᴰ·cases-cons, Memᴰ·append-left, Memᴰ·append-right, List·Memᴰ·append-cases, List·Memᴰ·eq-of-singleton}
+use mathlib.Core.List.{List·Memᴰ·not-nil, Memᴰ·append-left, Memᴰ·append-right, List·Memᴰ·append-cases, List·Memᴰ·eq-of-singleton}
 use native.Mathlib.Nat.{not-suc-le-zero}
 use native.Mathlib.Decide.{decLt}
 use native.Mathlib.Omega.{arith}
 use lib.ListN.{length, getD, set, replicate, length-set, length-replicate, getD-replicate}
+use Rattle.basis.specs.All.{All, all-mem, all-imp, all-snoc}
 use Rattle.select.specs.SelectTheorems as selecting
 use Rattle.run.specs.Run.{passing}
 use Rattle.run.specs.Stitch.{sumBelow}
-use Rattle.run.specs.Demand3.{sumOver, All, Ascending}
-use Rattle.run.specs.SumLaws.{below-ones, weighed, weighed-set, weighed-most, weighed-none, sum-append, sum-ones, all-snoc, all-imp, ascending-snoc}
+use Rattle.run.specs.Demand3.{sumOver, Ascending}
+use Rattle.run.specs.SumLaws.{below-ones, weighed, weighed-set, weighed-most, weighed-none, sum-append, sum-ones, ascending-snoc}
 
 -- ---- the candidates
 
@@ -65,10 +66,6 @@ passing-ascends p (suc n) = go (p n) (passing-ascends p n)
     go false a = rw append-nil a
 
 -- The same in the selectors' words, so that their theorems speak of it: within a choice the lowest number.
-all-mem : (P : ℕ → Type 0) (l : List ℕ) (j : ℕ) → All P l → List·Memᴰ j l → P j
-all-mem P [] j a m = absurd (List·Memᴰ·not-nil m)
-all-mem P (i ∷ l) j a m = ⊎-elim (λ (e : j ≡ i). rw e (a .0)) (λ h. all-mem P l j (a .1) h) (List·Memᴰ·cases-cons m)
-
 in-order : (l : List ℕ) → Ascending l → selecting.Ascending l
 in-order [] a = tt
 in-order (i ∷ l) a = (λ j m. all-mem (λ k. i < k) l j (a .0) m, in-order l (a .1))

@@ -8,7 +8,6 @@ use lib.ListN.{length, take}
 use lib.IntN.{pos, negsuc}
 use lib.Ieee.{Float, fin, binary64, ofInt, ofBits}
 use Rattle.basis.specs.Number.{+0, Tolerance}
-use Rattle.outline.specs.declared.point.Point.{Point}
 use Rattle.outline.specs.declared.point.Vertex.{Vertex}
 use Rattle.outline.specs.Points.{posOf, pointsAgree, inBox}
 use Rattle.view.specs.View.{vertexCount}
@@ -19,18 +18,18 @@ use Rattle.view_entries.specs.SingleEntry.{singleRefusal, singleAnswer}
 use Rattle.cuts.specs.Cuts as cuts
 use Rattle.slices.specs.Slices.{candNumbers}
 use Rattle.slices.specs.Ready as slices
-use Rattle.cut_entries.specs.declared.answer.CountAnswer.{CountAnswer}
-use Rattle.cut_entries.specs.Candidates.{alongCuts, candidatesRefusal, Sliced}
+use Rattle.basis.specs.declared.answer.CountAnswer.{CountAnswer}
+use Rattle.candidate_entries.specs.Candidates.{alongCuts, candidatesRefusal, Sliced}
 use Rattle.select.specs.declared.class.Starts.{Starts}
-use Rattle.prune.specs.declared.write.Pruned.{Pruned}
-use Rattle.prune.specs.Prune.{Cands, cands, overlaps, given, needOf, prunedOf, sliceCounts, sliceNumbers}
+use Rattle.prune.specs.declared.counts.Pruned.{Pruned}
+use Rattle.prune.specs.Prune.{cands, overlaps, given, needOf, prunedOf, sliceCounts, sliceNumbers}
 use Rattle.prune.specs.Ready as prune
 use Rattle.prune_entries.specs.declared.answer.PruneAnswer.{PruneAnswer}
 use Rattle.prune_entries.specs.Answers.{pruneGiven}
 use Rattle.prune_entries.specs.PruneEntry.{Called, called, pruneRefusal, PruneLeft}
 use Rattle.run.specs.Stitch as stitch
 use Rattle.run.specs.Stitch.{roundCount, roomItems, endItems}
-use Rattle.stitch.specs.Between.{Lists}
+use Rattle.stitch.specs.Lent.{Lists}
 use Rattle.stitch_entries.specs.declared.answer.StitchAnswer.{StitchAnswer}
 use Rattle.stitch_entries.specs.Answers.{stitchRefused}
 use Rattle.stitch_entries.specs.StitchEntry.{stitchRefusal, StitchLeft}
@@ -121,11 +120,6 @@ Answers (refusedWith g room number) =
     (x : Lists) (r : StitchAnswer) (left : Lists) → LoopRooms g room x → StitchLeft g x r left → (r ≡ stitchRefused number) × Untouched x left
 -- `mask_create_on_single_segment`: there is a view between the two
 Answers (apartInBox o vc i a b t) = singleAnswer o vc i a (posOf b) t .found ≡ 1
-
--- each of a list
-abbrev pub Each : {A : Type 0} → (A → Type 0) → List A → Type 0
-Each P [] = Unit {0}
-Each P (a ∷ l) = P a × Each P l
 
 -- ---- "A is (0,0) (4,0) (4,4) (0,4); B is (2,2) (6,2) (6,6) (2,6); bulges 0, t = 1/1024"
 

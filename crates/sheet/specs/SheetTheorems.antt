@@ -2,19 +2,19 @@
 use Prim.Native.Nat.{ℕ, zero, suc, _-_, _*_, _<_}
 use native.Mathlib.Omega.{arith}
 use mathlib.Core.Path.{_≡_, refl, sym, ap, subst, _∙_}
-use mathlib.Core.List.{List, [], _∷_, flatMap}
+use mathlib.Core.List.{List, flatMap}
 use lib.ListN.{length, take}
 use lib.Ieee.{Float, ofInt, ofBits, neg, add, sub, mul, lt, le}
 use Rattle.basis.specs.Room.{roomOf}
 use Rattle.basis.specs.RoomLaws.{room-front}
 use Rattle.basis.specs.Number.{+0, Tolerance, absF, agree, inSpan, within, tolerable}
-use Rattle.basis.specs.All.{allOf}
+use Rattle.basis.specs.All.{allOf, All, all-imp}
 use Rattle.basis.specs.Each.{eachTo, placesBelow, placesAtMost}
 use Rattle.basis.specs.RefuseLaws.{answer-accepted}
 use Rattle.basis.specs.Refuse.{answer, firstOf, lengthFault, sizeFault, sourceFault}
 use Rattle.outline.specs.declared.point.Vertex.{Vertex}
 use Rattle.outline.specs.Points.{posOf, pointsAgree, inBox}
-use Rattle.outline.specs.Outline.{vertexAt, wrap, outlineAt}
+use Rattle.outline.specs.Outline.{vertexAt, wrap, outlineAt, pointAt}
 use Rattle.view.specs.declared.vertex.Found.{Found}
 use Rattle.view.specs.declared.vertex.Found.the-variants as found
 use Rattle.view.specs.View.{forwardAt, turnedAt, invertedAt, vertexOf, getVertex}
@@ -29,16 +29,16 @@ use Rattle.view_entries.specs.SingleEntry.{singleRefusal, singleAnswer}
 use Rattle.view.specs.Create.{nearVertex, bulgeBefore, createView, singleView}
 use Rattle.cuts.specs.Cuts as cuts
 use Rattle.cuts.specs.Cuts.{hitCut, moved, markedEnd, lapCut, cutOf}
-use Rattle.cuts.specs.Order.{distSquared, distance, sooner, earlier, insert, ordered, orderOf, codeOf, cutNumbers, cutPoints}
+use Rattle.cuts.specs.Order.{distSquared, distance, sooner, earlier, insert, ordered, orderOf, cutNumbers, cutPoints}
 use Rattle.slices.specs.Slices as slices
-use Rattle.slices.specs.ItemLaws.{flat-length, wide-numbers}
+use Rattle.candidates.specs.ItemLaws.{flat-length, wide-numbers}
 use Rattle.slices.specs.Slices.{sameNext, firstCut, traverseFrom, traverseOf, sliceOf, pieceOf, walkOf, walked, walkAt, candidateAt, candidatesTo, walkLost, lostTo, anyWalkLost}
 use Rattle.cut_entries.specs.CutRows.{tooMany, cutRoomFault, cutLengthFault}
-use Rattle.cut_entries.specs.declared.answer.CountAnswer.{CountAnswer}
-use Rattle.cut_entries.specs.Answers.{countRefused, counted}
-use Rattle.cut_entries.specs.Candidates.{alongCuts, candidatesRefusal, candNumber}
+use Rattle.basis.specs.declared.answer.CountAnswer.{CountAnswer}
+use Rattle.basis.specs.Answers.{countRefused, counted}
+use Rattle.candidate_entries.specs.Candidates.{alongCuts, candidatesRefusal, candNumber}
 use Rattle.select.specs.Select.{classOf, preferenceOf, suitsOf, firstThat, orElse, choose, choicesOf, pickOf, selectOf}
-use Rattle.prune.specs.declared.write.Pruned.{Pruned}
+use Rattle.prune.specs.declared.counts.Pruned.{Pruned}
 use Rattle.prune.specs.Prune.{candHead, lapHead, lapInverted, keptTo, lapsTo, wantedOf, turnedOf, firstPart, secondPart, partsOf, slicesOf, prunedAt, prunedOf}
 use Rattle.prune_entries.specs.PruneRows as pruneRows
 use Rattle.prune_entries.specs.PruneRows.{codesKnown, roomFault}
@@ -52,12 +52,12 @@ use Rattle.run.specs.Stitch as stitch
 use Rattle.run.specs.Stitch.{ofFirst, sliceOffset, sliceEnd, sliceView, sliceOutline, sliceCount, sliceVertex, startPoint, addSlice}
 use Rattle.run.specs.Stitch.{offersTo, rulesOf, runOf, loopOf, loopsOf, howOf, totals, roundCount, loopCount, roomItems}
 use Rattle.run.specs.Stitch.{endItems, isSpent, anySpent, roundsFault, sumBelow, weightAt, needFor}
-use Rattle.stitch.specs.Between.{Lists}
-use Rattle.stitch_entries.specs.StitchRows.{knownSource, sourcesKnown, startsInside, offsetsInside, startsFault}
+use Rattle.stitch.specs.Lent.{Lists}
+use Rattle.stitch_entries.specs.StitchRows.{sourcesKnown, startsInside, offsetsInside, startsFault}
 use Rattle.stitch_entries.specs.declared.answer.StitchAnswer.{StitchAnswer}
 use Rattle.stitch_entries.specs.Answers.{stitchRefused, stitchGiven}
 use Rattle.stitch_entries.specs.StitchEntry.{stitchRefusal, stitchNumber}
-use Rattle.sheet.specs.Sheet.{Said, candidatesAre, verticesAre, slicesAre, loopsAre, refusedWith, apartInBox, LoopRooms, Case, Holds, Answers, Each, sheet}
+use Rattle.sheet.specs.Sheet.{Said, candidatesAre, verticesAre, slicesAre, loopsAre, refusedWith, apartInBox, LoopRooms, Case, Holds, Answers, sheet}
 
 -- ---- what the computation opens, under one name each
 
@@ -70,11 +70,11 @@ unfolding numbers vertexAt wrap outlineAt forwardAt turnedAt invertedAt vertexOf
 views = tt
 
 cutting : Unit {0}
-unfolding views cuts.pointAt hitCut moved markedEnd lapCut cutOf distSquared distance sooner earlier insert ordered orderOf codeOf cutNumbers cutPoints flatMap
+unfolding views pointAt hitCut moved markedEnd lapCut cutOf distSquared distance sooner earlier insert ordered orderOf cutNumbers cutPoints flatMap
 cutting = tt
 
 slicing : Unit {0}
-unfolding cutting slices.pointAt sameNext slices.firstFrom firstCut traverseFrom traverseOf sliceOf pieceOf walkOf walked walkAt candidateAt candidatesTo slices.candidatesOf walkLost lostTo anyWalkLost
+unfolding cutting sameNext slices.firstFrom firstCut traverseFrom traverseOf sliceOf pieceOf walkOf walked walkAt candidateAt candidatesTo slices.candidatesOf walkLost lostTo anyWalkLost
 slicing = tt
 
 pruning : Unit {0}
@@ -90,11 +90,11 @@ unfolding views pruning rounds addVertex addFirst addView dropLast ofFirst slice
 stitching = tt
 
 refusals : Unit {0}
-unfolding firstOf lengthFault sizeFault sourceFault tooMany cutRoomFault cutLengthFault candidatesRefusal pruneRows.tooMany codesKnown roomFault inputRows pruneRefusal knownSource sourcesKnown startsInside offsetsInside startsFault stitchRefusal viewVertexRefusal singleRefusal
+unfolding firstOf lengthFault sizeFault sourceFault tooMany cutRoomFault cutLengthFault candidatesRefusal pruneRows.tooMany codesKnown roomFault inputRows pruneRefusal sourcesKnown startsInside offsetsInside startsFault stitchRefusal viewVertexRefusal singleRefusal
 refusals = tt
 
 -- ---- the theorem of the definitions
-pub sheet-holds : Each (λ (c : Case). Each Holds (c .says)) sheet
+pub sheet-holds : All (λ (c : Case). All Holds (c .says)) sheet
 unfolding slicing pruning stitching refusals
 sheet-holds = (
   ((refl, refl), tt),
@@ -215,10 +215,6 @@ answers-of (loopsAre g n ends loops room) h = loops-answer g n ends loops room h
 answers-of (refusedWith g room number) h = refused-answer g room number h
 answers-of (apartInBox o vc i a b t) h = apart-answer o vc i a b t h
 
-each-map : {A : Type 0} (P Q : A → Type 0) → ((a : A) → P a → Q a) → (l : List A) → Each P l → Each Q l
-each-map P Q f [] h = tt
-each-map P Q f (a ∷ l) h = (f a (h .0), each-map P Q f l (h .1))
-
 -- ---- the theorem of the entries
-pub sheet-answers : Each (λ (c : Case). Each Answers (c .says)) sheet
-sheet-answers = each-map (λ (c : Case). Each Holds (c .says)) (λ (c : Case). Each Answers (c .says)) (λ c h. each-map Holds Answers answers-of (c .says) h) sheet sheet-holds
+pub sheet-answers : All (λ (c : Case). All Answers (c .says)) sheet
+sheet-answers = all-imp (λ (c : Case). All Holds (c .says)) (λ (c : Case). All Answers (c .says)) (λ c h. all-imp Holds Answers answers-of (c .says) h) sheet sheet-holds

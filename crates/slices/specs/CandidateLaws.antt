@@ -13,7 +13,7 @@ use Rattle.basis.specs.Number.{Tolerance}
 use Rattle.outline.specs.declared.point.Point.{Point}
 use Rattle.outline.specs.declared.point.Vertex.{Vertex}
 use Rattle.outline.specs.Points.{posOf, pointsAgree}
-use Rattle.outline.specs.Outline.{Triple, outlineAt, vertexAt}
+use Rattle.outline.specs.Outline.{Triple, outlineAt, vertexAt, pointAt}
 use Rattle.view.specs.declared.data.ViewData.{ViewData}
 use Rattle.view.specs.declared.create.Walk.{Walk}
 use Rattle.view.specs.declared.create.OneSegment.{OneSegment}
@@ -22,7 +22,7 @@ use Rattle.view.specs.Create.{viewOf, createView, singleView}
 use Rattle.slices.specs.declared.table.Next.{Next}
 use Rattle.slices.specs.declared.candidate.Candidate.{Candidate}
 use Rattle.slices.specs.declared.candidate.Candidate.the-variants.{Nothing, Slice}
-use Rattle.slices.specs.Slices.{Given, segmentAt, sameNext, firstCut, pointAt, wholeSplit, sliceOf, pieceOf, walkOf, walked, walkAt}
+use Rattle.slices.specs.Slices.{Given, segmentAt, sameNext, firstCut, wholeSplit, sliceOf, pieceOf, walkOf, walked, walkAt}
 use Rattle.slices.specs.Steps.{Place, Search, NextCut}
 use Rattle.slices.specs.TableLaws.{segment-first, table-search}
 
@@ -69,7 +69,7 @@ module _ (g : Given) (first : List ℕ) (p : ℕ) (here : Place g first p) where
 
   pub walk-of : (n : Next) (end : Point) (part start : Vertex) (r : Candidate)
       → NextCut first (g .vc) (g .count) (segmentAt (g .cutAt) p) n
-      → end ≡ pointAt (g .cut) (n .cut) → part ≡ vertexAt (g .splits) (3 * n .cut) → start ≡ wholeSplit (g .splits) p
+      → end ≡ pointAt (g .cut) (2 * n .cut) → part ≡ vertexAt (g .splits) (3 * n .cut) → start ≡ wholeSplit (g .splits) p
       → r ≡ walked (g .outline) (g .vc)
       (record {
         «start_index» = segmentAt (g .cutAt) p;

@@ -3,8 +3,4 @@ pub mod Ready
 pub mod Steps
 pub mod TableLaws
 pub mod CandidateLaws
-pub mod PutLaws
-pub mod ItemLaws
-pub mod SlicesTheorems
-pub mod RangeTheorems
 pub mod SlicesExamples

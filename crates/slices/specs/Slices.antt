@@ -4,12 +4,11 @@ use mathlib.Core.Bool.{Bool, false, not, cond, _&&_, _||_}
 use mathlib.Core.List.{List, [], _∷_, _++_, flatMap}
 use lib.ListN.{length, getD}
 use lib.Dec.{ltb, eqb}
-use lib.Ieee.{Float, nan}
+use lib.Ieee.{Float}
 use Rattle.basis.specs.Number.{Tolerance}
-use Rattle.outline.specs.declared.point.Point.{Point}
 use Rattle.outline.specs.declared.point.Vertex.{Vertex}
 use Rattle.outline.specs.Points.{posOf, vertexNumbers, pointsAgree}
-use Rattle.outline.specs.Outline.{wrap, vertexAt, outlineAt}
+use Rattle.outline.specs.Outline.{wrap, vertexAt, outlineAt, pointAt}
 use Rattle.view.specs.declared.create.Walk.{Walk}
 use Rattle.view.specs.declared.create.OneSegment.{OneSegment}
 use Rattle.view.specs.declared.create.OneSegment.the-variants as one
@@ -41,10 +40,6 @@ segmentAt cutAt p = getD cutAt (3 * p) 0
 -- it carries the overlap mark
 abbrev pub markedAt : List ℕ → ℕ → Bool
 markedAt cutAt p = eqb (getD cutAt (3 * p + 1) 0) 1
-
--- its point
-unfoldable pub pointAt : List Float → ℕ → Point
-pointAt cut p = record { x = getD cut (2 * p) nan; y = getD cut (2 * p + 1) nan }
 
 -- "per cut, the split of the running vertex at it (start part, split vertex), and per segment the split vertex of the whole segment at its last cut":
 -- three vertices a cut, of which the third is read at a segment's last cut only
@@ -101,7 +96,7 @@ walkTo g p k i =
     let q = firstCut (g .cutAt) (g .count) i in
     record {
       «start_index» = segmentAt (g .cutAt) p;
-      «end_intersect» = pointAt (g .cut) q;
+      «end_intersect» = pointAt (g .cut) (2 * q);
       «intersect_index» = i;
       «updated_start» = wholeSplit (g .splits) p;
       «traverse_count» = k;

@@ -7,12 +7,12 @@ use lib.IntN.{pos, negsuc}
 use lib.Ieee.{Float, fin, binary64, ofInt, sub, lt}
 use Rattle.basis.specs.Number.{absF, agree}
 use Rattle.outline.specs.Points.{pointsAgree}
-use Rattle.outline.specs.Outline.{vertexAt, wrap, outlineAt}
+use Rattle.outline.specs.Outline.{vertexAt, wrap, outlineAt, pointAt}
 use Rattle.view.specs.View.{vertexCount}
 use Rattle.view.specs.Create.{nearVertex, bulgeBefore, createView, singleView}
 use Rattle.slices.specs.declared.candidate.Candidate.{Candidate}
 use Rattle.slices.specs.declared.candidate.Candidate.the-variants.{Nothing, Slice}
-use Rattle.slices.specs.Slices.{Given, given, pointAt, sameNext, firstFrom, firstCut, traverseFrom, traverseOf, sliceOf, pieceOf, walkOf, walked, walkAt, candidateAt, candidatesTo, candidatesOf, candCount, candNumbers, candShapes, probeNumbers}
+use Rattle.slices.specs.Slices.{Given, given, sameNext, firstFrom, firstCut, traverseFrom, traverseOf, sliceOf, pieceOf, walkOf, walked, walkAt, candidateAt, candidatesTo, candidatesOf, candCount, candNumbers, candShapes, probeNumbers}
 
 -- whole numbers as floats, and t = 1/1024
 abbrev pub floats : List ℕ → List Float

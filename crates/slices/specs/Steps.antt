@@ -63,10 +63,6 @@ pub record NextCut (first : List ℕ) (vc count s : ℕ) (r : Next) : Type 0 whe
 
 -- ---- a place
 
--- its point is in the list of points
-pub record PointFit (cut : List Float) (p : ℕ) : Type 0 where
-  pub inside : 2 * p + 1 < length cut
-
 -- it is one of the cuts
 pub record NextFit (cutAt : List ℕ) (count p : ℕ) : Type 0 where
   pub inside : 3 * count ≤ length cutAt
@@ -111,9 +107,9 @@ pub record Tabled (g : Given) (first : List ℕ) (l : Rooms) : Type 0 where
   pub fill : Fill first (g .vc) (g .cutAt) (g .count)
 
 -- so few vertices that a small table will do
-pub record Few (g : Given) (l : Rooms) : Type 0 where
+pub record Few (most : ℕ) (g : Given) (l : Rooms) : Type 0 where
   pub ready : Ready g l
-  pub few : g .vc ≤ 64
+  pub few : g .vc ≤ most
 
 -- the whole loop
 pub record Writing (g : Given) (first : List ℕ) (l : Rooms) : Type 0 where

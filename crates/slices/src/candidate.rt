@@ -1,11 +1,10 @@
 // What the cut at a place of the order gives: nothing, a piece or a walk.
 ghost use mathlib.Core.Path.{_≡_};
-ghost use Rattle.slices.specs.Slices.{given, pointAt, sameNext, pieceOf, walked, walkAt, candidateAt};
-ghost use Rattle.slices.specs.Steps.{PointFit, NextFit, WalkReady, Place};
+ghost use Rattle.slices.specs.Slices.{given, sameNext, pieceOf, walked, walkAt, candidateAt};
+ghost use Rattle.slices.specs.Steps.{NextFit, WalkReady, Place};
 use crate::table;
 use basis::number::Tolerance;
 use outline::point;
-use outline::point::Point;
 use outline::point::Vertex;
 use outline::read;
 use view::create;
@@ -17,17 +16,6 @@ use view::data::ViewData;
 pub enum Candidate {
     Nothing,
     Slice(ViewData, Vertex, Vertex),
-}
-
-// The point of the cut at place p.
-fn point_at(cut: &[f64], p: usize) -> Point
-    requires { ⌜ PointFit (now cut) p ⌝ }
-    ensures { λ r. ⌜ r ≡ pointAt (now (cut .entry)) p ⌝ }
-{
-    Point {
-        x: cut[2 * p],
-        y: cut[2 * p + 1],
-    }
 }
 
 // The next cut in the order is on the same segment.
@@ -77,7 +65,7 @@ fn walk(
 {
     let s = cut_at[3 * p];
     let next = table::next_cut(first, vc, count, s);
-    let end = point_at(cut, next.cut);
+    let end = read::point_at(cut, 2 * next.cut);
     let part = read::vertex_at(splits, 3 * next.cut);
     let start = read::vertex_at(splits, 3 * p + 2);
     let w = Walk {
@@ -92,7 +80,7 @@ fn walk(
 }
 
 // What the cut at place p gives: nothing where it is marked, the piece to its neighbour, or the walk.
-pub(crate) fn candidate_at(
+pub fn candidate_at(
     outline: &[f64],
     vc: usize,
     cut_at: &[usize],

@@ -1,5 +1,4 @@
 // By segment the place of its first cut, and the search for the next segment that has one.
-ghost use mathlib.Core.Path.{_≡_};
 ghost use Rattle.slices.specs.Steps.{Fill, FirstTable, Search, Found, NextCut};
 use outline::read;
 
@@ -11,7 +10,7 @@ pub(crate) struct Next {
 }
 
 // Writes the table: at each segment the place of its first cut. A segment with no cut keeps `count`, which the table holds everywhere at the start.
-pub(crate) fn fill_first(first: &mut [usize], vc: usize, cut_at: &[usize], count: usize)
+pub fn fill_first(first: &mut [usize], vc: usize, cut_at: &[usize], count: usize)
     requires { ⌜ Fill (now first) vc (now «cut_at») count ⌝ }
     ensures { λ _. ⌜ FirstTable (now (first .exit)) vc (now («cut_at» .entry)) count ⌝ }
 {

@@ -1,5 +1,3 @@
-pub mod Ready
-pub mod Between
-pub mod WalkLaws
+pub mod Lent
 pub mod TurnLaws
 pub mod WriteLaws

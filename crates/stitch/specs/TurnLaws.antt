@@ -14,22 +14,21 @@ use Rattle.outline.specs.Points.{vertexNumbers}
 use Rattle.chain.specs.Chain.{dropLast}
 use Rattle.chain.specs.Held.{chainOf}
 use Rattle.chain.specs.RestLaws.{chain-length, chain-less, chain-numbers, rest-lent, rest-front, rest-back}
-use Rattle.stitch.specs.declared.walk.ChainEnd.{ChainEnd}
+use Rattle.walk.specs.declared.rounds.ChainEnd.{ChainEnd}
 use Rattle.stitch.specs.declared.turn.Tally.{Tally}
 use Rattle.run.specs.Run.{Ending, closed, tooSmall, noCandidate, noSelection, spent, Chain, Stitched, opened, added, begun, turn, turns, slicesOf, orderOf}
 use Rattle.run.specs.Stitch.{Given, sliceView, rulesOf, loopOf, loopsOf, howOf, totals, sumBelow, weightAt, needFor, needOf}
-use Rattle.run.specs.Demand3.{sumOver, leaves}
+use Rattle.run.specs.Demand3.{sumOver, leaves, finished}
 use Rattle.run.specs.SumLaws.{sum-append}
 use Rattle.basis.specs.FlatLaws.{flat-snoc}
 use Rattle.run.specs.TallyLaws.{tally-most}
 use Rattle.run.specs.RunLaws.{going-opened, kept-turns}
-use Rattle.run.specs.NeedLaws.{finished}
 use Rattle.run.specs.StitchLaws.{among}
 use Rattle.run.specs.ReportLaws.{order-snoc, loops-snoc, totals-snoc, totals-length, sum-map, flat-length, loops-size, loops-few, chains-few}
 use Rattle.round.specs.Ready.{Sound}
-use Rattle.stitch.specs.Ready.{Begun, chainsTo, orderTo, mostOf, Opening, chainAt, Walked}
-use Rattle.stitch.specs.Between.{numbersOf, endsOf, chainEndsOf, howsOf, Lists, lists, Holds, EndFit, EndListed, loopEnd, tallyAfter, endsAfter, LoopFit, LoopListed, TurnFit, Turned}
-use Rattle.stitch.specs.WalkLaws.{begins-fit, begun-put}
+use Rattle.walk.specs.Ready.{Begun, chainsTo, orderTo, mostOf, Opening, chainAt, Walked}
+use Rattle.stitch.specs.Lent.{numbersOf, endsOf, chainEndsOf, howsOf, Lists, lists, Holds, EndFit, EndListed, loopEnd, tallyAfter, endsAfter, LoopFit, LoopListed, TurnFit, Turned}
+use Rattle.walk.specs.WalkLaws.{begins-fit, begun-put}
 
 -- ---- the need
 
@@ -282,7 +281,7 @@ module _ {g : Given} {i : ℕ} {points : List Float} {visited : List Bool} {w : 
           (begun-put (w .chains) (howsOf l) (x .chainHow) (g .slices) (x .chainHow) (r .how) (t .holds .chainHow) chains-low (t .long .chainHow))
 
       holds-by : Left (c .ending) → Holds g (l ++ (c ∷ [])) x w′ x′
-      unfolding tallyAfter endsAfter
+      unfolding tallyAfter endsAfter howOf
       holds-by (nothing h none gone) =
           let y : eqb (r .how) 0 ≡ false = ap (λ (z : ℕ). eqb z 0) how-is ∙ h in
           let v : w′ ≡ record { done = w .done; loops = w .loops; chains = w .chains + 1; rounds = r .rounds } = n .tally ∙ rw y in

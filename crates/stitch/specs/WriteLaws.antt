@@ -18,9 +18,9 @@ use Rattle.run.specs.RunLaws.{same-length}
 use Rattle.run.specs.StitchLaws.{among}
 use Rattle.run.specs.Demand3Theorems.{room-items, end-items, chain-items, how-items, chains-at-most, loops-at-most}
 use Rattle.round.specs.Ready.{Sound, Points}
-use Rattle.stitch.specs.Ready.{Begun, chainsTo}
-use Rattle.stitch.specs.Between.{Lists, Long, Holds, TurnFit, Turned, TurnsFit, AllTurned, NeedFit, RestFit, RestCleared, StitchFit, Written}
-use Rattle.stitch.specs.WalkLaws.{begun-none, begun-then}
+use Rattle.walk.specs.Ready.{Begun, chainsTo}
+use Rattle.stitch.specs.Lent.{Lists, Long, Holds, TurnFit, Turned, TurnsFit, AllTurned, NeedFit, RestFit, RestCleared, StitchFit, Few, Tabled, Written}
+use Rattle.walk.specs.WalkLaws.{begun-none, begun-then}
 
 -- ---- all turns
 
@@ -190,14 +190,22 @@ take-marks zero m h = refl
 take-marks (suc n) zero h = absurd (not-suc-le-zero h)
 take-marks (suc n) (suc m) h = ap (λ (l : List Bool). false ∷ l) (take-marks n m (le-of-suc-le-suc h))
 
-pub marks-length : (n : ℕ) → n ≤ 1792 → n ≡ length (take n (replicate 1792 false))
-marks-length n h = sym (length-take-le n (replicate 1792 false) h)
+pub marks-length : (most n : ℕ) → n ≤ most → n ≡ length (take n (replicate most false))
+marks-length most n h = sym (length-take-le n (replicate most false) (rw (length-replicate most false) h))
+
+-- lists of their own for at most so many slices
+pub tabled-of : (most : ℕ) (g : Given) (x : Lists) → Few most g x → (points : List Float) (visited : List Bool) → length points ≡ 2 * most
+    → visited ≡ take (g .slices) (replicate most false) → Tabled g points visited x
+tabled-of most g x f points visited e m =
+    record { fit = f .fit; size = omega (arith, f .few); marks = m ∙ take-marks (g .slices) most (f .few) }
+
+pub few-of : (g : Given) (x : Lists) → StitchFit g x → Few 1792 g x
+few-of g x f = record { fit = f; few = f .sound .few }
 
 module _ (g : Given) (x : Lists) (f : StitchFit g x) where
-  pub begin-turns : (points : List Float) (visited : List Bool) → Points g points → visited ≡ take (g .slices) (replicate 1792 false) → TurnsFit g points visited x
-  begin-turns points visited t e =
-      let m : visited ≡ replicate (g .slices) false = e ∙ take-marks (g .slices) 1792 (f .sound .few) in
-      record { sound = f .sound; table = t; long = f .long; marks = m; marked = ap length m ∙ length-replicate (g .slices) false }
+  pub begin-turns : (points points′ : List Float) (visited : List Bool) → Tabled g points visited x → Points g points′ → TurnsFit g points′ visited x
+  begin-turns points points′ visited d t =
+      record { sound = f .sound; table = t; long = f .long; marks = d .marks; marked = ap length (d .marks) ∙ length-replicate (g .slices) false }
 
   pub need-fit : NeedFit (g .sliceAt) (g .slices)
   unfolding sliceView

@@ -1,4 +1,3 @@
 // The stitch: chains of rounds, loops.
 pub mod turn;
-pub mod walk;
 pub mod write;

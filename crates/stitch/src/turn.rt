@@ -1,10 +1,10 @@
 // Document 01: "A chain starts at the lowest unvisited slice." Each slice has its turn, in ascending number.
 ghost use Rattle.round.specs.Ready.{planned};
-ghost use Rattle.stitch.specs.Between.{lists, EndFit, EndListed, LoopFit, LoopListed, TurnFit, Turned, TurnsFit, AllTurned};
-use crate::walk;
-use crate::walk::ChainEnd;
+ghost use Rattle.stitch.specs.Lent.{lists, EndFit, EndListed, LoopFit, LoopListed, TurnFit, Turned, TurnsFit, AllTurned};
 use round::plan::Plan;
 use round::step;
+use walk::rounds;
+use walk::rounds::ChainEnd;
 
 // What is finished: vertices of the loops, loops, chains, rounds.
 pub(crate) struct Tally {
@@ -59,7 +59,7 @@ fn take_turn(
     outline2: &[f64],
     slice_at: &[usize],
     slice: &[f64],
-    points: &[f64; 3584],
+    points: &[f64],
     p: Plan,
     w: Tally,
     i: usize,
@@ -71,7 +71,7 @@ fn take_turn(
         return w;
     }
     let a = 3 * w.done;
-    let e = walk::walk_chain(
+    let e = rounds::walk_chain(
         visited,
         &mut room[a..],
         chain,
@@ -100,7 +100,7 @@ pub(crate) fn take_turns(
     outline2: &[f64],
     slice_at: &[usize],
     slice: &[f64],
-    points: &[f64; 3584],
+    points: &[f64],
     p: Plan,
 ) -> Tally
     requires { ⌜ TurnsFit (planned (now outline1) (now outline2) (now «slice_at») (now slice) p) (now points) (now visited) (lists (now room) (now ends) (now chain) (now «chain_ends») (now «chain_how»)) ⌝ }

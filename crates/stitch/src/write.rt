@@ -1,7 +1,8 @@
 // The stitch over lists that have been looked at: what it writes into the lent room and what it reports.
 ghost use mathlib.Core.Path.{_≡_};
+ghost use Rattle.round.specs.Ready.{planned};
 ghost use Rattle.run.specs.Stitch.{given, needOf};
-ghost use Rattle.stitch.specs.Between.{lists, NeedFit, RestFit, RestCleared, StitchFit, Written};
+ghost use Rattle.stitch.specs.Lent.{lists, NeedFit, RestFit, RestCleared, StitchFit, Few, Tabled, Written};
 use crate::turn;
 use crate::turn::Tally;
 use basis::number::Tolerance;
@@ -56,6 +57,115 @@ fn clear_rest(
     room::clear_counts(chain_how, w.chains, count);
 }
 
+// The stitch by a table of start points and marks that are long enough. Nothing has been visited.
+fn write_with(
+    points: &mut [f64],
+    visited: &mut [bool],
+    outline1: &[f64],
+    outline2: &[f64],
+    slice_at: &[usize],
+    slice: &[f64],
+    p: Plan,
+    room: &mut [f64],
+    ends: &mut [usize],
+    chain: &mut [usize],
+    chain_ends: &mut [usize],
+    chain_how: &mut [usize],
+) -> Stitched
+    requires { ⌜ Tabled (planned (now outline1) (now outline2) (now «slice_at») (now slice) p) (now points) (now visited) (lists (now room) (now ends) (now chain) (now «chain_ends») (now «chain_how»)) ⌝ }
+    ensures { λ r. ⌜ Written (planned (now (outline1 .entry)) (now (outline2 .entry)) (now («slice_at» .entry)) (now (slice .entry)) p) (lists (now (room .entry)) (now (ends .entry)) (now (chain .entry)) (now («chain_ends» .entry)) (now («chain_how» .entry))) r (lists (now (room .exit)) (now (ends .exit)) (now (chain .exit)) (now («chain_ends» .exit)) (now («chain_how» .exit))) ⌝ }
+{
+    slice::fill_points(points, outline1, outline2, slice_at, slice, p);
+    let w = turn::take_turns(
+        visited,
+        room,
+        ends,
+        chain,
+        chain_ends,
+        chain_how,
+        outline1,
+        outline2,
+        slice_at,
+        slice,
+        points,
+        p,
+    );
+    let need = room_need(slice_at, p.count);
+    clear_rest(room, ends, chain, chain_ends, chain_how, w, need, p.count);
+    Stitched {
+        rounds: w.rounds,
+        loops: w.loops,
+        chains: w.chains,
+    }
+}
+
+// The same by small lists, which cost little to set up, and by lists for the most.
+fn write_few(
+    outline1: &[f64],
+    outline2: &[f64],
+    slice_at: &[usize],
+    slice: &[f64],
+    p: Plan,
+    room: &mut [f64],
+    ends: &mut [usize],
+    chain: &mut [usize],
+    chain_ends: &mut [usize],
+    chain_how: &mut [usize],
+) -> Stitched
+    requires { ⌜ Few 64 (planned (now outline1) (now outline2) (now «slice_at») (now slice) p) (lists (now room) (now ends) (now chain) (now «chain_ends») (now «chain_how»)) ⌝ }
+    ensures { λ r. ⌜ Written (planned (now (outline1 .entry)) (now (outline2 .entry)) (now («slice_at» .entry)) (now (slice .entry)) p) (lists (now (room .entry)) (now (ends .entry)) (now (chain .entry)) (now («chain_ends» .entry)) (now («chain_how» .entry))) r (lists (now (room .exit)) (now (ends .exit)) (now (chain .exit)) (now («chain_ends» .exit)) (now («chain_how» .exit))) ⌝ }
+{
+    let mut points = [0.0; 128];
+    let mut visited = [false; 64];
+    write_with(
+        &mut points,
+        &mut visited[..p.count],
+        outline1,
+        outline2,
+        slice_at,
+        slice,
+        p,
+        room,
+        ends,
+        chain,
+        chain_ends,
+        chain_how,
+    )
+}
+
+fn write_many(
+    outline1: &[f64],
+    outline2: &[f64],
+    slice_at: &[usize],
+    slice: &[f64],
+    p: Plan,
+    room: &mut [f64],
+    ends: &mut [usize],
+    chain: &mut [usize],
+    chain_ends: &mut [usize],
+    chain_how: &mut [usize],
+) -> Stitched
+    requires { ⌜ StitchFit (planned (now outline1) (now outline2) (now «slice_at») (now slice) p) (lists (now room) (now ends) (now chain) (now «chain_ends») (now «chain_how»)) ⌝ }
+    ensures { λ r. ⌜ Written (planned (now (outline1 .entry)) (now (outline2 .entry)) (now («slice_at» .entry)) (now (slice .entry)) p) (lists (now (room .entry)) (now (ends .entry)) (now (chain .entry)) (now («chain_ends» .entry)) (now («chain_how» .entry))) r (lists (now (room .exit)) (now (ends .exit)) (now (chain .exit)) (now («chain_ends» .exit)) (now («chain_how» .exit))) ⌝ }
+{
+    let mut points = [0.0; 3584];
+    let mut visited = [false; 1792];
+    write_with(
+        &mut points,
+        &mut visited[..p.count],
+        outline1,
+        outline2,
+        slice_at,
+        slice,
+        p,
+        room,
+        ends,
+        chain,
+        chain_ends,
+        chain_how,
+    )
+}
+
 // Stitches the slices: the loops' vertices into `room`, each loop's end, each chain's slices, where they end and how it ended.
 pub fn write_stitch(
     outline1: &[f64],
@@ -85,28 +195,30 @@ pub fn write_stitch(
         selector,
         t,
     };
-    let mut points = [0.0; 3584];
-    slice::fill_points(&mut points, outline1, outline2, slice_at, slice, p);
-    let mut visited = [false; 1792];
-    let w = turn::take_turns(
-        &mut visited[..count],
+    if count <= 64 {
+        return write_few(
+            outline1,
+            outline2,
+            slice_at,
+            slice,
+            p,
+            room,
+            ends,
+            chain,
+            chain_ends,
+            chain_how,
+        );
+    }
+    write_many(
+        outline1,
+        outline2,
+        slice_at,
+        slice,
+        p,
         room,
         ends,
         chain,
         chain_ends,
         chain_how,
-        outline1,
-        outline2,
-        slice_at,
-        slice,
-        &points,
-        p,
-    );
-    let need = room_need(slice_at, count);
-    clear_rest(room, ends, chain, chain_ends, chain_how, w, need, count);
-    Stitched {
-        rounds: w.rounds,
-        loops: w.loops,
-        chains: w.chains,
-    }
+    )
 }

@@ -2,5 +2,4 @@ pub mod Answers
 pub mod StitchRows
 pub mod StitchEntry
 pub mod StitchEntryLaws
-pub mod AreaEntry
 pub mod StitchEntryExamples

@@ -1,20 +1,20 @@
 -- T3's union is accepted with room for 9 vertices, and T9: with room for 8 it is refused with number 9.
 use mathlib.Core.Path.{_≡_, refl}
-use lib.Ieee.{ofBits, sub, add, neg, lt, le}
+use lib.Ieee.{ofBits, lt, le}
 use Rattle.basis.specs.Number.{absF, within, tolerable}
 use Rattle.basis.specs.All.{allOf}
 use Rattle.basis.specs.Each.{eachTo, placesBelow}
-use Rattle.basis.specs.Refuse.{firstOf, lengthFault, sizeFault}
+use Rattle.basis.specs.Refuse.{firstOf, lengthFault, sizeFault, sourceFault}
 use Rattle.run.specs.Demand3Theorems.{no-rounds-fault}
-use Rattle.run.specs.Stitch.{sliceOffset, sumBelow, weightAt, needFor, needOf, roundsFault}
+use Rattle.run.specs.Stitch.{sliceOffset, sumBelow, weightAt, needFor, needOf}
 use Rattle.run.specs.StitchExamples.{union}
-use Rattle.stitch_entries.specs.StitchRows.{knownSource, sourcesKnown, startsInside, offsetsInside, startsFault}
+use Rattle.stitch_entries.specs.StitchRows.{sourcesKnown, startsInside, offsetsInside, startsFault}
 use Rattle.stitch_entries.specs.StitchEntry.{stitchRefusal}
 
 pub t3-accepted : stitchRefusal union 27 2 2 2 2 ≡ 0
-unfolding stitchRefusal firstOf lengthFault sizeFault knownSource sourcesKnown eachTo placesBelow tolerable allOf within absF ofBits lt le startsInside offsetsInside startsFault needOf needFor sumBelow weightAt sliceOffset
+unfolding stitchRefusal firstOf lengthFault sizeFault sourceFault sourcesKnown eachTo placesBelow tolerable allOf within absF ofBits lt le startsInside offsetsInside startsFault needOf needFor sumBelow weightAt sliceOffset
 t3-accepted = rw (no-rounds-fault union)
 
 pub t9 : stitchRefusal union 24 2 2 2 2 ≡ 9
-unfolding stitchRefusal firstOf lengthFault sizeFault knownSource sourcesKnown eachTo placesBelow tolerable allOf within absF ofBits lt le startsInside offsetsInside startsFault needOf needFor sumBelow weightAt sliceOffset
+unfolding stitchRefusal firstOf lengthFault sizeFault sourceFault sourcesKnown eachTo placesBelow tolerable allOf within absF ofBits lt le startsInside offsetsInside startsFault needOf needFor sumBelow weightAt sliceOffset
 t9 = refl

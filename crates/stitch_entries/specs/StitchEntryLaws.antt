@@ -11,19 +11,19 @@ use lib.Ieee.{Float}
 use borrow.Author.Tests.{ltb-true, ltb-false, leb-true, not-false}
 use Rattle.basis.specs.Number.{Tolerance}
 use Rattle.basis.specs.EachLaws.{each-at}
-use Rattle.basis.specs.Refuse.{Row}
-use Rattle.basis.specs.RefuseLaws.{Clear, clear, clear-left, clear-right, firstFrom, first-from, found-stays, orElse, then-rows, length-ok, size-ok, choice-ok, answer-no, answer-yes}
+use Rattle.basis.specs.Refuse.{Row, firstFrom, orElse, countFor}
+use Rattle.basis.specs.RefuseLaws.{Clear, clear, clear-left, clear-right, first-from, found-stays, then-rows, length-ok, size-ok, choice-ok, answer-no, answer-yes}
 use Rattle.outline.specs.Outline.{Whole}
 use Rattle.view.specs.View.{Fit}
 use Rattle.select.specs.declared.class.Starts.{Starts}
 use Rattle.run.specs.Stitch.{Given, given, ofFirst, sliceOffset, sliceView, sliceOutline, sliceCount, roundCount, loopCount, chainCount}
 use Rattle.run.specs.Demand3Theorems.{no-rounds-fault}
 use Rattle.round.specs.Ready.{Sound}
-use Rattle.stitch.specs.Between.{Lists, NeedFit, StitchFit, Written}
+use Rattle.stitch.specs.Lent.{Lists, NeedFit, StitchFit, Written}
 use Rattle.stitch.specs.declared.write.Stitched.{Stitched}
 use Rattle.stitch_entries.specs.declared.answer.StitchAnswer.{StitchAnswer}
 use Rattle.stitch_entries.specs.Answers.{stitchRefused, stitchGiven}
-use Rattle.stitch_entries.specs.StitchRows.{listRows, codeRows, numberRows, countFor, startsInside, offsetsInside, indexRows, roomRows}
+use Rattle.stitch_entries.specs.StitchRows.{listRows, codeRows, numberRows, startsInside, offsetsInside, indexRows, roomRows}
 use Rattle.stitch_entries.specs.StitchEntry.{shapeRows, guardRows, stitchRefusal, stitchNumber, StitchLeft}
 
 module _ (g : Given) where

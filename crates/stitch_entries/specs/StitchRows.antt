@@ -1,17 +1,17 @@
 -- The refusals of `mask_stitch`: a table in parts.
 use Prim.Native.Nat.{ℕ, _+_, _*_, _/_, _≤_, _<_}
-use mathlib.Core.Bool.{Bool, not, _||_, cond}
+use mathlib.Core.Bool.{Bool, not, _||_}
 use mathlib.Core.Path.{_≡_, sym, _∙_}
 use mathlib.Core.List.{List, [], _∷_}
 use native.Mathlib.Omega.{arith}
 use lib.ListN.{length, getD}
-use lib.Dec.{ltb, leb, eqb}
+use lib.Dec.{ltb, leb}
 use lib.Ieee.{Float}
 use Rattle.basis.specs.Number.{Tolerance, allWithin, tolerable}
 use borrow.Author.Tests.{ltb-true, ltb-false, lt-ltb, le-ltb}
 use Rattle.basis.specs.Choice.{by-test}
 use Rattle.basis.specs.Each.{eachTo, placesBelow}
-use Rattle.basis.specs.Refuse.{Row, row, lengthFault, sizeFault, choiceFault}
+use Rattle.basis.specs.Refuse.{Row, row, lengthFault, sizeFault, choiceFault, sourceFault, countFor}
 use Rattle.select.specs.declared.class.Starts.{Starts}
 use Rattle.run.specs.Stitch.{needOf}
 
@@ -25,12 +25,8 @@ listRows len1 vc1 len2 vc2 at numbers count =
     ∷ row (ltb 1792 count) 1
     ∷ []
 
--- a source is 1 or 2, and so is every slice's
-unfoldable pub knownSource : ℕ → Bool
-knownSource source = eqb source 1 || eqb source 2
-
 unfoldable pub sourcesKnown : List ℕ → Bool
-sourcesKnown at = eachTo (λ i. knownSource (getD at (4 * i) 0)) (length at / 4)
+sourcesKnown at = eachTo (λ i. not (sourceFault (getD at (4 * i) 0))) (length at / 4)
 
 -- 2 and 3: a slice's first code is its source, its second the yes/no of inverted
 abbrev pub codeRows : ℕ → ℕ → ℕ → List ℕ → List Row
@@ -50,10 +46,6 @@ numberRows t o1 o2 numbers =
     ∷ row (not (allWithin o2)) 5
     ∷ row (not (allWithin numbers)) 5
     ∷ []
-
--- the vertex count of a slice's own outline
-abbrev pub countFor : ℕ → ℕ → ℕ → ℕ
-countFor vc1 vc2 source = cond (eqb source 1) vc1 vc2
 
 unfoldable pub startsInside : ℕ → ℕ → List ℕ → Bool
 startsInside vc1 vc2 at = eachTo (λ i. ltb (getD at (4 * i + 2) 0) (countFor vc1 vc2 (getD at (4 * i) 0))) (length at / 4)

@@ -11,7 +11,7 @@ pub struct StitchAnswer {
     pub chains: usize,
 }
 
-pub fn stitch_refused(number: u32) -> StitchAnswer
+pub(crate) fn stitch_refused(number: u32) -> StitchAnswer
     ensures { λ r. ⌜ r ≡ stitchRefused number ⌝ }
 {
     StitchAnswer {
@@ -22,7 +22,7 @@ pub fn stitch_refused(number: u32) -> StitchAnswer
     }
 }
 
-pub fn stitch_given(s: Stitched) -> StitchAnswer
+pub(crate) fn stitch_given(s: Stitched) -> StitchAnswer
     ensures { λ r. ⌜ r ≡ stitchGiven (s .rounds) (s .loops) (s .chains) ⌝ }
 {
     StitchAnswer {

@@ -1,8 +1,9 @@
 // The refusals of `mask_stitch`, part by part of their table. Each part goes on from what was found so far.
 ghost use mathlib.Core.Path.{_≡_};
-ghost use Rattle.basis.specs.RefuseLaws.{firstFrom};
-ghost use Rattle.stitch.specs.Between.{NeedFit};
-ghost use Rattle.stitch_entries.specs.StitchRows.{listRows, knownSource, sourcesKnown, codeRows, numberRows, countFor, startsInside, offsetsInside, startsFault, indexRows, roomRows};
+ghost use mathlib.Core.Bool.{not};
+ghost use Rattle.basis.specs.Refuse.{firstFrom, countFor, sourceFault};
+ghost use Rattle.stitch.specs.Lent.{NeedFit};
+ghost use Rattle.stitch_entries.specs.StitchRows.{listRows, sourcesKnown, codeRows, numberRows, startsInside, offsetsInside, startsFault, indexRows, roomRows};
 use basis::items;
 use basis::number;
 use basis::number::Tolerance;
@@ -33,7 +34,7 @@ pub fn list_refusal(
 
 // A source that is 1 or 2.
 fn known_source(source: usize) -> bool
-    ensures { λ r. ⌜ r ≡ knownSource source ⌝ }
+    ensures { λ r. ⌜ r ≡ not (sourceFault source) ⌝ }
 {
     source == 1 || source == 2
 }

@@ -1,5 +1,4 @@
-// The entries of the stitch and of the area pass: what is refused, then one call down. The crate `mask` exports them.
+// The entry over the stitch: what is refused, then one call down. The crate `mask` exports it.
 pub mod answer;
-pub mod areas;
 pub mod faults;
 pub mod stitching;

@@ -6,7 +6,7 @@ use Rattle.basis.specs.Number.{+0}
 use Rattle.basis.specs.Refuse.{answer}
 use Rattle.basis.specs.Room.{roomOf}
 use Rattle.run.specs.Stitch.{Given, needOf, roundCount, loopCount, chainCount, roomItems, endItems, chainItems, chainEndItems, howItems}
-use Rattle.stitch.specs.Between.{Lists}
+use Rattle.stitch.specs.Lent.{Lists}
 use Rattle.stitch_entries.specs.declared.answer.StitchAnswer.{StitchAnswer}
 use Rattle.stitch_entries.specs.StitchEntry.{stitchNumber}
 use Rattle.record.specs.Form.{form1}

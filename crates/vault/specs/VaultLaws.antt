@@ -12,7 +12,7 @@ use Rattle.basis.specs.Room.{roomOf}
 use Rattle.basis.specs.RoomLaws.{room-front}
 use Rattle.select.specs.declared.class.Starts.{Starts}
 use Rattle.run.specs.Stitch.{Given, given, needOf, roundCount, loopCount, chainCount, roomItems, endItems, chainItems, chainEndItems, howItems}
-use Rattle.stitch.specs.Between.{Lists}
+use Rattle.stitch.specs.Lent.{Lists}
 use Rattle.stitch_entries.specs.declared.answer.StitchAnswer.{StitchAnswer}
 use Rattle.stitch_entries.specs.Answers.{stitchRefused, stitchGiven}
 use Rattle.stitch_entries.specs.StitchEntry.{stitchNumber, StitchLeft}

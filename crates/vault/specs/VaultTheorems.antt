@@ -10,12 +10,12 @@ use lib.Dec.{eqb}
 use lib.ListN.{length, getD}
 use Rattle.basis.specs.Choice.{by-test}
 use Rattle.basis.specs.EachLaws.{each-at}
-use Rattle.basis.specs.Refuse.{Row, firstOf, answer}
+use Rattle.basis.specs.Refuse.{Row, firstOf, answer, countFor}
 use Rattle.basis.specs.RefuseLaws.{Clear, clear, clear-left, clear-right, none-clear, length-ok, one-answer}
 use Rattle.run.specs.Demand3Theorems.{no-rounds-fault}
 use Rattle.run.specs.Stitch.{Given, sliceOffset, sumBelow, weightAt, needFor, needOf}
-use Rattle.stitch.specs.Between.{Lists}
-use Rattle.stitch_entries.specs.StitchRows.{listRows, codeRows, numberRows, countFor, offsetsInside, indexRows, roomRows}
+use Rattle.stitch.specs.Lent.{Lists}
+use Rattle.stitch_entries.specs.StitchRows.{listRows, codeRows, numberRows, offsetsInside, indexRows, roomRows}
 use Rattle.stitch_entries.specs.StitchEntry.{shapeRows, guardRows, stitchRefusal, stitchNumber}
 use Rattle.layout.specs.Layout.{size}
 use Rattle.record.specs.Form.{form1}

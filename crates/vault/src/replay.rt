@@ -2,7 +2,7 @@ ghost use mathlib.Core.Path.{_≡_};
 ghost use Prim.Native.Nat.{_*_};
 ghost use lib.ListN.{length, take};
 ghost use Rattle.run.specs.Stitch.{given};
-ghost use Rattle.stitch.specs.Between.{lists};
+ghost use Rattle.stitch.specs.Lent.{lists};
 ghost use Rattle.stitch_entries.specs.StitchEntry.{StitchLeft};
 ghost use Rattle.vault.specs.Vault.{replayRefused, replayOf, ReplayLeft};
 ghost use Rattle.vault.specs.Ready.{HeldFit};

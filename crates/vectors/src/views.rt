@@ -2,7 +2,7 @@
 use crate::words;
 use outline::point::Point;
 use outline::point::Vertex;
-use view_entries::answer::VerdictAnswer;
+use verdict_entries::answer::VerdictAnswer;
 use view_entries::answer::VertexAnswer;
 use view_entries::answer::ViewAnswer;
 use view_entries::input::Split;

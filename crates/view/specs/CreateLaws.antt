@@ -1,23 +1,18 @@
--- Laws by which the constructors and the verdict are proved: a callee's answer in place of its definition.
-use Prim.Native.Nat.{ℕ, _+_, _-_, _≤_, _<_}
-use mathlib.Core.Bool.{Bool, true, false, not}
-use mathlib.Core.Path.{_≡_, refl, sym, ap, _∙_}
+-- Laws by which the constructors are proved: a callee's answer in place of its definition.
+use Prim.Native.Nat.{ℕ, _+_, _-_, _<_}
+use mathlib.Core.Bool.{Bool, true, false}
+use mathlib.Core.Path.{_≡_, sym, ap, _∙_}
 use mathlib.Core.List.{List}
 use native.Mathlib.Omega.{arith}
 use lib.Ieee.{Float}
-use borrow.Author.Tests.{ne-eqb, not-false}
+use borrow.Author.Tests.{ne-eqb}
 use Rattle.basis.specs.Number.{Tolerance}
 use Rattle.outline.specs.declared.point.Point.{Point}
 use Rattle.outline.specs.declared.point.Vertex.{Vertex}
 use Rattle.outline.specs.Points.{posOf, pointsAgree}
-use Rattle.outline.specs.Outline.{Whole, Near, wrap, outlineAt}
-use Rattle.outline.specs.OutlineLaws.{wrap-lt}
-use Rattle.view.specs.declared.data.ViewData.{ViewData}
+use Rattle.outline.specs.Outline.{Whole, Near, outlineAt}
 use Rattle.view.specs.declared.create.Walk.{Walk}
-use Rattle.view.specs.declared.validate.ViewDataValidation.{ViewDataValidation}
-use Rattle.view.specs.View.{Fit}
 use Rattle.view.specs.Create.{nearVertex, bulgeBefore, createView, walkView, entireOffset, entireView, viewOf}
-use Rattle.view.specs.Validate.{Segment, Asked, onSegment, endIndex, endVerdict, startVerdict}
 
 module _ (o : List Float) (vc : ℕ) where
   pub near-of : (i : ℕ) (p q : Point) (t : Tolerance) (v : Vertex) (b : Bool) → v ≡ outlineAt o vc i → q ≡ posOf v → b ≡ pointsAgree t p q → b ≡ nearVertex o vc i p t
@@ -48,18 +43,4 @@ module _ (o : List Float) (vc : ℕ) where
   pub entire-next : (closed : Bool) (k : ℕ) → Whole o vc → k ≡ entireOffset vc closed → Near o vc (k + 1)
   entire-next closed k w e = let h = entire-lt closed k w e in record { whole = w; turn = omega arith }
 
-  -- the segment on which a view ends
-  pub end-segment : (v : ViewData) (i : ℕ) → Fit o vc v → i ≡ wrap vc (v .«start_index» + v .«end_index_offset») → Segment o vc i
-  end-segment v i f e = record { whole = f .whole; inside = omega (arith, wrap-lt vc (v .«start_index» + v .«end_index_offset») (omega arith)) }
-
-  pub start-yes : (v : ViewData) (hs he x : Bool) (i : ℕ) (r : ViewDataValidation) → x ≡ onSegment o vc (v .«start_index») (posOf (v .«updated_start»)) hs → not x ≡ false
-      → i ≡ wrap vc (v .«start_index» + v .«end_index_offset») → r ≡ endVerdict o vc v i he → r ≡ startVerdict o vc v hs he
-  unfolding startVerdict endIndex
-  start-yes v hs he x i r e n j q = simp (sym e ∙ not-false x n) (q ∙ ap (λ (k : ℕ). endVerdict o vc v k he) j)
-
-  pub asked-fit : (v : ViewData) → Asked o vc v → 2 ≤ vc → v .«end_index_offset» ≤ vc → Fit o vc v
-  asked-fit v a l m = record { whole = record { triples = a .triples; least = l; most = a .most }; starts = a .starts l; reaches = m }
-
 pub ruleset makers = (near-of, before-of, walk-on, entire-of, entire-near, entire-next)
-
-pub ruleset verdicts = (end-segment, start-yes, asked-fit)

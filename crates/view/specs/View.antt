@@ -1,7 +1,7 @@
 -- Document 01, "Vertices of a view".
 use Prim.Native.Nat.{ℕ, _+_, _-_, _≤_, _<_}
-use mathlib.Core.Bool.{Bool, cond}
-use mathlib.Core.List.{List, [], _∷_, _++_}
+use mathlib.Core.Bool.{cond}
+use mathlib.Core.List.{List, _∷_, _++_}
 use lib.Dec.{ltb, leb, eqb}
 use lib.Ieee.{Float, neg}
 use Rattle.basis.specs.Number.{+0}

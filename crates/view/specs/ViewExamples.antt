@@ -1,4 +1,4 @@
--- Closed examples of views, computed: document 01's T6 and T7, an inverted view, and each verdict once.
+-- Closed examples of views, computed: document 01's T6 and T7, and an inverted view.
 use Prim.Native.Nat.{ℕ}
 use mathlib.Core.Bool.{true, false}
 use mathlib.Core.Path.{_≡_, refl}
@@ -14,10 +14,8 @@ use Rattle.view.specs.declared.data.ViewData.{ViewData}
 use Rattle.view.specs.declared.vertex.Found.{Found}
 use Rattle.view.specs.declared.vertex.Found.the-variants as found
 use Rattle.view.specs.declared.create.Walk.{Walk}
-use Rattle.view.specs.declared.validate.ViewDataValidation.the-variants as verdict
 use Rattle.view.specs.View.{forwardAt, turnedAt, invertedAt, vertexOf, getVertex}
 use Rattle.view.specs.Create.{viewOf, nearVertex, bulgeBefore, createView}
-use Rattle.view.specs.Validate.{nearSegment, onSegment, bulgeVerdict, finalVerdict, endVerdict, endIndex, startVerdict, verdictOf}
 
 -- ---- what an example opens, under one name each: `unfolding reads` opens all that its own line does
 
@@ -33,27 +31,23 @@ creates : Unit {0}
 unfolding tests createView bulgeBefore
 creates = tt
 
-judges : Unit {0}
-unfolding tests verdictOf startVerdict endVerdict finalVerdict bulgeVerdict endIndex onSegment nearSegment
-judges = tt
-
 -- ---- the data
 
-abbrev half : Float
+abbrev pub half : Float
 half = fin false 1 (negsuc 0)
 
-abbrev two : Float
+abbrev pub two : Float
 two = fin false 1 (pos 1)
 
 -- t = 1/1024
 abbrev t : Float
 t = fin false 1 (negsuc 9)
 
-abbrev at : Float → Float → Point
+abbrev pub at : Float → Float → Point
 at px py = record { x = px; y = py }
 
 -- a vertex with bulge +0
-abbrev straight : Float → Float → Vertex
+abbrev pub straight : Float → Float → Vertex
 straight px py = record { x = px; y = py; bulge = +0 }
 
 -- a triangle (0,0) (2,0) (0,2); the second vertex has the bulge b
@@ -156,52 +150,3 @@ pub inverted-arc : (home 0 ≡ found.At (withBulge (straight +0 one) -0))
     × (home 4 ≡ found.NoVertex)
 unfolding reads
 inverted-arc = (refl, refl, refl, refl, refl)
-
--- ---- each verdict once, on a square (0,0) (2,0) (2,2) (0,2)
-
-abbrev square : List Float
-square = +0 ∷ +0 ∷ +0 ∷ two ∷ +0 ∷ +0 ∷ two ∷ two ∷ +0 ∷ +0 ∷ two ∷ +0 ∷ []
-
--- from a place on segment 0 to a point, the end bulge +0
-abbrev part : ℕ → Vertex → Point → ViewData
-part offset first end = viewOf 0 offset first +0 end
-
--- An outline of one vertex has no segments.
-pub no-segments : verdictOf (+0 ∷ +0 ∷ +0 ∷ []) 1 (part 1 (straight one +0) (at two one)) true true ≡ verdict.SourceHasNoSegments
-unfolding judges
-no-segments = refl
-
--- The offset is above the vertex count.
-pub offset-beyond : verdictOf square 4 (part 5 (straight one +0) (at two one)) true true ≡ verdict.OffsetOutOfRange 5 4
-unfolding judges
-offset-beyond = refl
-
--- The start (1,1) is near no vertex of segment 0, and the host says no.
-pub start-off : verdictOf square 4 (part 1 (straight one one) (at two one)) false true ≡ verdict.UpdatedStartNotOnSegment (at one one)
-unfolding judges
-start-off = refl
-
--- The end (1,1) is near no vertex of segment 1, and the host says no.
-pub end-off : verdictOf square 4 (part 1 (straight one +0) (at one one)) true false ≡ verdict.EndPointNotOnSegment (at one one)
-unfolding judges
-end-off = refl
-
--- The end (2,0) is the vertex that segment 1 starts with.
-pub end-on-vertex : verdictOf square 4 (part 1 (straight one +0) (at two +0)) true true ≡ verdict.EndPointOnFinalOffsetVertex (at two +0) (straight two +0)
-unfolding judges
-end-on-vertex = refl
-
--- On one segment, the end bulge is +0 and the start's 1/2.
-pub bulges-differ : verdictOf square 4 (part 0 (withBulge (straight +0 +0) half) (at one +0)) true true ≡ verdict.UpdatedBulgeDoesNotMatch +0 half
-unfolding judges
-bulges-differ = refl
-
--- From (1,0) to (2,1) the host says yes twice.
-pub valid : verdictOf square 4 (part 1 (straight one +0) (at two one)) true true ≡ verdict.IsValid
-unfolding judges
-valid = refl
-
--- From (0,0) to (2,2), both near vertices, the host is not needed.
-pub valid-near : verdictOf square 4 (part 1 (straight +0 +0) (at two two)) false false ≡ verdict.IsValid
-unfolding judges
-valid-near = refl

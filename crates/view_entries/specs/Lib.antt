@@ -4,4 +4,3 @@ pub mod ViewVertex
 pub mod CreateEntry
 pub mod SingleEntry
 pub mod EntireEntry
-pub mod ValidateEntry

@@ -1,7 +1,7 @@
 -- The entry `mask_view_vertex`: its refusals, its answer, and what acceptance gives.
 use Prim.Native.Nat.{ℕ}
 use mathlib.Core.Bool.{not}
-use mathlib.Core.Path.{_≡_, sym, ap, subst, _∙_}
+use mathlib.Core.Path.{_≡_, sym, subst, _∙_}
 use mathlib.Core.List.{List, [], _∷_}
 use lib.ListN.{length}
 use lib.Dec.{ltb, leb}
@@ -10,7 +10,6 @@ use borrow.Author.Tests.{leb-false, ltb-false}
 use Rattle.basis.specs.Number.{allWithin}
 use Rattle.basis.specs.Refuse.{Row, row, firstOf, answer, lengthFault, sizeFault, choiceFault}
 use Rattle.basis.specs.RefuseLaws.{clear, length-ok, size-ok}
-use Rattle.outline.specs.Outline.{Whole}
 use Rattle.view.specs.declared.data.ViewData.{ViewData}
 use Rattle.view.specs.declared.vertex.Found.{Found}
 use Rattle.view.specs.View.{Fit, getVertex, viewNumbers}

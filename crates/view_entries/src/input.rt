@@ -56,7 +56,7 @@ pub fn bad_view_numbers(v: View) -> bool
 }
 
 // Number 5, of all that `create` is handed beside the outline and the tolerance.
-pub fn bad_walk_numbers(w: Walk, s: Split) -> bool
+pub(crate) fn bad_walk_numbers(w: Walk, s: Split) -> bool
     ensures { λ r. ⌜ r ≡ not (allWithin (walkNumbers w s)) ⌝ }
 {
     let u = w.updated_start;
@@ -80,7 +80,7 @@ pub fn bad_walk_numbers(w: Walk, s: Split) -> bool
 }
 
 // Number 5, of a vertex and a point.
-pub fn bad_ends(u: Vertex, e: Point) -> bool
+pub(crate) fn bad_ends(u: Vertex, e: Point) -> bool
     ensures { λ r. ⌜ r ≡ not (allWithin (vertexNumbers u ++ pointNumbers e)) ⌝ }
 {
     let a = [u.x, u.y, u.bulge, e.x, e.y];

@@ -1,8 +1,7 @@
-// The five entries over views: what is refused, then one call down. The crate `mask` exports them.
+// Four entries over views: what is refused, then one call down. The crate `mask` exports them.
 pub mod answer;
 pub mod create;
 pub mod entire;
 pub mod input;
 pub mod single;
-pub mod validate;
 pub mod view_vertex;

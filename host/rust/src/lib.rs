@@ -101,11 +101,12 @@ pub use cuts::{
     candidates, cut_order, Candidate, Candidates, Cut, CutSplit, Cuts, Intersection, Intersections,
     Overlap, Overlaps, Probe, Splits,
 };
+pub use ffi::{Point, Split, Starts, Vertex};
 pub use host::{split_cuts, Host, StraightHost};
 pub use list::{Iter, List};
 pub use masks::{Combined, Masks};
-pub use outline::{Outline, Point, Source, Split, Tolerance, Vertex};
+pub use outline::{Outline, Source, Tolerance};
 pub use refusal::Refusal;
-pub use slices::{prune, Answered, Mode, Slice, Slices, Starts};
+pub use slices::{prune, Answered, Mode, Slice, Slices};
 pub use stitch::{area_pass, stitch, Chain, ChainEnd, Selector, Stitched};
 pub use view::{OnSegment, Verdict, View, Walk};

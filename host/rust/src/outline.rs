@@ -1,35 +1,13 @@
 //! Points, vertices and outlines.
 
 use crate::ffi;
-
-/// A position.
-#[repr(C)]
-#[derive(Debug, Clone, Copy, PartialEq, Default)]
-pub struct Point {
-    /// Azimuth, or what the host takes for it.
-    pub x: f64,
-    /// Elevation, or what the host takes for it.
-    pub y: f64,
-}
+use crate::{Point, Vertex};
 
 impl Point {
     /// The point at this position.
     pub const fn new(x: f64, y: f64) -> Self {
         Point { x, y }
     }
-}
-
-/// A vertex of an outline: a position, and the bulge of the segment that starts there. The bulge
-/// is 0 for a straight segment, else the segment is an arc.
-#[repr(C)]
-#[derive(Debug, Clone, Copy, PartialEq, Default)]
-pub struct Vertex {
-    /// Of its position.
-    pub x: f64,
-    /// Of its position.
-    pub y: f64,
-    /// Of the segment from here to the next vertex.
-    pub bulge: f64,
 }
 
 impl Vertex {
@@ -42,16 +20,6 @@ impl Vertex {
     pub const fn pos(self) -> Point {
         Point::new(self.x, self.y)
     }
-}
-
-/// The host's split of a segment at a point.
-#[repr(C)]
-#[derive(Debug, Clone, Copy, PartialEq, Default)]
-pub struct Split {
-    /// The segment's start, with the bulge up to the point.
-    pub updated_start: Vertex,
-    /// The point, with the bulge from there on.
-    pub split_vertex: Vertex,
 }
 
 /// Which of the two outlines.

@@ -2,7 +2,7 @@
 
 use crate::lent;
 use crate::list::{Layout, List};
-use crate::{Candidates, Overlaps, Refusal, Selector, Source, View};
+use crate::{Candidates, Overlaps, Refusal, Selector, Source, Starts, View};
 
 /// The most slices: 768 candidates of each outline, and 128 overlaps for each.
 pub(crate) const MOST_SLICES: usize = 2 * 768 + 2 * 128;
@@ -54,19 +54,6 @@ pub struct Slice {
     pub source: Source,
     /// The part, forward or inverted.
     pub view: View,
-}
-
-/// Slices come in four classes, one after the other: of outline 1, of outline 2, overlaps for 1,
-/// overlaps for 2. This says where the last three begin.
-#[repr(C)]
-#[derive(Debug, Clone, Copy, PartialEq, Eq, Default)]
-pub struct Starts {
-    /// Where the slices of outline 2 begin.
-    pub pline2: usize,
-    /// Where the overlaps for outline 1 begin.
-    pub pline1_overlapping: usize,
-    /// Where the overlaps for outline 2 begin.
-    pub pline2_overlapping: usize,
 }
 
 /// The slices of a stitch, at most 1,792, in their four classes.

@@ -8,7 +8,7 @@ use crate::{ChainEnd, Mode, Point, Refusal, Selector, Split, Starts, Vertex};
 use std::mem::{align_of, size_of};
 
 const HEADER: &str = include_str!("../../../../include/mask.h");
-const BOUNDARY: &str = include_str!("../ffi.rs");
+const BOUNDARY: &str = include_str!("archive.rs");
 
 /// The header's text without comments.
 fn header() -> String {

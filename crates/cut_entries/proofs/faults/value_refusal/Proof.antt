@@ -1,4 +1,5 @@
-use Rattle.basis.specs.RefuseLaws.{rows, firstFrom}
+use Rattle.basis.specs.Refuse.{firstFrom}
+use Rattle.basis.specs.RefuseLaws.{rows}
 use borrow.Author.Needs.{needs}
 use Rattle.cut_entries.proofs.faults.value_refusal.Statement.{statement}
 use Rattle.cut_entries.proofs.faults.value_refusal.Tie as tie
@@ -15,8 +16,8 @@ bad-source-requires c κs = search needs
 or-else-requires-2 : tie.Need-or-else-requires-2
 or-else-requires-2 c κs = search needs
 
-all-below-requires : tie.Need-all-below-requires
-all-below-requires c κs = search needs
+all-at-most-requires : tie.Need-all-at-most-requires
+all-at-most-requires c κs = search needs
 
 or-else-requires-3 : tie.Need-or-else-requires-3
 or-else-requires-3 c κs = search needs
@@ -57,7 +58,7 @@ value-refusal-spec =
     or-else-requires
     bad-source-requires
     or-else-requires-2
-    all-below-requires
+    all-at-most-requires
     or-else-requires-3
     in-tolerance-requires
     or-else-requires-4

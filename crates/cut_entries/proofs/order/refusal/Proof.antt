@@ -1,4 +1,4 @@
-use Rattle.basis.specs.RefuseLaws.{parts, firstFrom}
+use Rattle.basis.specs.RefuseLaws.{parts}
 use Rattle.cut_entries.specs.CutOrder.{cutOrderRefusal}
 use borrow.Author.Needs.{needs}
 use Rattle.cut_entries.proofs.order.refusal.Statement.{statement}

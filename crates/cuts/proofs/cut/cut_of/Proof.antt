@@ -1,6 +1,6 @@
 use Rattle.basis.specs.Choice.{cases}
 use Rattle.cuts.specs.Cuts.{cutOf}
-use Rattle.cuts.specs.CutLaws.{parts}
+use Rattle.cuts.specs.ArrivalLaws.{parts}
 use borrow.Author.Needs.{needs}
 use Rattle.cuts.proofs.cut.cut_of.Statement.{statement}
 use Rattle.cuts.proofs.cut.cut_of.Tie as tie

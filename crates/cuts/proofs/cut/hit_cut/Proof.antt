@@ -1,4 +1,4 @@
-use Rattle.cuts.specs.CutLaws.{parts}
+use Rattle.cuts.specs.ArrivalLaws.{parts}
 use borrow.Author.Needs.{needs}
 use Rattle.cuts.proofs.cut.hit_cut.Statement.{statement}
 use Rattle.cuts.proofs.cut.hit_cut.Tie as tie

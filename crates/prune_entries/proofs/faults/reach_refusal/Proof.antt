@@ -1,4 +1,5 @@
-use Rattle.basis.specs.RefuseLaws.{rows, firstFrom}
+use Rattle.basis.specs.Refuse.{firstFrom}
+use Rattle.basis.specs.RefuseLaws.{rows}
 use borrow.Author.Needs.{needs}
 use Rattle.prune_entries.proofs.faults.reach_refusal.Statement.{statement}
 use Rattle.prune_entries.proofs.faults.reach_refusal.Tie as tie

@@ -1,6 +1,7 @@
 use borrow.Author.Needs.{needs}
 use native.Mathlib.Omega.{arith}
-use Rattle.basis.specs.RefuseLaws.{rows, firstFrom}
+use Rattle.basis.specs.Refuse.{firstFrom}
+use Rattle.basis.specs.RefuseLaws.{rows}
 use Rattle.record.proofs.Heading.{mark-long, mark-wrong, mark-right, eqb-left}
 use Rattle.record.proofs.head.frame_refusal.Statement.{statement}
 use Rattle.record.proofs.head.frame_refusal.Tie as tie

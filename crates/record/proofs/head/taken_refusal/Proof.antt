@@ -1,5 +1,6 @@
 use borrow.Author.Needs.{needs}
-use Rattle.basis.specs.RefuseLaws.{rows, firstFrom}
+use Rattle.basis.specs.Refuse.{firstFrom}
+use Rattle.basis.specs.RefuseLaws.{rows}
 use Rattle.record.proofs.head.taken_refusal.Statement.{statement}
 use Rattle.record.proofs.head.taken_refusal.Tie as tie
 

@@ -15,6 +15,9 @@ shared-slice-read-s c = search needs
 next-cut-requires : tie.Need-next-cut-requires
 next-cut-requires c κs = search (needs, walks)
 
+mul-point-at : tie.Need-mul-point-at
+mul-point-at c = search needs
+
 point-at-requires : tie.Need-point-at-requires
 point-at-requires c κs = search needs
 
@@ -47,6 +50,7 @@ walk-spec =
     mul-s-2
     shared-slice-read-s
     next-cut-requires
+    mul-point-at
     point-at-requires
     mul-vertex-at
     vertex-at-requires

@@ -1,5 +1,6 @@
 use Rattle.basis.specs.Choice.{cases}
-use Rattle.stitch.specs.Between.{tallyAfter, endsAfter}
+use Rattle.run.specs.Stitch.{howOf}
+use Rattle.stitch.specs.Lent.{tallyAfter, endsAfter}
 use borrow.Author.Needs.{needs}
 use Rattle.stitch.proofs.turn.list_loop.Statement.{statement}
 use Rattle.stitch.proofs.turn.list_loop.Tie as tie
@@ -8,7 +9,7 @@ add-t7 : tie.Need-add-t7
 add-t7 c = search needs
 
 returns : tie.Need-returns
-unfolding tallyAfter endsAfter
+unfolding tallyAfter endsAfter howOf
 returns c = search (needs, cases)
 
 sub-done : tie.Need-sub-done
@@ -33,7 +34,7 @@ same-length : tie.Need-same-length
 same-length c = search needs
 
 returns-2 : tie.Need-returns-2
-unfolding tallyAfter endsAfter
+unfolding tallyAfter endsAfter howOf
 returns-2 c = search (needs, cases)
 
 pub list-loop-spec : {M : Type 1} → statement M

@@ -1,7 +1,7 @@
 use borrow.Author.Needs.{needs}
 use Prim.Native.Nat.{_-_}
 use Rattle.round.specs.Ready.{planned}
-use Rattle.stitch.specs.Between.{lists}
+use Rattle.stitch.specs.Lent.{lists}
 use Rattle.stitch.specs.WriteLaws.{Turning, turns-turn, turning}
 use Rattle.stitch.proofs.turn.take_turns.Statement.{statement}
 use Rattle.stitch.proofs.turn.take_turns.Tie as tie

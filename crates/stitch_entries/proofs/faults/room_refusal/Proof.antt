@@ -1,4 +1,5 @@
-use Rattle.basis.specs.RefuseLaws.{rows, firstFrom}
+use Rattle.basis.specs.Refuse.{firstFrom}
+use Rattle.basis.specs.RefuseLaws.{rows}
 use Rattle.stitch_entries.specs.StitchRows.{third}
 use borrow.Author.Needs.{needs}
 use Rattle.stitch_entries.proofs.faults.room_refusal.Statement.{statement}

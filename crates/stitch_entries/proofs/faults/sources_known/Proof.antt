@@ -1,16 +1,18 @@
 use borrow.Author.Needs.{needs}
-use Prim.Native.Nat.{_+_, _*_, _/_, _-_, _≤_}
+use Prim.Native.Nat.{_*_, _-_, _≤_}
+use mathlib.Core.Bool.{not}
 use mathlib.Core.Path.{_≡_, refl}
 use native.Mathlib.Omega.{arith}
-use lib.ListN.{length, getD}
+use lib.ListN.{getD}
+use Rattle.basis.specs.Refuse.{sourceFault}
 use Rattle.basis.specs.Each.{eachTo}
 use Rattle.basis.specs.EachLaws.{item-in, item-few, each-more, each-end}
-use Rattle.stitch_entries.specs.StitchRows.{knownSource, sourcesKnown}
+use Rattle.stitch_entries.specs.StitchRows.{sourcesKnown}
 use Rattle.stitch_entries.proofs.faults.sources_known.Statement.{statement}
 use Rattle.stitch_entries.proofs.faults.sources_known.Tie as tie
 
 abbrev Inv-loop : tie.InvT-loop
-Inv-loop slice-at count ok₀ i₀ ok i = (i ≤ count) × (ok ≡ eachTo (λ j. knownSource (getD slice-at (4 * j) 0)) i)
+Inv-loop slice-at count ok₀ i₀ ok i = (i ≤ count) × (ok ≡ eachTo (λ j. not (sourceFault (getD slice-at (4 * j) 0))) i)
 
 abbrev μ-loop : tie.MeasureT-loop
 μ-loop slice-at count ok₀ i₀ ok i = count - i

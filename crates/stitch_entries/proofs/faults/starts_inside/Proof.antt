@@ -1,13 +1,14 @@
 use borrow.Author.Needs.{needs}
-use Prim.Native.Nat.{_+_, _*_, _/_, _-_, _≤_}
+use Prim.Native.Nat.{_+_, _*_, _-_, _≤_}
 use mathlib.Core.Path.{_≡_, refl}
 use native.Mathlib.Omega.{arith}
-use lib.ListN.{length, getD}
+use lib.ListN.{getD}
+use Rattle.basis.specs.Refuse.{countFor}
 use Rattle.basis.specs.Each.{eachTo}
 use Rattle.basis.specs.EachLaws.{item-in, item-few, each-more, each-end}
 use lib.Dec.{ltb}
 use mathlib.Core.Path.{ap}
-use Rattle.stitch_entries.specs.StitchRows.{countFor, startsInside}
+use Rattle.stitch_entries.specs.StitchRows.{startsInside}
 use Rattle.stitch_entries.proofs.faults.starts_inside.Statement.{statement}
 use Rattle.stitch_entries.proofs.faults.starts_inside.Tie as tie
 

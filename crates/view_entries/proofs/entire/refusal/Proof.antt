@@ -1,4 +1,5 @@
-use Rattle.basis.specs.RefuseLaws.{rows, firstFrom}
+use Rattle.basis.specs.Refuse.{firstFrom}
+use Rattle.basis.specs.RefuseLaws.{rows}
 use Rattle.view_entries.specs.EntireEntry.{entireRefusal}
 use borrow.Author.Needs.{needs}
 use Rattle.view_entries.proofs.entire.refusal.Statement.{statement}

@@ -1,0 +1,45 @@
+use Rattle.candidate_entries.specs.CandidatesLaws.{cand-accepted, cand-refused, cand-given}
+use borrow.Author.Needs.{needs}
+use Rattle.candidate_entries.proofs.slicing.sliced.Statement.{statement}
+use Rattle.candidate_entries.proofs.slicing.sliced.Tie as tie
+
+refusal-requires : tie.Need-refusal-requires
+refusal-requires c κs = search needs
+
+count-refused-requires : tie.Need-count-refused-requires
+count-refused-requires c κs = search needs
+
+returns : tie.Need-returns
+returns c = cand-refused _ _ _ _ _ _ (c .before .before .refusal .ensures) (c .before .if1 .taken) (c .count-refused .ensures)
+
+found-requires : tie.Need-found-requires
+found-requires c κs = cand-accepted _ _ _ _ _ (c .before .before .before .before .before .before .before .before .before .before .before .before .before .before .pre .either) (c .before .before .before .before .refusal .ensures) (c .before .before .before .if1 .left)
+
+counted-as-requires : tie.Need-counted-as-requires
+counted-as-requires c κs = search needs
+
+same-length : tie.Need-same-length
+same-length c = search needs
+
+same-length-2 : tie.Need-same-length-2
+same-length-2 c = search needs
+
+same-length-3 : tie.Need-same-length-3
+same-length-3 c = search needs
+
+returns-2 : tie.Need-returns-2
+returns-2 c = cand-given _ _ _ _ _ _ _ _ (c .before .before .before .before .before .before .before .before .before .before .before .before .refusal .ensures) (c .before .before .before .before .before .before .before .before .before .before .before .if1 .left) (c .before .before .before .before .before .before .before .found .ensures) (c .counted-as .ensures)
+
+pub sliced-spec : {M : Type 1} → statement M
+sliced-spec =
+    tie.close
+    (tie.spec
+    refusal-requires
+    count-refused-requires
+    returns
+    found-requires
+    counted-as-requires
+    same-length
+    same-length-2
+    same-length-3
+    returns-2)

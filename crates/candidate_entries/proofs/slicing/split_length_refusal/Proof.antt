@@ -1,0 +1,18 @@
+use Rattle.basis.specs.Refuse.{firstFrom}
+use Rattle.basis.specs.RefuseLaws.{rows}
+use borrow.Author.Needs.{needs}
+use Rattle.candidate_entries.proofs.slicing.split_length_refusal.Statement.{statement}
+use Rattle.candidate_entries.proofs.slicing.split_length_refusal.Tie as tie
+
+bad-cut-length-requires : tie.Need-bad-cut-length-requires
+bad-cut-length-requires c κs = search needs
+
+or-else-requires : tie.Need-or-else-requires
+or-else-requires c κs = search needs
+
+returns : tie.Need-returns
+unfolding firstFrom
+returns c = search rows depth 12
+
+pub split-length-refusal-spec : {M : Type 1} → statement M
+split-length-refusal-spec = tie.close (tie.spec bad-cut-length-requires or-else-requires returns)

@@ -1,0 +1,4 @@
+pub mod PutLaws
+pub mod ItemLaws
+pub mod SlicesTheorems
+pub mod RangeTheorems

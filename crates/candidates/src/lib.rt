@@ -1,0 +1,3 @@
+// The candidates, written into lent room.
+pub mod put;
+pub mod write;

@@ -1,0 +1,75 @@
+use Prim.Native.Nat.{_-_}
+use Rattle.cuts.specs.Cuts.{givenIn}
+use Rattle.cut_order.specs.WriteLaws.{Writing, writing}
+use borrow.Author.Needs.{needs}
+use Rattle.cut_order.proofs.write.write_items.Statement.{statement}
+use Rattle.cut_order.proofs.write.write_items.Tie as tie
+
+abbrev Inv-loop : tie.InvT-loop
+Inv-loop outline hit-at hit lap-at lap s order cut-at₀ cut₀ count i₀ cut-at cut i = Writing (givenIn outline hit-at hit lap-at lap s) cut-at₀ cut₀ cut-at cut i
+
+abbrev μ-loop : tie.MeasureT-loop
+μ-loop outline hit-at hit lap-at lap s order cut-at₀ cut₀ count i₀ cut-at cut i = count - i
+
+mul-count : tie.Need-mul-count Inv-loop μ-loop
+mul-count c = search needs
+
+add-count : tie.Need-add-count Inv-loop μ-loop
+add-count c = search needs
+
+loop-holds : tie.Need-loop-holds Inv-loop μ-loop
+loop-holds c = search (needs, writing)
+
+mul-n : tie.Need-mul-n Inv-loop μ-loop
+mul-n c = search needs
+
+shared-slice-read-n : tie.Need-shared-slice-read-n Inv-loop μ-loop
+shared-slice-read-n c = search needs
+
+cut-of-requires : tie.Need-cut-of-requires Inv-loop μ-loop
+cut-of-requires c κs = search (needs, writing)
+
+put-numbers-requires : tie.Need-put-numbers-requires Inv-loop μ-loop
+put-numbers-requires c κs = search (needs, writing)
+
+put-point-requires : tie.Need-put-point-requires Inv-loop μ-loop
+put-point-requires c κs = search (needs, writing)
+
+add-i : tie.Need-add-i Inv-loop μ-loop
+add-i c = search (needs, writing)
+
+loop-less : tie.Need-loop-less Inv-loop μ-loop
+loop-less c = search needs
+
+loop-again : tie.Need-loop-again Inv-loop μ-loop
+loop-again c = search (needs, writing)
+
+same-length : tie.Need-same-length Inv-loop μ-loop
+same-length c = search needs
+
+same-length-2 : tie.Need-same-length-2 Inv-loop μ-loop
+same-length-2 c = search needs
+
+returns : tie.Need-returns Inv-loop μ-loop
+returns c = search (needs, writing)
+
+pub write-items-spec : {M : Type 1} → statement M
+write-items-spec =
+    tie.close
+    (tie.spec
+    Inv-loop
+    μ-loop
+    mul-count
+    add-count
+    loop-holds
+    mul-n
+    shared-slice-read-n
+    cut-of-requires
+    put-numbers-requires
+    put-point-requires
+    add-i
+    loop-less
+    loop-again
+    same-length
+    same-length-2
+    returns)

@@ -1,0 +1,11 @@
+pub mod Sort
+pub mod Write
+pub mod Sorted
+pub mod SortLaws
+pub mod KeyLaws
+pub mod WriteLaws
+pub mod CutsLaws
+pub mod PatternLaws
+pub mod DistanceLaws
+pub mod OrderTheorems
+pub mod KeyOrderLaws

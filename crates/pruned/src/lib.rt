@@ -1,0 +1,2 @@
+// The slices of a mode, written into lent room.
+pub mod write;

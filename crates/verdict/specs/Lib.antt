@@ -1,0 +1,3 @@
+pub mod Validate
+pub mod ValidateLaws
+pub mod ValidateExamples

@@ -1,0 +1,2 @@
+// The verdict on view data: whether it fits its outline.
+pub mod validate;

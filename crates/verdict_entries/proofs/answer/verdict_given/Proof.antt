@@ -1,0 +1,101 @@
+use mathlib.Core.Path.{sym, ap, _∙_}
+use Rattle.verdict_entries.specs.VerdictAnswers.{verdictGiven}
+use borrow.Author.Needs.{needs}
+use Rattle.verdict_entries.proofs.answer.verdict_given.Statement.{statement}
+use Rattle.verdict_entries.proofs.answer.verdict_given.Tie as tie
+
+enum-told : tie.Need-enum-told
+enum-told c = search needs
+
+verdict-record-requires : tie.Need-verdict-record-requires
+verdict-record-requires c κs = search needs
+
+enum-known-v : tie.Need-enum-known-v
+enum-known-v c = search needs
+
+verdict-record-requires-2 : tie.Need-verdict-record-requires-2
+verdict-record-requires-2 c κs = search needs
+
+enum-known-v-2 : tie.Need-enum-known-v-2
+enum-known-v-2 c = search needs
+
+verdict-record-requires-3 : tie.Need-verdict-record-requires-3
+verdict-record-requires-3 c κs = search needs
+
+enum-known-v-3 : tie.Need-enum-known-v-3
+enum-known-v-3 c = search needs
+
+verdict-record-requires-4 : tie.Need-verdict-record-requires-4
+verdict-record-requires-4 c κs = search needs
+
+enum-known-v-4 : tie.Need-enum-known-v-4
+enum-known-v-4 c = search needs
+
+verdict-record-requires-5 : tie.Need-verdict-record-requires-5
+verdict-record-requires-5 c κs = search needs
+
+enum-known-v-5 : tie.Need-enum-known-v-5
+enum-known-v-5 c = search needs
+
+verdict-record-requires-6 : tie.Need-verdict-record-requires-6
+verdict-record-requires-6 c κs = search needs
+
+enum-told-2 : tie.Need-enum-told-2
+enum-told-2 c = search needs
+
+verdict-record-requires-7 : tie.Need-verdict-record-requires-7
+verdict-record-requires-7 c κs = search needs
+
+returns : tie.Need-returns
+unfolding verdictGiven
+returns c = c .verdict-record .ensures ∙ ap verdictGiven (sym (c .before .enum-told .given .1))
+
+returns-2 : tie.Need-returns-2
+unfolding verdictGiven
+returns-2 c = c .verdict-record2 .ensures ∙ ap verdictGiven (sym (c .before .before .v .given .1))
+
+returns-3 : tie.Need-returns-3
+unfolding verdictGiven
+returns-3 c = c .verdict-record3 .ensures ∙ ap verdictGiven (sym (c .before .before .v2 .given .1))
+
+returns-4 : tie.Need-returns-4
+unfolding verdictGiven
+returns-4 c = c .verdict-record4 .ensures ∙ ap verdictGiven (sym (c .before .before .v3 .given .1))
+
+returns-5 : tie.Need-returns-5
+unfolding verdictGiven
+returns-5 c = c .verdict-record5 .ensures ∙ ap verdictGiven (sym (c .before .before .v4 .given .1))
+
+returns-6 : tie.Need-returns-6
+unfolding verdictGiven
+returns-6 c = c .verdict-record6 .ensures ∙ ap verdictGiven (sym (c .before .before .v5 .given .1))
+
+returns-7 : tie.Need-returns-7
+unfolding verdictGiven
+returns-7 c = c .verdict-record7 .ensures ∙ ap verdictGiven (sym (c .before .enum-told2 .given .1))
+
+pub verdict-given-spec : {M : Type 1} → statement M
+verdict-given-spec =
+    tie.close
+    (tie.spec
+    enum-told
+    verdict-record-requires
+    enum-known-v
+    verdict-record-requires-2
+    enum-known-v-2
+    verdict-record-requires-3
+    enum-known-v-3
+    verdict-record-requires-4
+    enum-known-v-4
+    verdict-record-requires-5
+    enum-known-v-5
+    verdict-record-requires-6
+    enum-told-2
+    verdict-record-requires-7
+    returns
+    returns-2
+    returns-3
+    returns-4
+    returns-5
+    returns-6
+    returns-7)

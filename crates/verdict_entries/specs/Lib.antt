@@ -1,0 +1,2 @@
+pub mod VerdictAnswers
+pub mod ValidateEntry

@@ -1,0 +1,609 @@
+//! The archive in Rust: the structs and functions of `include/mask.h`, and for each function one
+//! that takes Rust's slices. The tests of this crate hold the first two against the header's text.
+//!
+//! This file is a module of the crate `mask_tools`. The comparison and the benchmark build it as a
+//! crate of its own, `archive`, so that an entry is declared once.
+
+/// A position.
+#[repr(C)]
+#[derive(Debug, Clone, Copy, PartialEq, Default)]
+pub struct Point {
+    /// Azimuth, or what the host takes for it.
+    pub x: f64,
+    /// Elevation, or what the host takes for it.
+    pub y: f64,
+}
+
+/// A vertex of an outline: a position, and the bulge of the segment that starts there. The bulge
+/// is 0 for a straight segment, else the segment is an arc.
+#[repr(C)]
+#[derive(Debug, Clone, Copy, PartialEq, Default)]
+pub struct Vertex {
+    /// Of its position.
+    pub x: f64,
+    /// Of its position.
+    pub y: f64,
+    /// Of the segment from here to the next vertex.
+    pub bulge: f64,
+}
+
+/// The host's split of a segment at a point.
+#[repr(C)]
+#[derive(Debug, Clone, Copy, PartialEq, Default)]
+pub struct Split {
+    /// The segment's start, with the bulge up to the point.
+    pub updated_start: Vertex,
+    /// The point, with the bulge from there on.
+    pub split_vertex: Vertex,
+}
+
+/// Slices come in four classes, one after the other: of outline 1, of outline 2, overlaps for 1,
+/// overlaps for 2. This says where the last three begin.
+#[repr(C)]
+#[derive(Debug, Clone, Copy, PartialEq, Eq, Default)]
+pub struct Starts {
+    /// Where the slices of outline 2 begin.
+    pub pline2: usize,
+    /// Where the overlaps for outline 1 begin.
+    pub pline1_overlapping: usize,
+    /// Where the overlaps for outline 2 begin.
+    pub pline2_overlapping: usize,
+}
+
+/// `mask_view`: a view with its direction as a code.
+#[repr(C)]
+#[derive(Debug, Clone, Copy, PartialEq, Default)]
+pub struct View {
+    pub start_index: usize,
+    pub end_index_offset: usize,
+    pub updated_start: Vertex,
+    pub updated_end_bulge: f64,
+    pub end_point: Point,
+    pub inverted_direction: u32,
+}
+
+/// `mask_vertex_answer`
+#[repr(C)]
+#[derive(Debug, Clone, Copy, Default)]
+pub struct VertexAnswer {
+    pub refusal: u32,
+    pub found: u32,
+    pub vertex: Vertex,
+}
+
+/// `mask_view_answer`
+#[repr(C)]
+#[derive(Debug, Clone, Copy, Default)]
+pub struct ViewAnswer {
+    pub refusal: u32,
+    pub found: u32,
+    pub view: View,
+}
+
+/// `mask_verdict_answer`
+#[repr(C)]
+#[derive(Debug, Clone, Copy, Default)]
+pub struct VerdictAnswer {
+    pub refusal: u32,
+    pub verdict: u32,
+    pub offset: usize,
+    pub source_length: usize,
+    pub point: Point,
+    pub vertex: Vertex,
+    pub updated_bulge: f64,
+    pub expected: f64,
+}
+
+/// `mask_count_answer`
+#[repr(C)]
+#[derive(Debug, Clone, Copy, Default)]
+pub struct CountAnswer {
+    pub refusal: u32,
+    pub count: usize,
+}
+
+/// `mask_prune_answer`
+#[repr(C)]
+#[derive(Debug, Clone, Copy, Default)]
+pub struct PruneAnswer {
+    pub refusal: u32,
+    pub slices: usize,
+    pub starts: Starts,
+}
+
+/// `mask_stitch_answer`
+#[repr(C)]
+#[derive(Debug, Clone, Copy, Default)]
+pub struct StitchAnswer {
+    pub refusal: u32,
+    pub rounds: usize,
+    pub loops: usize,
+    pub chains: usize,
+}
+
+#[cfg(not(test))]
+pub use entries::*;
+
+/// The archive's functions, with slices for pointers and lengths.
+///
+/// What the unsafe blocks below rely on: each pointer is lent with the length of its slice; a slice
+/// of length 0 has a pointer that is not read; room is a `&mut` slice, so nothing shares it; the
+/// function keeps no pointer, reads and writes nothing beyond the lengths, and refuses what it
+/// does not take, by the contracts that were proved of it.
+#[cfg(not(test))]
+mod entries {
+    use super::{
+        CountAnswer, Point, PruneAnswer, Split, StitchAnswer, VerdictAnswer, Vertex, VertexAnswer,
+        View, ViewAnswer,
+    };
+
+    extern "C" {
+        pub fn mask_view_vertex(
+            outline: *const f64,
+            outline_len: usize,
+            vc: usize,
+            view: View,
+            index: usize,
+        ) -> VertexAnswer;
+
+        pub fn mask_create(
+            outline: *const f64,
+            outline_len: usize,
+            vc: usize,
+            start_index: usize,
+            end_intersect: Point,
+            intersect_index: usize,
+            updated_start: Vertex,
+            traverse_count: usize,
+            tolerance: f64,
+            split: Split,
+        ) -> ViewAnswer;
+
+        pub fn mask_create_on_single_segment(
+            outline: *const f64,
+            outline_len: usize,
+            vc: usize,
+            start_index: usize,
+            updated_start: Vertex,
+            end_intersect: Point,
+            tolerance: f64,
+        ) -> ViewAnswer;
+
+        pub fn mask_from_entire_pline(
+            outline: *const f64,
+            outline_len: usize,
+            vc: usize,
+            closed: u32,
+        ) -> ViewAnswer;
+
+        pub fn mask_validate_for_source(
+            outline: *const f64,
+            outline_len: usize,
+            vc: usize,
+            view: View,
+            start_on_segment: u32,
+            end_on_segment: u32,
+        ) -> VerdictAnswer;
+
+        pub fn mask_cut_order(
+            outline: *const f64,
+            outline_len: usize,
+            vc: usize,
+            source: u32,
+            hit_at: *const usize,
+            hit_at_len: usize,
+            hit: *const f64,
+            hit_len: usize,
+            hits: usize,
+            lap_at: *const usize,
+            lap_at_len: usize,
+            lap: *const f64,
+            lap_len: usize,
+            laps: usize,
+            tolerance: f64,
+            cut_at: *mut usize,
+            cut_at_len: usize,
+            cut: *mut f64,
+            cut_len: usize,
+        ) -> CountAnswer;
+
+        pub fn mask_candidates(
+            outline: *const f64,
+            outline_len: usize,
+            vc: usize,
+            source: u32,
+            hit_at: *const usize,
+            hit_at_len: usize,
+            hit: *const f64,
+            hit_len: usize,
+            hits: usize,
+            lap_at: *const usize,
+            lap_at_len: usize,
+            lap: *const f64,
+            lap_len: usize,
+            laps: usize,
+            splits: *const f64,
+            splits_len: usize,
+            tolerance: f64,
+            cand_at: *mut usize,
+            cand_at_len: usize,
+            cand: *mut f64,
+            cand_len: usize,
+            probe: *mut f64,
+            probe_len: usize,
+        ) -> CountAnswer;
+
+        pub fn mask_prune(
+            mode: u32,
+            opposing: u32,
+            vc1: usize,
+            vc2: usize,
+            cand_at1: *const usize,
+            cand_at1_len: usize,
+            cand1: *const f64,
+            cand1_len: usize,
+            inside1: *const u8,
+            inside1_len: usize,
+            count1: usize,
+            cand_at2: *const usize,
+            cand_at2_len: usize,
+            cand2: *const f64,
+            cand2_len: usize,
+            inside2: *const u8,
+            inside2_len: usize,
+            count2: usize,
+            lap_at: *const usize,
+            lap_at_len: usize,
+            lap: *const f64,
+            lap_len: usize,
+            laps: usize,
+            slice_at: *mut usize,
+            slice_at_len: usize,
+            slice: *mut f64,
+            slice_len: usize,
+        ) -> PruneAnswer;
+
+        pub fn mask_stitch(
+            outline1: *const f64,
+            outline1_len: usize,
+            vc1: usize,
+            outline2: *const f64,
+            outline2_len: usize,
+            vc2: usize,
+            slice_at: *const usize,
+            slice_at_len: usize,
+            slice: *const f64,
+            slice_len: usize,
+            slices: usize,
+            pline2: usize,
+            pline1_overlapping: usize,
+            pline2_overlapping: usize,
+            selector: u32,
+            tolerance: f64,
+            room: *mut f64,
+            room_len: usize,
+            ends: *mut usize,
+            ends_len: usize,
+            chain: *mut usize,
+            chain_len: usize,
+            chain_ends: *mut usize,
+            chain_ends_len: usize,
+            chain_how: *mut usize,
+            chain_how_len: usize,
+        ) -> StitchAnswer;
+
+        pub fn mask_area_pass(
+            areas: *const f64,
+            areas_len: usize,
+            loops: usize,
+            limit: f64,
+            kept: *mut usize,
+            kept_len: usize,
+        ) -> CountAnswer;
+    }
+
+    #[inline]
+    pub fn view_vertex(outline: &[f64], vc: usize, view: View, index: usize) -> VertexAnswer {
+        // SAFETY: pointer and length are those of one slice, which is only read.
+        unsafe { mask_view_vertex(outline.as_ptr(), outline.len(), vc, view, index) }
+    }
+
+    #[inline]
+    #[allow(clippy::too_many_arguments)] // those of the header
+    pub fn create(
+        outline: &[f64],
+        vc: usize,
+        start_index: usize,
+        end_intersect: Point,
+        intersect_index: usize,
+        updated_start: Vertex,
+        traverse_count: usize,
+        tolerance: f64,
+        split: Split,
+    ) -> ViewAnswer {
+        // SAFETY: pointer and length are those of one slice, which is only read.
+        unsafe {
+            mask_create(
+                outline.as_ptr(),
+                outline.len(),
+                vc,
+                start_index,
+                end_intersect,
+                intersect_index,
+                updated_start,
+                traverse_count,
+                tolerance,
+                split,
+            )
+        }
+    }
+
+    #[inline]
+    pub fn create_on_single_segment(
+        outline: &[f64],
+        vc: usize,
+        start_index: usize,
+        updated_start: Vertex,
+        end_intersect: Point,
+        tolerance: f64,
+    ) -> ViewAnswer {
+        // SAFETY: pointer and length are those of one slice, which is only read.
+        unsafe {
+            mask_create_on_single_segment(
+                outline.as_ptr(),
+                outline.len(),
+                vc,
+                start_index,
+                updated_start,
+                end_intersect,
+                tolerance,
+            )
+        }
+    }
+
+    #[inline]
+    pub fn from_entire_pline(outline: &[f64], vc: usize, closed: u32) -> ViewAnswer {
+        // SAFETY: pointer and length are those of one slice, which is only read.
+        unsafe { mask_from_entire_pline(outline.as_ptr(), outline.len(), vc, closed) }
+    }
+
+    #[inline]
+    pub fn validate_for_source(
+        outline: &[f64],
+        vc: usize,
+        view: View,
+        start_on_segment: u32,
+        end_on_segment: u32,
+    ) -> VerdictAnswer {
+        // SAFETY: pointer and length are those of one slice, which is only read.
+        unsafe {
+            mask_validate_for_source(
+                outline.as_ptr(),
+                outline.len(),
+                vc,
+                view,
+                start_on_segment,
+                end_on_segment,
+            )
+        }
+    }
+
+    #[inline]
+    #[allow(clippy::too_many_arguments)] // those of the header
+    pub fn cut_order(
+        outline: &[f64],
+        vc: usize,
+        source: u32,
+        hit_at: &[usize],
+        hit: &[f64],
+        hits: usize,
+        lap_at: &[usize],
+        lap: &[f64],
+        laps: usize,
+        tolerance: f64,
+        cut_at: &mut [usize],
+        cut: &mut [f64],
+    ) -> CountAnswer {
+        // SAFETY: each pointer and length are those of one slice; the two that are written are
+        // `&mut`, so nothing shares them.
+        unsafe {
+            mask_cut_order(
+                outline.as_ptr(),
+                outline.len(),
+                vc,
+                source,
+                hit_at.as_ptr(),
+                hit_at.len(),
+                hit.as_ptr(),
+                hit.len(),
+                hits,
+                lap_at.as_ptr(),
+                lap_at.len(),
+                lap.as_ptr(),
+                lap.len(),
+                laps,
+                tolerance,
+                cut_at.as_mut_ptr(),
+                cut_at.len(),
+                cut.as_mut_ptr(),
+                cut.len(),
+            )
+        }
+    }
+
+    #[inline]
+    #[allow(clippy::too_many_arguments)] // those of the header
+    pub fn candidates(
+        outline: &[f64],
+        vc: usize,
+        source: u32,
+        hit_at: &[usize],
+        hit: &[f64],
+        hits: usize,
+        lap_at: &[usize],
+        lap: &[f64],
+        laps: usize,
+        splits: &[f64],
+        tolerance: f64,
+        cand_at: &mut [usize],
+        cand: &mut [f64],
+        probe: &mut [f64],
+    ) -> CountAnswer {
+        // SAFETY: each pointer and length are those of one slice; the three that are written are
+        // `&mut`, so nothing shares them.
+        unsafe {
+            mask_candidates(
+                outline.as_ptr(),
+                outline.len(),
+                vc,
+                source,
+                hit_at.as_ptr(),
+                hit_at.len(),
+                hit.as_ptr(),
+                hit.len(),
+                hits,
+                lap_at.as_ptr(),
+                lap_at.len(),
+                lap.as_ptr(),
+                lap.len(),
+                laps,
+                splits.as_ptr(),
+                splits.len(),
+                tolerance,
+                cand_at.as_mut_ptr(),
+                cand_at.len(),
+                cand.as_mut_ptr(),
+                cand.len(),
+                probe.as_mut_ptr(),
+                probe.len(),
+            )
+        }
+    }
+
+    #[inline]
+    #[allow(clippy::too_many_arguments)] // those of the header
+    pub fn prune(
+        mode: u32,
+        opposing: u32,
+        vc1: usize,
+        vc2: usize,
+        cand_at1: &[usize],
+        cand1: &[f64],
+        inside1: &[u8],
+        count1: usize,
+        cand_at2: &[usize],
+        cand2: &[f64],
+        inside2: &[u8],
+        count2: usize,
+        lap_at: &[usize],
+        lap: &[f64],
+        laps: usize,
+        slice_at: &mut [usize],
+        slice: &mut [f64],
+    ) -> PruneAnswer {
+        // SAFETY: each pointer and length are those of one slice; the two that are written are
+        // `&mut`, so nothing shares them.
+        unsafe {
+            mask_prune(
+                mode,
+                opposing,
+                vc1,
+                vc2,
+                cand_at1.as_ptr(),
+                cand_at1.len(),
+                cand1.as_ptr(),
+                cand1.len(),
+                inside1.as_ptr(),
+                inside1.len(),
+                count1,
+                cand_at2.as_ptr(),
+                cand_at2.len(),
+                cand2.as_ptr(),
+                cand2.len(),
+                inside2.as_ptr(),
+                inside2.len(),
+                count2,
+                lap_at.as_ptr(),
+                lap_at.len(),
+                lap.as_ptr(),
+                lap.len(),
+                laps,
+                slice_at.as_mut_ptr(),
+                slice_at.len(),
+                slice.as_mut_ptr(),
+                slice.len(),
+            )
+        }
+    }
+
+    #[inline]
+    #[allow(clippy::too_many_arguments)] // those of the header
+    pub fn stitch(
+        outline1: &[f64],
+        vc1: usize,
+        outline2: &[f64],
+        vc2: usize,
+        slice_at: &[usize],
+        slice: &[f64],
+        slices: usize,
+        pline2: usize,
+        pline1_overlapping: usize,
+        pline2_overlapping: usize,
+        selector: u32,
+        tolerance: f64,
+        room: &mut [f64],
+        ends: &mut [usize],
+        chain: &mut [usize],
+        chain_ends: &mut [usize],
+        chain_how: &mut [usize],
+    ) -> StitchAnswer {
+        // SAFETY: each pointer and length are those of one slice; the five that are written are
+        // `&mut`, so nothing shares them.
+        unsafe {
+            mask_stitch(
+                outline1.as_ptr(),
+                outline1.len(),
+                vc1,
+                outline2.as_ptr(),
+                outline2.len(),
+                vc2,
+                slice_at.as_ptr(),
+                slice_at.len(),
+                slice.as_ptr(),
+                slice.len(),
+                slices,
+                pline2,
+                pline1_overlapping,
+                pline2_overlapping,
+                selector,
+                tolerance,
+                room.as_mut_ptr(),
+                room.len(),
+                ends.as_mut_ptr(),
+                ends.len(),
+                chain.as_mut_ptr(),
+                chain.len(),
+                chain_ends.as_mut_ptr(),
+                chain_ends.len(),
+                chain_how.as_mut_ptr(),
+                chain_how.len(),
+            )
+        }
+    }
+
+    #[inline]
+    pub fn area_pass(areas: &[f64], loops: usize, limit: f64, kept: &mut [usize]) -> CountAnswer {
+        // SAFETY: each pointer and length are those of one slice; the one that is written is
+        // `&mut`, so nothing shares it.
+        unsafe {
+            mask_area_pass(
+                areas.as_ptr(),
+                areas.len(),
+                loops,
+                limit,
+                kept.as_mut_ptr(),
+                kept.len(),
+            )
+        }
+    }
+}
