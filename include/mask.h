@@ -2,7 +2,8 @@
  * Solofanju: proved mask tools. The C header of the archive libmask.a.
  *
  * A mask is a closed outline of vertices. A vertex has a position and a bulge:
- * 0 for a straight segment, else an arc. All numbers are IEEE 754 binary64.
+ * 0 for a straight segment, else an arc. All numbers are IEEE 754 binary64, but for
+ * the masks without arcs at the end, which are in whole microdegrees.
  *
  * Every entry answers a struct by value. Its first field is the refusal: 0 where
  * the call is accepted, else the lowest number of `mask_refusal` that applies.
@@ -42,7 +43,9 @@ enum mask_refusal {
     MASK_REFUSED_COUNT = 7,     /* an offset or a traverse count is out of range */
     MASK_REFUSED_STARTS = 8,    /* the starts of the classes fall back, or lie past the slices */
     MASK_REFUSED_ROOM = 9,      /* a list lent to be written is shorter than the need */
-    MASK_REFUSED_STEPS = 10     /* a walk or a chain took too many steps: proved never to happen */
+    MASK_REFUSED_STEPS = 10,    /* a walk or a chain took too many steps: proved never to happen */
+    MASK_REFUSED_RANGE = 18,    /* a whole coordinate is out of range */
+    MASK_REFUSED_LOOPS = 19     /* more than 4096 outlines in a report */
 };
 
 /* What `mask_validate_for_source` found. 0 stands only beside a refusal. */
@@ -303,6 +306,58 @@ mask_prune_answer mask_prune(uint32_t mode, uint32_t opposing, size_t vc1, size_
                              size_t lap_at_len, const double *lap, size_t lap_len, size_t laps,
                              size_t *slice_at, size_t slice_at_len, double *slice,
                              size_t slice_len);
+
+/*
+ * Masks without arcs, in whole microdegrees. An outline has two numbers to a vertex: x,
+ * y, each of magnitude at most 400000000. Nothing is rounded, and nothing is written.
+ */
+
+typedef struct mask_winding_answer {
+    uint32_t refusal;
+    int64_t winding; /* inside is any but 0 */
+} mask_winding_answer;
+
+/* The area is size or -size, where size is high * 2^64 + low. */
+typedef struct mask_area_answer {
+    uint32_t refusal;
+    uint32_t negative; /* 1 where it is below 0, else 0 */
+    uint64_t high;
+    uint64_t low;
+} mask_area_answer;
+
+/* The total is high * 2^64 + low. */
+typedef struct mask_report_answer {
+    uint32_t refusal;
+    size_t count; /* the outlines */
+    size_t zero;  /* those of them with area zero */
+    uint64_t high;
+    uint64_t low;
+} mask_report_answer;
+
+/*
+ * The winding number of the outline round a point. The point comes in doubled
+ * coordinates, so that a midpoint is whole too: `x` and `y` are twice the point's, of
+ * magnitude at most 800000000. An edge from (x1, y1) to (x2, y2) adds 1 where y1 <= y <
+ * y2 and the point is strictly left of it, and takes 1 where y2 <= y < y1 and the point
+ * is strictly right of it. Refusals 1, 2, 18.
+ */
+mask_winding_answer mask_straight_winding(const int64_t *outline, size_t outline_len, size_t vc,
+                                          int64_t x, int64_t y);
+
+/*
+ * The doubled signed area of the outline, anticlockwise positive. Refusals 1, 2, 18.
+ */
+mask_area_answer mask_straight_area(const int64_t *outline, size_t outline_len, size_t vc);
+
+/*
+ * The report on `loops` outlines, at most 4096: how many they are, how many of them have
+ * area zero, and the total of their absolute doubled areas. `points` has the vertices of
+ * all outlines, one outline after the other; `ends` has for each how many vertices all
+ * up to and with it have, as `mask_stitch` writes it. Refusals 1, 2, 18, 19. Too many
+ * outlines are 19, and not 1.
+ */
+mask_report_answer mask_straight_report(const int64_t *points, size_t points_len,
+                                        const size_t *ends, size_t ends_len, size_t loops);
 
 #ifdef __cplusplus
 }

@@ -1,12 +1,10 @@
 // The values of a record's fields, from a stitch.
 ghost use mathlib.Core.Path.{_≡_};
-ghost use mathlib.Core.Bool.{not};
 ghost use mathlib.Core.List.{map};
-ghost use lib.Dec.{T};
-ghost use lib.Ieee.{isNan};
 ghost use lib.ListN.{length};
 ghost use lib.Seq.{sets};
 ghost use Rattle.layout.specs.Layout.{bitsOf};
+ghost use Rattle.layout.specs.Ready.{Number};
 ghost use Rattle.record.specs.Form.{mix};
 ghost use Rattle.archive.specs.Archive.{headValues, bodyValues};
 ghost use Rattle.archive.specs.Ready.{MixFit, ValuesFit};
@@ -22,7 +20,7 @@ pub fn head_values(
     starts: Starts,
     slices: usize,
 ) -> [usize; 12]
-    requires { ⌜ T (not (isNan tolerance)) ⌝ }
+    requires { ⌜ Number tolerance ⌝ }
     ensures { λ r. ⌜ r ≡ headValues 1 vc1 vc2 selector tolerance starts slices ⌝ }
 {
     let bits = copy::bits(tolerance);

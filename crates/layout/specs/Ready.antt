@@ -24,6 +24,14 @@ pub record FieldAt (b : List ℕ) (at w : ℕ) : Type 0 where
   pub thin : w ≤ 8
   pub inside : at + w ≤ length b
 
+-- space for w bytes at `at`
+pub record SpaceAt (b : List ℕ) (at w : ℕ) : Type 0 where
+  pub inside : at + w ≤ length b
+
+-- x is a number
+pub record Number (x : Float) : Type 0 where
+  pub number : T (not (isNan x))
+
 pub record Value (b : List ℕ) (at w r : ℕ) : Type 0 where
   pub value : r ≡ valueOf w (drop at b)
   pub below : r < 256 ^ w

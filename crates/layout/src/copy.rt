@@ -1,13 +1,10 @@
 // Values copied, and numbers to and from their bit patterns.
 ghost use mathlib.Core.Path.{_≡_};
-ghost use mathlib.Core.Bool.{not};
 ghost use mathlib.Core.List.{map};
-ghost use lib.Dec.{T};
-ghost use lib.Ieee.{isNan};
 ghost use lib.ListN.{length, take, drop};
 ghost use lib.Seq.{sets};
 ghost use Rattle.layout.specs.Layout.{numOf, bitsOf};
-ghost use Rattle.layout.specs.Ready.{CopyAt, BitsAt};
+ghost use Rattle.layout.specs.Ready.{CopyAt, BitsAt, Number};
 
 // The number of a bit pattern; +infinity for a pattern of a NaN.
 pub fn number(pattern: usize) -> f64
@@ -20,7 +17,7 @@ pub fn number(pattern: usize) -> f64
 }
 
 pub fn bits(x: f64) -> usize
-    requires { ⌜ T (not (isNan x)) ⌝ }
+    requires { ⌜ Number x ⌝ }
     ensures { λ r. ⌜ r ≡ bitsOf x ⌝ }
 {
     f64::to_bits(x) as usize

@@ -1,10 +1,9 @@
 // One field.
 ghost use mathlib.Core.Path.{_≡_};
-ghost use Prim.Native.Nat.{_+_, _%_, _≤_, _<_};
-ghost use lib.ListN.{length};
+ghost use Prim.Native.Nat.{_+_, _%_, _<_};
 ghost use lib.Seq.{sets};
 ghost use Rattle.layout.specs.Layout.{bytesOf};
-ghost use Rattle.layout.specs.Ready.{FieldAt, Value};
+ghost use Rattle.layout.specs.Ready.{FieldAt, SpaceAt, Value};
 
 fn wide(b: u8) -> usize
     ensures { λ r. ⌜ (r ≡ b) × (r < 256) ⌝ }
@@ -35,7 +34,7 @@ fn low(x: usize) -> u8
 
 // Writes a value's lowest `width` bytes from `at` on.
 pub fn put(bytes: &mut [u8], at: usize, width: usize, value: usize)
-    requires { ⌜ at + width ≤ length (now bytes) ⌝ }
+    requires { ⌜ SpaceAt (now bytes) at width ⌝ }
     ensures { λ _. ⌜ now (bytes .exit) ≡ sets (now (bytes .entry)) at (bytesOf width value) ⌝ }
 {
     let mut p = at;

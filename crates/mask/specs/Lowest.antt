@@ -3,6 +3,7 @@ use Prim.Native.Nat.{ℕ, _≤_}
 use mathlib.Core.Path.{_≡_}
 use mathlib.Core.List.{List, _++_}
 use lib.Dec.{T}
+use lib.IntN.{ℤ}
 use lib.Ieee.{Float}
 use Rattle.basis.specs.Number.{Tolerance}
 use Rattle.basis.specs.Refuse.{Row, firstOf}
@@ -26,6 +27,9 @@ use Rattle.stitch_entries.specs.StitchRows.{roomRows}
 use Rattle.stitch_entries.specs.StitchEntry as stitched
 use Rattle.stitch_entries.specs.StitchEntry.{shapeRows, stitchRefusal}
 use Rattle.area_entries.specs.AreaEntry.{areaRows, areaRefusal}
+use Rattle.straight_entries.specs.WindingEntry.{windingRows, windingRefusal}
+use Rattle.straight_entries.specs.AreaEntry as straight
+use Rattle.straight_entries.specs.ReportEntry.{reportRows, reportRefusal}
 
 -- a number and the table that it was looked up in
 pub record Lowest (rows : List Row) (number : ℕ) : Type 0 where
@@ -76,3 +80,15 @@ stitch-lowest g room ends chain chainEnds chainHow = lowest (shapeRows g ++ (roo
 pub area-lowest : (areas : List Float) (loops : ℕ) (limit : Float) (kept : ℕ) → Lowest (areaRows areas loops limit kept) (areaRefusal areas loops limit kept)
 unfolding areaRefusal
 area-lowest areas loops limit kept = lowest (areaRows areas loops limit kept) tt
+
+pub winding-lowest : (o : List ℤ) (vc : ℕ) (x y : ℤ) → Lowest (windingRows o vc x y) (windingRefusal o vc x y)
+unfolding windingRefusal
+winding-lowest o vc x y = lowest (windingRows o vc x y) tt
+
+pub straight-area-lowest : (o : List ℤ) (vc : ℕ) → Lowest (straight.areaRows o vc) (straight.areaRefusal o vc)
+unfolding straight.areaRefusal
+straight-area-lowest o vc = lowest (straight.areaRows o vc) tt
+
+pub report-lowest : (points : List ℤ) (ends : List ℕ) (loops : ℕ) → Lowest (reportRows points ends loops) (reportRefusal points ends loops)
+unfolding reportRefusal
+report-lowest points ends loops = lowest (reportRows points ends loops) tt

@@ -2,6 +2,7 @@
 use Prim.Native.Nat.{ℕ}
 use mathlib.Core.Path.{_≡_}
 use mathlib.Core.List.{List}
+use lib.IntN.{ℤ}
 use lib.Ieee.{Float}
 use Rattle.basis.specs.Number.{Tolerance}
 use Rattle.basis.specs.RefuseLaws.{one-answer}
@@ -31,6 +32,12 @@ use Rattle.stitch.specs.Lent.{Lists}
 use Rattle.stitch_entries.specs.declared.answer.StitchAnswer.{StitchAnswer}
 use Rattle.stitch_entries.specs.StitchEntry.{StitchLeft}
 use Rattle.area_entries.specs.AreaEntry.{AreaLeft}
+use Rattle.straight_entries.specs.declared.answer.WindingAnswer.{WindingAnswer}
+use Rattle.straight_entries.specs.declared.answer.AreaAnswer.{AreaAnswer}
+use Rattle.straight_entries.specs.declared.answer.ReportAnswer.{ReportAnswer}
+use Rattle.straight_entries.specs.WindingEntry.{windingAnswer}
+use Rattle.straight_entries.specs.AreaEntry.{areaAnswer}
+use Rattle.straight_entries.specs.ReportEntry.{reportAnswer}
 
 pub vertex-one : (o : List Float) (vc : ℕ) (v : View) (k : ℕ) (r s : VertexAnswer) → r ≡ viewVertexAnswer o vc v k → s ≡ viewVertexAnswer o vc v k → r ≡ s
 vertex-one o vc v k r s e f = one-answer r s (viewVertexAnswer o vc v k) e f
@@ -77,3 +84,12 @@ stitch-one g l r s a b x y = (
 pub area-one : (areas : List Float) (loops : ℕ) (limit : Float) (kept : List ℕ) (r s : CountAnswer) (a b : List ℕ)
     → AreaLeft areas loops limit kept r a → AreaLeft areas loops limit kept s b → (r ≡ s) × (a ≡ b)
 area-one areas loops limit kept r s a b x y = (one-answer r s _ (x .answers) (y .answers), one-answer a b _ (x .list) (y .list))
+
+pub winding-one : (o : List ℤ) (vc : ℕ) (x y : ℤ) (r s : WindingAnswer) → r ≡ windingAnswer o vc x y → s ≡ windingAnswer o vc x y → r ≡ s
+winding-one o vc x y r s e f = one-answer r s (windingAnswer o vc x y) e f
+
+pub straight-area-one : (o : List ℤ) (vc : ℕ) (r s : AreaAnswer) → r ≡ areaAnswer o vc → s ≡ areaAnswer o vc → r ≡ s
+straight-area-one o vc r s e f = one-answer r s (areaAnswer o vc) e f
+
+pub report-one : (points : List ℤ) (ends : List ℕ) (loops : ℕ) (r s : ReportAnswer) → r ≡ reportAnswer points ends loops → s ≡ reportAnswer points ends loops → r ≡ s
+report-one points ends loops r s e f = one-answer r s (reportAnswer points ends loops) e f

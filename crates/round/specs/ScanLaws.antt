@@ -27,7 +27,7 @@ use Rattle.chain.specs.Held.{ViewMore, Extended}
 use Rattle.round.specs.declared.plan.Plan.{Plan}
 use Rattle.run.specs.Run.{passing}
 use Rattle.run.specs.Stitch.{Given, ofFirst, sliceOffset, sliceEnd, sliceView, sliceOutline, sliceCount, sliceVertex, startPoint, addSlice}
-use Rattle.round.specs.Ready.{planned, Sound, SliceThere, SliceFit, SliceMore, SliceAdded, PointsFit, Points, hasAny, Met}
+use Rattle.round.specs.Ready.{planned, SliceThere, SliceFit, SliceMore, SliceAdded, PointsFit, Points, hasAny, Met}
 
 -- ---- a slice
 

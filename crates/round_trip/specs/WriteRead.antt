@@ -14,7 +14,7 @@ use Rattle.basis.specs.Choice.{by-test, or-left, or-right}
 use Rattle.basis.specs.Each.{placesBelow}
 use Rattle.basis.specs.EachLaws.{each-at}
 use Rattle.basis.specs.Number.{allWithin}
-use Rattle.basis.specs.Refuse.{row, firstOf, countFor, sourceFault}
+use Rattle.basis.specs.Refuse.{row, firstOf, sourceFault, countFor}
 use Rattle.basis.specs.RefuseLaws.{Clear, clear, clear-left, none-clear, choice-ok}
 use Rattle.run.specs.Stitch.{Given}
 use Rattle.stitch_entries.specs.StitchRows.{sourcesKnown, startsInside, offsetsInside, startsFault}

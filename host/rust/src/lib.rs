@@ -60,6 +60,11 @@
 //! [`View`] has the entries over a single part of an outline. [`lent`] has the calls that write
 //! lists with room that the caller lends.
 //!
+//! # Masks in whole microdegrees
+//!
+//! [`WholeOutline`] is an outline without arcs whose coordinates are whole numbers. Its winding
+//! number and its area are exact, and so is [`straight_report`], which totals many of them.
+//!
 //! # Masks that do not meet
 //!
 //! Outlines that share no point are not cut, so there are no slices and no loops.
@@ -95,6 +100,7 @@ mod outline;
 mod refusal;
 mod slices;
 mod stitch;
+mod straight;
 mod view;
 
 pub use cuts::{
@@ -109,4 +115,5 @@ pub use outline::{Outline, Source, Tolerance};
 pub use refusal::Refusal;
 pub use slices::{prune, Answered, Mode, Slice, Slices};
 pub use stitch::{area_pass, stitch, Chain, ChainEnd, Selector, Stitched};
+pub use straight::{straight_report, StraightReport, WholeOutline};
 pub use view::{OnSegment, Verdict, View, Walk};

@@ -41,6 +41,10 @@ pub enum Refusal {
     Room,
     /// 10: a walk or a chain took too many steps. It is proved that this never happens.
     Steps,
+    /// 18: a whole coordinate is out of range.
+    Range,
+    /// 19: a report has more than 4,096 outlines.
+    Loops,
     /// A number that this wrapper does not know: the archive is a later one.
     Other(u32),
 }
@@ -60,6 +64,8 @@ impl Refusal {
             8 => Refusal::Starts,
             9 => Refusal::Room,
             10 => Refusal::Steps,
+            18 => Refusal::Range,
+            19 => Refusal::Loops,
             other => Refusal::Other(other),
         })
     }
@@ -90,6 +96,8 @@ impl Refusal {
             ),
             Refusal::Room => (9, "lent room is smaller than the need"),
             Refusal::Steps => (10, "a walk or a chain took too many steps"),
+            Refusal::Range => (18, "a whole coordinate is out of range"),
+            Refusal::Loops => (19, "too many outlines in a report"),
             Refusal::Other(number) => (number, "a reason that this wrapper does not know"),
         }
     }
@@ -122,13 +130,15 @@ mod tests {
         for number in 1..=40 {
             let refusal = Refusal::from_number(number).unwrap();
             assert_eq!(refusal.number(), number);
-            assert_eq!(matches!(refusal, Refusal::Other(_)), number > 10);
+            let known = number <= 10 || number == 18 || number == 19;
+            assert_eq!(matches!(refusal, Refusal::Other(_)), !known);
         }
     }
 
     #[test]
     fn every_refusal_has_a_sentence_of_its_own() {
         let mut sentences: Vec<String> = (1..=11)
+            .chain(18..=19)
             .map(|number| Refusal::from_number(number).unwrap().to_string())
             .collect();
         assert_eq!(
@@ -141,7 +151,7 @@ mod tests {
         );
         sentences.sort();
         sentences.dedup();
-        assert_eq!(sentences.len(), 11);
+        assert_eq!(sentences.len(), 13);
     }
 
     #[test]

@@ -121,6 +121,35 @@ pub struct StitchAnswer {
     pub chains: usize,
 }
 
+/// `mask_winding_answer`
+#[repr(C)]
+#[derive(Debug, Clone, Copy, Default)]
+pub struct WindingAnswer {
+    pub refusal: u32,
+    pub winding: i64,
+}
+
+/// `mask_area_answer`
+#[repr(C)]
+#[derive(Debug, Clone, Copy, Default)]
+pub struct AreaAnswer {
+    pub refusal: u32,
+    pub negative: u32,
+    pub high: u64,
+    pub low: u64,
+}
+
+/// `mask_report_answer`
+#[repr(C)]
+#[derive(Debug, Clone, Copy, Default)]
+pub struct ReportAnswer {
+    pub refusal: u32,
+    pub count: usize,
+    pub zero: usize,
+    pub high: u64,
+    pub low: u64,
+}
+
 #[cfg(not(test))]
 pub use entries::*;
 
@@ -133,8 +162,8 @@ pub use entries::*;
 #[cfg(not(test))]
 mod entries {
     use super::{
-        CountAnswer, Point, PruneAnswer, Split, StitchAnswer, VerdictAnswer, Vertex, VertexAnswer,
-        View, ViewAnswer,
+        AreaAnswer, CountAnswer, Point, PruneAnswer, ReportAnswer, Split, StitchAnswer,
+        VerdictAnswer, Vertex, VertexAnswer, View, ViewAnswer, WindingAnswer,
     };
 
     extern "C" {
@@ -300,6 +329,25 @@ mod entries {
             kept: *mut usize,
             kept_len: usize,
         ) -> CountAnswer;
+
+        pub fn mask_straight_winding(
+            outline: *const i64,
+            outline_len: usize,
+            vc: usize,
+            x: i64,
+            y: i64,
+        ) -> WindingAnswer;
+
+        pub fn mask_straight_area(outline: *const i64, outline_len: usize, vc: usize)
+            -> AreaAnswer;
+
+        pub fn mask_straight_report(
+            points: *const i64,
+            points_len: usize,
+            ends: *const usize,
+            ends_len: usize,
+            loops: usize,
+        ) -> ReportAnswer;
     }
 
     #[inline]
@@ -603,6 +651,32 @@ mod entries {
                 limit,
                 kept.as_mut_ptr(),
                 kept.len(),
+            )
+        }
+    }
+
+    #[inline]
+    pub fn straight_winding(outline: &[i64], vc: usize, x: i64, y: i64) -> WindingAnswer {
+        // SAFETY: pointer and length are those of one slice, which is only read.
+        unsafe { mask_straight_winding(outline.as_ptr(), outline.len(), vc, x, y) }
+    }
+
+    #[inline]
+    pub fn straight_area(outline: &[i64], vc: usize) -> AreaAnswer {
+        // SAFETY: pointer and length are those of one slice, which is only read.
+        unsafe { mask_straight_area(outline.as_ptr(), outline.len(), vc) }
+    }
+
+    #[inline]
+    pub fn straight_report(points: &[i64], ends: &[usize], loops: usize) -> ReportAnswer {
+        // SAFETY: each pointer and length are those of one slice, and both are only read.
+        unsafe {
+            mask_straight_report(
+                points.as_ptr(),
+                points.len(),
+                ends.as_ptr(),
+                ends.len(),
+                loops,
             )
         }
     }

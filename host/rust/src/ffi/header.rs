@@ -2,7 +2,8 @@
 //! parameters of each function, the number of each code. No compiler compares the two.
 
 use super::{
-    CountAnswer, PruneAnswer, StitchAnswer, VerdictAnswer, VertexAnswer, View, ViewAnswer,
+    AreaAnswer, CountAnswer, PruneAnswer, ReportAnswer, StitchAnswer, VerdictAnswer, VertexAnswer,
+    View, ViewAnswer, WindingAnswer,
 };
 use crate::{ChainEnd, Mode, Point, Refusal, Selector, Split, Starts, Vertex};
 use std::mem::{align_of, size_of};
@@ -44,7 +45,7 @@ fn fields(name: &str) -> Vec<(String, String)> {
 /// Size and alignment of a type of the header on x86-64.
 fn size_and_alignment(kind: &str) -> (usize, usize) {
     match kind {
-        "double" | "size_t" => (8, 8),
+        "double" | "size_t" | "int64_t" | "uint64_t" => (8, 8),
         "uint32_t" => (4, 4),
         name => {
             let (size, alignment, _) = layout(name);
@@ -124,6 +125,18 @@ fn structs_lie_as_in_the_header() {
             "mask_stitch_answer",
             layout_here!(StitchAnswer: refusal, rounds, loops, chains),
         ),
+        (
+            "mask_winding_answer",
+            layout_here!(WindingAnswer: refusal, winding),
+        ),
+        (
+            "mask_area_answer",
+            layout_here!(AreaAnswer: refusal, negative, high, low),
+        ),
+        (
+            "mask_report_answer",
+            layout_here!(ReportAnswer: refusal, count, zero, high, low),
+        ),
     ];
     for (name, here) in here {
         assert_eq!(layout(name), here, "{name}");
@@ -136,6 +149,7 @@ fn sizes_that_were_reckoned_by_hand() {
     assert_eq!(size_of::<View>(), 72);
     assert_eq!(size_of::<VerdictAnswer>(), 80);
     assert_eq!(size_of::<PruneAnswer>(), 40);
+    assert_eq!(size_of::<AreaAnswer>(), 24);
 }
 
 /// A function: its name, its parameters (name and type), its answer's type.
@@ -176,6 +190,8 @@ fn rust_type(kind: &str) -> String {
         "double" => "f64".to_string(),
         "size_t" => "usize".to_string(),
         "uint32_t" => "u32".to_string(),
+        "int64_t" => "i64".to_string(),
+        "uint64_t" => "u64".to_string(),
         "uint8_t" => "u8".to_string(),
         name => name
             .strip_prefix("mask_")
@@ -210,7 +226,7 @@ fn bound() -> Vec<Function> {
 fn functions_are_declared_in_the_header() {
     let declared = declared();
     let bound = bound();
-    assert_eq!(bound.len(), 10);
+    assert_eq!(bound.len(), 13);
     for here in bound {
         let there = declared.iter().find(|there| there.0 == here.0);
         assert_eq!(there, Some(&here));
@@ -252,7 +268,9 @@ fn assert_codes(name: &str, prefix: &str, here: impl IntoIterator<Item = (String
 
 #[test]
 fn codes_are_those_of_the_header() {
-    let refusals = (1..=10).map(|n| (header_name(Refusal::from_number(n).unwrap()), n));
+    let refusals = (1..=10)
+        .chain(18..=19)
+        .map(|n| (header_name(Refusal::from_number(n).unwrap()), n));
     assert_codes("mask_refusal", "MASK_REFUSED_", refusals);
     let modes = Mode::ALL.map(|mode| (header_name(mode), mode.code()));
     assert_codes("mask_mode", "MASK_MODE_", modes);

@@ -4,7 +4,8 @@
 //! `tests` show.
 
 use super::{
-    CountAnswer, PruneAnswer, StitchAnswer, VerdictAnswer, VertexAnswer, View, ViewAnswer,
+    AreaAnswer, CountAnswer, PruneAnswer, ReportAnswer, StitchAnswer, VerdictAnswer, VertexAnswer,
+    View, ViewAnswer, WindingAnswer,
 };
 use crate::{Point, Split, Vertex};
 use std::cell::RefCell;
@@ -16,12 +17,14 @@ pub(crate) enum Lent {
     Code(u32),
     Count(usize),
     Number(f64),
+    Whole(i64),
     Point(Point),
     Vertex(Vertex),
     Split(Split),
     View(View),
     Counts(Vec<usize>),
     Numbers(Vec<f64>),
+    Wholes(Vec<i64>),
     Answers(Vec<u8>),
     /// A list to be written: its length.
     Room(usize),
@@ -132,7 +135,10 @@ answers!(
     Verdict VerdictAnswer,
     Count CountAnswer,
     Prune PruneAnswer,
-    Stitch StitchAnswer
+    Stitch StitchAnswer,
+    Winding WindingAnswer,
+    Area AreaAnswer,
+    Report ReportAnswer
 );
 
 macro_rules! lent_as {
@@ -151,12 +157,14 @@ lent_as!(
     Code u32,
     Count usize,
     Number f64,
+    Whole i64,
     Point Point,
     Vertex Vertex,
     Split Split,
     View View,
     Counts &[usize],
     Numbers &[f64],
+    Wholes &[i64],
     Answers &[u8]
 );
 
@@ -178,7 +186,7 @@ macro_rules! call {
 pub(crate) mod entries {
     use super::{play, Call, Lent};
     use super::{CountAnswer, PruneAnswer, StitchAnswer, VerdictAnswer, VertexAnswer, ViewAnswer};
-    use super::{Point, Split, Vertex, View};
+    use super::{AreaAnswer, Point, ReportAnswer, Split, Vertex, View, WindingAnswer};
 
     pub(crate) fn view_vertex(outline: &[f64], vc: usize, view: View, index: usize) -> VertexAnswer {
         play(call!(view_vertex: outline, vc, view, index;), &mut [], &mut []).into()
@@ -263,5 +271,17 @@ pub(crate) mod entries {
         areas: &[f64], loops: usize, limit: f64, kept: &mut [usize],
     ) -> CountAnswer {
         play(call!(area_pass: areas, loops, limit; kept), &mut [kept], &mut []).into()
+    }
+
+    pub(crate) fn straight_winding(outline: &[i64], vc: usize, x: i64, y: i64) -> WindingAnswer {
+        play(call!(straight_winding: outline, vc, x, y;), &mut [], &mut []).into()
+    }
+
+    pub(crate) fn straight_area(outline: &[i64], vc: usize) -> AreaAnswer {
+        play(call!(straight_area: outline, vc;), &mut [], &mut []).into()
+    }
+
+    pub(crate) fn straight_report(points: &[i64], ends: &[usize], loops: usize) -> ReportAnswer {
+        play(call!(straight_report: points, ends, loops;), &mut [], &mut []).into()
     }
 }

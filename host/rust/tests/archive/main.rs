@@ -5,4 +5,5 @@ mod random;
 mod refusals;
 mod shapes;
 mod sheet;
+mod straight;
 mod views;

@@ -29,7 +29,7 @@ shared-slice-read-bits : tie.Need-shared-slice-read-bits Inv-loop μ-loop
 shared-slice-read-bits c = search needs
 
 bits-requires : tie.Need-bits-requires Inv-loop μ-loop
-bits-requires c κs = c .before .before .loop .inv .1 _ (search needs)
+bits-requires c κs = record { number = c .before .before .loop .inv .1 _ (search needs) }
 
 mul-out : tie.Need-mul-out Inv-loop μ-loop
 mul-out c = search needs

@@ -10,7 +10,7 @@ abbrev μ-loop : tie.MeasureT-loop
 μ-loop bytes₀ at width value p₀ x₀ left₀ bytes p x left = left
 
 loop-holds : tie.Need-loop-holds Inv-loop μ-loop
-loop-holds c = putting-none _ _ _ _ (c .before .pre)
+loop-holds c = putting-none _ _ _ _ (c .before .pre .inside)
 
 low-requires : tie.Need-low-requires Inv-loop μ-loop
 low-requires c κs = search needs

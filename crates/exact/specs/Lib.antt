@@ -1,0 +1,5 @@
+pub mod Two
+pub mod TwoLaws
+pub mod Fit
+pub mod FitLaws
+pub mod IntegerLaws

@@ -1,0 +1,45 @@
+// Words and numbers.
+use exact::two::Two;
+use libc::STDERR_FILENO;
+use libc::STDOUT_FILENO;
+use straight_entries::answer::ReportAnswer;
+
+fn word(text: &[u8]) {
+    io::write_all(STDOUT_FILENO, text);
+}
+
+fn whole(n: usize) {
+    io::print_decimal(STDOUT_FILENO, n as u64);
+}
+
+// A number of two words.
+fn wide(high: u64, low: u64) {
+    let mut text = [0u8; 39];
+    decimal::spell(Two { high, low }, &mut text);
+    let from = decimal::first_digit(&text);
+    io::write_all(STDOUT_FILENO, &text[from..]);
+}
+
+// What the report says, or the number of its refusal.
+pub(crate) fn report(r: ReportAnswer) {
+    if r.refusal != 0 {
+        word(b"refused ");
+        whole(r.refusal as usize);
+        word(b"\n");
+        return;
+    }
+    word(b"outlines ");
+    whole(r.count);
+    word(b"\narea zero ");
+    whole(r.zero);
+    word(b"\ntotal of the absolute doubled areas ");
+    wide(r.high, r.low);
+    word(b"\n");
+}
+
+// A line that is no pair.
+pub(crate) fn no_pair(line: u64) {
+    io::write_all(STDERR_FILENO, b"line ");
+    io::print_decimal(STDERR_FILENO, line);
+    io::write_all(STDERR_FILENO, b": no pair of whole numbers\n");
+}

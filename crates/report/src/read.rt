@@ -1,0 +1,60 @@
+// Reading to the end.
+ghost use Rattle.running.specs.Running.{Reported};
+use crate::outline;
+use crate::outline::State;
+use crate::print;
+
+// Every byte of a part of the text.
+fn take_all(start: State, points: &mut [i64], text: &[u8]) -> State
+    requires { ⌜ Reported (start .«so_far») ⌝ }
+    ensures { λ r. ⌜ Reported (r .«so_far») ⌝ }
+{
+    let mut s = start;
+    let mut i: usize = 0;
+    while i < text.len() {
+        s = outline::take(s, points, text[i]);
+        i += 1;
+    }
+    s
+}
+
+// Reads once.
+fn read_some(fd: i32, s: State, points: &mut [i64]) -> State
+    requires { ⌜ Reported (s .«so_far») ⌝ }
+    ensures { λ r. ⌜ Reported (r .«so_far») ⌝ }
+{
+    let mut buf = io::large_buffer();
+    let got = libc::read(fd, &mut buf);
+    if got < 0 {
+        os::fail(b"read");
+        return outline::stopped(s, 1);
+    }
+    if got == 0 {
+        return outline::stopped(s, 0);
+    }
+    let n = io::count(got, &buf);
+    take_all(s, points, &buf[..n])
+}
+
+// A proved loop ends, and nothing says that an input does: the turns are counted down, from a number that no run uses up.
+fn read_all(fd: i32, points: &mut [i64]) -> State
+    ensures { λ r. ⌜ Reported (r .«so_far») ⌝ }
+{
+    let mut s = outline::begin();
+    let mut turns = u64::MAX;
+    while turns > 0 && s.more == 1 {
+        s = read_some(fd, s, points);
+        turns -= 1;
+    }
+    s
+}
+
+// The report on what can be read there. Where a line is no pair, there is none.
+pub(crate) fn report_on(fd: i32) {
+    let mut points = [0i64; 2050];
+    let s = read_all(fd, &mut points);
+    let s = outline::finish(s, &mut points);
+    if s.bad == 0 {
+        print::report(s.so_far);
+    }
+}

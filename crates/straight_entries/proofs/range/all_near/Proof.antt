@@ -1,0 +1,62 @@
+use Prim.Native.Nat.{_≤_, _-_}
+use mathlib.Core.Path.{_≡_, refl}
+use lib.IntN.{pos}
+use lib.ListN.{length, getD, take}
+use denote.Ref.{now}
+use Rattle.basis.specs.All.{allOf, all-more, scan}
+use Rattle.straight_entries.specs.Range.{inReach, allInReach}
+use Rattle.straight_entries.specs.RangeLaws.{reach-got}
+use borrow.Author.Needs.{needs}
+use Rattle.straight_entries.proofs.range.all_near.Statement.{statement}
+use Rattle.straight_entries.proofs.range.all_near.Tie as tie
+
+abbrev Inv-loop : tie.InvT-loop
+Inv-loop l ok₀ i₀ ok i = (i ≤ length l) × (ok ≡ allInReach (take i l))
+
+abbrev μ-loop : tie.MeasureT-loop
+μ-loop l ok₀ i₀ ok i = length l - i
+
+loop-holds : tie.Need-loop-holds Inv-loop μ-loop
+unfolding allOf
+loop-holds c = (search needs, refl)
+
+mul-near-vertex : tie.Need-mul-near-vertex Inv-loop μ-loop
+mul-near-vertex c = search needs
+
+shared-slice-copy-out-near-vertex : tie.Need-shared-slice-copy-out-near-vertex Inv-loop μ-loop
+shared-slice-copy-out-near-vertex c = search needs
+
+near-vertex-requires : tie.Need-near-vertex-requires Inv-loop μ-loop
+near-vertex-requires c κs = search needs
+
+add-i : tie.Need-add-i Inv-loop μ-loop
+add-i c = search needs
+
+loop-less : tie.Need-loop-less Inv-loop μ-loop
+loop-less c = search needs
+
+loop-again : tie.Need-loop-again Inv-loop μ-loop
+loop-again c =
+    let k = c .before .before .before in
+    let l = now (k .before .args .l) in
+    let z = getD l (k .loop .i) (pos 0) in
+    let tested = reach-got 400000000 (c .near-vertex .result) z (c .before .near-vertex-arg .given) (c .near-vertex .ensures) in
+    (search needs, all-more (inReach 400000000) l (k .loop .i) (k .loop .ok) (pos 0) (c .near-vertex .result) (c .before .before .loop-test .taken) (k .loop .inv .1) tested)
+
+returns : tie.Need-returns Inv-loop μ-loop
+returns c = search (needs, scan)
+
+pub all-near-spec : {M : Type 1} → statement M
+all-near-spec =
+    tie.close
+    (tie.spec
+    Inv-loop
+    μ-loop
+    loop-holds
+    mul-near-vertex
+    shared-slice-copy-out-near-vertex
+    near-vertex-requires
+    add-i
+    loop-less
+    loop-again
+    returns)

@@ -1,0 +1,34 @@
+use Rattle.basis.specs.RefuseLaws.{answers}
+use Rattle.straight_entries.specs.ReportEntry.{reportLaws}
+use borrow.Author.Needs.{needs}
+use Rattle.straight_entries.proofs.report.entry.Statement.{statement}
+use Rattle.straight_entries.proofs.report.entry.Tie as tie
+
+refusal-requires : tie.Need-refusal-requires
+refusal-requires c κs = search needs
+
+report-refused-requires : tie.Need-report-refused-requires
+report-refused-requires c κs = search needs
+
+returns : tie.Need-returns
+returns c = search (needs, answers, reportLaws)
+
+report-of-requires : tie.Need-report-of-requires
+report-of-requires c κs = search (needs, answers, reportLaws)
+
+report-found-requires : tie.Need-report-found-requires
+report-found-requires c κs = search needs
+
+returns-2 : tie.Need-returns-2
+returns-2 c = search (needs, answers, reportLaws)
+
+pub entry-spec : {M : Type 1} → statement M
+entry-spec =
+    tie.close
+    (tie.spec
+    refusal-requires
+    report-refused-requires
+    returns
+    report-of-requires
+    report-found-requires
+    returns-2)

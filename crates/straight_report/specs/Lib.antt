@@ -1,0 +1,3 @@
+pub mod Report
+pub mod MostTheorems
+pub mod ReportLaws
