@@ -1,6 +1,6 @@
 -- The loop of `get`: the bytes from at + i on are read, the highest first.
 use Prim.Native.Nat.{ℕ, suc, _+_, _-_, _*_, _^_, _≤_, _<_}
-use mathlib.Core.Path.{_≡_}
+use mathlib.Core.Path.{_≡_, ap, _∙_}
 use mathlib.Core.List.{List}
 use native.Mathlib.Omega.{arith}
 use native.Mathlib.Nat.{pow-suc, pow-le-pow-right}
@@ -34,7 +34,7 @@ module _ (l : List ℕ) (at w v i : ℕ) (g : Getting l at w v i) (h : 0 < i) (x
       let p : 256 ^ (w - (i - 1)) ≤ 256 ^ 8 = pow-le-pow-right (omega arith) k in
       omega (arith, getting-power b)
 
-  pub getting-more : x ≡ getD l (at + (i - 1)) 0 → x < 256 → Getting l at w (x + 256 * v) (i - 1)
+  getting-more : x ≡ getD l (at + (i - 1)) 0 → x < 256 → Getting l at w (x + 256 * v) (i - 1)
   unfolding valueOf
   getting-more e b =
       let p : at + (i - 1) + 0 ≡ at + (i - 1) = omega arith in
@@ -45,6 +45,10 @@ module _ (l : List ℕ) (at w v i : ℕ) (g : Getting l at w v i) (h : 0 < i) (x
         value = rw (one-more, getD-drop (at + (i - 1)) l 0 0, p, drop-drop 1 (at + (i - 1)) l, q, ← e, ← g .value);
         below = getting-power b;
       }
+
+  -- the byte was read from a place that is its own
+  pub getting-at : (p : ℕ) → p ≡ at + (i - 1) → x ≡ getD l p 0 → x < 256 → Getting l at w (x + 256 * v) (i - 1)
+  getting-at p q e b = getting-more (e ∙ ap (λ (k : ℕ). getD l k 0) q) b
 
 pub getting-end : (l : List ℕ) (at w v i : ℕ) → i ≤ 0 → Getting l at w v i → Value l at w v
 getting-end l at w v i z g =

@@ -24,6 +24,11 @@ pub record FieldAt (b : List ℕ) (at w : ℕ) : Type 0 where
   pub thin : w ≤ 8
   pub inside : at + w ≤ length b
 
+-- a byte of a field, whose end is a place of a list
+pub record ByteAt (at w i : ℕ) : Type 0 where
+  pub within : i < w
+  pub ends : at + w < 2 ^ 64
+
 -- space for w bytes at `at`
 pub record SpaceAt (b : List ℕ) (at w : ℕ) : Type 0 where
   pub inside : at + w ≤ length b

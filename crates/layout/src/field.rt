@@ -3,12 +3,20 @@ ghost use mathlib.Core.Path.{_≡_};
 ghost use Prim.Native.Nat.{_+_, _%_, _<_};
 ghost use lib.Seq.{sets};
 ghost use Rattle.layout.specs.Layout.{bytesOf};
-ghost use Rattle.layout.specs.Ready.{FieldAt, SpaceAt, Value};
+ghost use Rattle.layout.specs.Ready.{FieldAt, SpaceAt, ByteAt, Value};
 
 fn wide(b: u8) -> usize
     ensures { λ r. ⌜ (r ≡ b) × (r < 256) ⌝ }
 {
     b as usize
+}
+
+// Where byte i of a field of `width` bytes stands, counted from the lowest: the lowest comes first.
+fn byte_at(at: usize, width: usize, i: usize) -> usize
+    requires { ⌜ ByteAt at width i ⌝ }
+    ensures { λ r. ⌜ r ≡ at + i ⌝ }
+{
+    at + i
 }
 
 // The value of the `width` bytes from `at` on.
@@ -20,7 +28,7 @@ pub fn get(bytes: &[u8], at: usize, width: usize) -> usize
     let mut i = width;
     while i > 0 {
         i -= 1;
-        let p = at + i;
+        let p = byte_at(at, width, i);
         v = wide(bytes[p]) + 256 * v;
     }
     v

@@ -1,6 +1,6 @@
 use borrow.Author.Needs.{needs}
 use native.Mathlib.Omega.{arith}
-use Rattle.layout.proofs.Getting.{Getting, getting-none, getting-fits, getting-more, getting-end}
+use Rattle.layout.proofs.Getting.{Getting, getting-none, getting-fits, getting-at, getting-end}
 use Rattle.layout.proofs.field.get.Statement.{statement}
 use Rattle.layout.proofs.field.get.Tie as tie
 
@@ -16,8 +16,8 @@ loop-holds c = getting-none _ _ _ (c .before .pre)
 sub-i : tie.Need-sub-i Inv-loop μ-loop
 sub-i c = search needs
 
-add-p : tie.Need-add-p Inv-loop μ-loop
-add-p c = search needs
+byte-at-requires : tie.Need-byte-at-requires Inv-loop μ-loop
+byte-at-requires c κs = search needs
 
 shared-slice-read-wide : tie.Need-shared-slice-read-wide Inv-loop μ-loop
 shared-slice-read-wide c = search needs
@@ -26,16 +26,16 @@ wide-requires : tie.Need-wide-requires Inv-loop μ-loop
 wide-requires c κs = search needs
 
 mul-v : tie.Need-mul-v Inv-loop μ-loop
-mul-v c = omega (arith, getting-fits _ _ _ _ _ (c .before .before .before .loop .inv) (c .before .before .loop-test .taken) 0 (omega arith))
+mul-v c = omega (arith, getting-fits _ _ _ _ _ (c .before .before .before .before .loop .inv) (c .before .before .before .loop-test .taken) 0 (omega arith))
 
 add-v : tie.Need-add-v Inv-loop μ-loop
-add-v c = omega (arith, getting-fits _ _ _ _ _ (c .before .before .before .loop .inv) (c .before .before .loop-test .taken) _ (c .wide .ensures .1))
+add-v c = omega (arith, getting-fits _ _ _ _ _ (c .before .before .before .before .loop .inv) (c .before .before .before .loop-test .taken) _ (c .wide .ensures .1))
 
 loop-less : tie.Need-loop-less Inv-loop μ-loop
 loop-less c = search needs
 
 loop-again : tie.Need-loop-again Inv-loop μ-loop
-loop-again c = getting-more _ _ _ _ _ (c .before .before .before .loop .inv) (c .before .before .loop-test .taken) _ (c .wide .ensures .0) (c .wide .ensures .1)
+loop-again c = getting-at _ _ _ _ _ (c .before .before .before .before .loop .inv) (c .before .before .before .loop-test .taken) _ _ (c .before .before .byte-at .ensures) (c .wide .ensures .0) (c .wide .ensures .1)
 
 returns : tie.Need-returns Inv-loop μ-loop
 returns c = getting-end _ _ _ _ _ (c .loop-test .left) (c .before .loop .inv)
@@ -48,7 +48,7 @@ get-spec =
     μ-loop
     loop-holds
     sub-i
-    add-p
+    byte-at-requires
     shared-slice-read-wide
     wide-requires
     mul-v
