@@ -30,12 +30,19 @@ fn is_free(visited: &[bool], first: usize, j: usize) -> bool
     !visited[j] || j == first
 }
 
-// The start point of slice j is in the closed box around the end.
+// A start point joins an end: it is in the closed box around it.
+fn joins(start: Point, end: Point, t: Tolerance) -> bool
+    ensures { λ r. ⌜ r ≡ inBox t end start ⌝ }
+{
+    point::in_box(start, end, t)
+}
+
+// The start point of slice j joins the end.
 fn is_near(points: &[f64], end: Point, t: Tolerance, j: usize) -> bool
     requires { ⌜ PointThere (now points) j ⌝ }
     ensures { λ r. ⌜ r ≡ inBox t end (pointAt (now (points .entry)) (2 * j)) ⌝ }
 {
-    point::in_box(read::point_at(points, 2 * j), end, t)
+    joins(read::point_at(points, 2 * j), end, t)
 }
 
 // Slice j is a candidate.

@@ -9,11 +9,11 @@ mul-point-at c = search needs
 point-at-requires : tie.Need-point-at-requires
 point-at-requires c κs = search needs
 
-in-box-requires : tie.Need-in-box-requires
-in-box-requires c κs = search needs
+joins-requires : tie.Need-joins-requires
+joins-requires c κs = search needs
 
 returns : tie.Need-returns
 returns c = search (needs, near-of)
 
 pub is-near-spec : {M : Type 1} → statement M
-is-near-spec = tie.close (tie.spec mul-point-at point-at-requires in-box-requires returns)
+is-near-spec = tie.close (tie.spec mul-point-at point-at-requires joins-requires returns)
