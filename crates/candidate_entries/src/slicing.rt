@@ -265,6 +265,62 @@ fn found_many(
     )
 }
 
+// The candidates of an accepted call that is too large for the smallest lists.
+fn found_beyond(
+    outline: &[f64],
+    vc: usize,
+    which: usize,
+    hit_at: &[usize],
+    hit: &[f64],
+    hits: usize,
+    lap_at: &[usize],
+    lap: &[f64],
+    laps: usize,
+    splits: &[f64],
+    t: Tolerance,
+    cand_at: &mut [usize],
+    cand: &mut [f64],
+    probe: &mut [f64],
+) -> usize
+    requires { ⌜ Accepted (given (now outline) vc which (now «hit_at») (now hit) hits (now «lap_at») (now lap) laps t) (now splits) (rooms (now «cand_at») (now cand) (now probe)) ⌝ }
+    ensures { λ r. ⌜ Written (alongCuts (given (now (outline .entry)) vc which (now («hit_at» .entry)) (now (hit .entry)) hits (now («lap_at» .entry)) (now (lap .entry)) laps t) (now (splits .entry))) (rooms (now («cand_at» .entry)) (now (cand .entry)) (now (probe .entry))) r (rooms (now («cand_at» .exit)) (now (cand .exit)) (now (probe .exit))) ⌝ }
+{
+    if hits + 2 * laps <= 64 {
+        return found_few(
+            outline,
+            vc,
+            which,
+            hit_at,
+            hit,
+            hits,
+            lap_at,
+            lap,
+            laps,
+            splits,
+            t,
+            cand_at,
+            cand,
+            probe,
+        );
+    }
+    found_many(
+        outline,
+        vc,
+        which,
+        hit_at,
+        hit,
+        hits,
+        lap_at,
+        lap,
+        laps,
+        splits,
+        t,
+        cand_at,
+        cand,
+        probe,
+    )
+}
+
 // The candidates of an accepted call.
 fn found(
     outline: &[f64],
@@ -285,8 +341,7 @@ fn found(
     requires { ⌜ Accepted (given (now outline) vc which (now «hit_at») (now hit) hits (now «lap_at») (now lap) laps t) (now splits) (rooms (now «cand_at») (now cand) (now probe)) ⌝ }
     ensures { λ r. ⌜ Written (alongCuts (given (now (outline .entry)) vc which (now («hit_at» .entry)) (now (hit .entry)) hits (now («lap_at» .entry)) (now (lap .entry)) laps t) (now (splits .entry))) (rooms (now («cand_at» .entry)) (now (cand .entry)) (now (probe .entry))) r (rooms (now («cand_at» .exit)) (now (cand .exit)) (now (probe .exit))) ⌝ }
 {
-    let count = hits + 2 * laps;
-    if count <= 16 {
+    if hits + 2 * laps <= 16 {
         return found_small(
             outline,
             vc,
@@ -304,25 +359,7 @@ fn found(
             probe,
         );
     }
-    if count <= 64 {
-        return found_few(
-            outline,
-            vc,
-            which,
-            hit_at,
-            hit,
-            hits,
-            lap_at,
-            lap,
-            laps,
-            splits,
-            t,
-            cand_at,
-            cand,
-            probe,
-        );
-    }
-    found_many(
+    found_beyond(
         outline,
         vc,
         which,

@@ -1,34 +1,13 @@
 // Little-endian words of 8 bytes, and lists of counts.
-ghost use Prim.Native.Nat.{_<_};
 use exact::signed;
+use layout::field;
 
-fn wide(b: u8) -> u64
-    ensures { λ r. ⌜ r < 256 ⌝ }
-{
-    b as u64
-}
-
-// Byte i, and 0 beyond the end.
-fn byte(s: &[u8], i: usize) -> u64
-    ensures { λ r. ⌜ r < 256 ⌝ }
-{
-    if i < s.len() {
-        return wide(s[i]);
-    }
-    0
-}
-
-fn half(s: &[u8]) -> u64
-    ensures { λ r. ⌜ r < 4294967296 ⌝ }
-{
-    byte(s, 0) + 256 * byte(s, 1) + 65536 * byte(s, 2) + 16777216 * byte(s, 3)
-}
-
+// The first word, and 0 where there is none.
 fn first(s: &[u8]) -> u64 {
-    if s.len() < 4 {
+    if s.len() < 8 {
         return 0;
     }
-    half(s) + 4294967296 * half(&s[4..])
+    field::get(s, 0, 8) as u64
 }
 
 // The words from number i on.

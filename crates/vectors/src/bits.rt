@@ -1,35 +1,12 @@
 // Little-endian words of 8 bytes.
-ghost use Prim.Native.Nat.{_<_};
+use layout::field;
 
-fn wide(b: u8) -> u64
-    ensures { λ r. ⌜ r < 256 ⌝ }
-{
-    b as u64
-}
-
-// Byte i, and 0 beyond the end.
-fn byte(s: &[u8], i: usize) -> u64
-    ensures { λ r. ⌜ r < 256 ⌝ }
-{
-    if i < s.len() {
-        return wide(s[i]);
-    }
-    0
-}
-
-// The first four bytes.
-fn half(s: &[u8]) -> u64
-    ensures { λ r. ⌜ r < 4294967296 ⌝ }
-{
-    byte(s, 0) + 256 * byte(s, 1) + 65536 * byte(s, 2) + 16777216 * byte(s, 3)
-}
-
-// The first eight.
+// The first word, and 0 where there is none.
 pub(crate) fn word(s: &[u8]) -> usize {
-    if s.len() < 4 {
+    if s.len() < 8 {
         return 0;
     }
-    (half(s) + 4294967296 * half(&s[4..])) as usize
+    field::get(s, 0, 8)
 }
 
 // Word i, and 0 beyond the end.
