@@ -8,11 +8,11 @@ use lib.Ieee.{Float}
 use Rattle.basis.specs.Number.{+0, allWithin}
 use Rattle.basis.specs.Room.{roomOf}
 use Rattle.basis.specs.Refuse.{Row, row, firstOf, answer}
-use Rattle.cuts.specs.Cuts.{Given, cutCount}
-use Rattle.cuts.specs.Order as order
-use Rattle.cuts.specs.Order.{cutNumbers, cutPoints}
-use Rattle.slices.specs.Slices as slices
-use Rattle.slices.specs.Ready.{Rooms, Roomy}
+use Rattle.cut.specs.Cuts.{Given, cutCount}
+use Rattle.cut.specs.Order as order
+use Rattle.cut.specs.Order.{cutNumbers, cutPoints}
+use Rattle.candidate.specs.Candidates as slices
+use Rattle.candidate.specs.Ready.{Rooms, Roomy}
 use Rattle.basis.specs.declared.answer.CountAnswer.{CountAnswer}
 use Rattle.basis.specs.Answers.{countRefused, counted}
 use Rattle.cut_entries.specs.CutRows.{listRows, valueRows, indexRows, cutLengthFault, cutRoomFault}

@@ -11,14 +11,14 @@ use Rattle.basis.specs.Number.{+0, Tolerance}
 use Rattle.basis.specs.RoomLaws.{room-front}
 use Rattle.basis.specs.Refuse.{firstFrom, orElse}
 use Rattle.basis.specs.RefuseLaws.{Clear, clear, clear-left, clear-right, first-from, then-rows, answer-no, answer-yes}
-use Rattle.cuts.specs.Cuts.{Given, given, cutCount}
-use Rattle.cuts.specs.Order as order
-use Rattle.cuts.specs.Order.{cutNumbers, cutPoints}
+use Rattle.cut.specs.Cuts.{Given, given, cutCount}
+use Rattle.cut.specs.Order as order
+use Rattle.cut.specs.Order.{cutNumbers, cutPoints}
 use Rattle.cut_order.specs.CutsLaws.{numbers-length, points-length, segment-below}
-use Rattle.slices.specs.Slices as slices
-use Rattle.slices.specs.Ready as ready
-use Rattle.slices.specs.Ready.{Sound, Rooms, Written}
-use Rattle.candidates.specs.SlicesTheorems.{guard-dead}
+use Rattle.candidate.specs.Candidates as slices
+use Rattle.candidate.specs.Ready as ready
+use Rattle.candidate.specs.Ready.{Sound, Rooms, Written}
+use Rattle.candidate_write.specs.CandidateTheorems.{guard-dead}
 use Rattle.basis.specs.declared.answer.CountAnswer.{CountAnswer}
 use Rattle.basis.specs.Answers.{countRefused, counted}
 use Rattle.cut_entries.specs.CutRows.{listRows, valueRows, indexRows}

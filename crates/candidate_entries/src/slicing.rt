@@ -1,7 +1,7 @@
 ghost use mathlib.Core.Path.{_≡_};
 ghost use Rattle.basis.specs.Refuse.{firstFrom};
-ghost use Rattle.cuts.specs.Cuts.{given};
-ghost use Rattle.slices.specs.Ready.{rooms, Written};
+ghost use Rattle.cut.specs.Cuts.{given};
+ghost use Rattle.candidate.specs.Ready.{rooms, Written};
 ghost use Rattle.cut_entries.specs.CutRows.{Which, whichOf};
 ghost use Rattle.candidate_entries.specs.Candidates.{alongCuts, splitLengthRows, splitRows, candRoomRows, candidatesRefusal, Accepted, Sliced, FoundRoom, Few};
 use basis::answer;
@@ -127,7 +127,7 @@ fn found_with(
     let count = hits + 2 * laps;
     let numbers = 3 * count;
     let points = 2 * count;
-    candidates::write::write_candidates(
+    candidate_write::write::write_candidates(
         outline,
         vc,
         &cut_at[..numbers],

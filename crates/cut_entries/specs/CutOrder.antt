@@ -8,8 +8,8 @@ use Rattle.basis.specs.Number.{+0, Tolerance}
 use Rattle.basis.specs.Room.{roomOf}
 use Rattle.basis.specs.Refuse.{Row, row, firstOf, answer}
 use Rattle.basis.specs.RefuseLaws.{Clear, clear, clear-left, clear-right, answer-no, answer-yes}
-use Rattle.cuts.specs.Cuts.{Given, given, cutCount}
-use Rattle.cuts.specs.Order.{Roomy, cutNumbers, cutPoints, Written}
+use Rattle.cut.specs.Cuts.{Given, given, cutCount}
+use Rattle.cut.specs.Order.{Roomy, cutNumbers, cutPoints, Written}
 use Rattle.basis.specs.declared.answer.CountAnswer.{CountAnswer}
 use Rattle.basis.specs.Answers.{countRefused, counted}
 use Rattle.cut_entries.specs.CutRows.{tooMany, listRows, valueRows, indexRows, cutRoomFault}

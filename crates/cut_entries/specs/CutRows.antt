@@ -7,7 +7,7 @@ use lib.Dec.{ltb, eqb}
 use Rattle.basis.specs.Number.{allWithin, tolerable}
 use Rattle.basis.specs.Each.{placesBelow, placesAtMost}
 use Rattle.basis.specs.Refuse.{Row, row, lengthFault, sizeFault, sourceFault}
-use Rattle.cuts.specs.Cuts.{Given}
+use Rattle.cut.specs.Cuts.{Given}
 
 -- which outline a source names: 0 for outline 1, 1 for outline 2
 unfoldable pub whichOf : ℕ → ℕ

@@ -11,8 +11,8 @@ use Rattle.basis.specs.Choice.{or-left, or-right}
 use Rattle.basis.specs.Each.{placesBelow}
 use Rattle.basis.specs.EachLaws.{below-at}
 use Rattle.basis.specs.RefuseLaws.{Clear, length-ok, size-ok}
-use Rattle.cuts.specs.Cuts.{Given, Ready}
-use Rattle.cuts.specs.Order.{Accepted}
+use Rattle.cut.specs.Cuts.{Given, Ready}
+use Rattle.cut.specs.Order.{Accepted}
 use Rattle.cut_entries.specs.CutRows.{Which, whichOf, tooMany, listRows, valueRows, indexRows, cutRoomFault, cutLengthFault}
 
 few-hits : (hits laps : ℕ) → tooMany hits laps ≡ false → hits ≤ 512

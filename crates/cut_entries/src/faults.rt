@@ -2,7 +2,7 @@
 ghost use mathlib.Core.Path.{_≡_};
 ghost use Prim.Native.Nat.{_<_};
 ghost use Rattle.basis.specs.Refuse.{firstFrom};
-ghost use Rattle.cuts.specs.Cuts.{given};
+ghost use Rattle.cut.specs.Cuts.{given};
 ghost use Rattle.cut_entries.specs.CutRows.{Which, Width, whichOf, tooMany, listRows, valueRows, indexRows, cutRoomFault, cutLengthFault};
 use basis::items;
 use basis::number;

@@ -1,5 +1,5 @@
 ghost use mathlib.Core.Path.{_≡_};
-ghost use Rattle.cuts.specs.Cuts.{given};
+ghost use Rattle.cut.specs.Cuts.{given};
 ghost use Rattle.cut_entries.specs.CutRows.{Which, whichOf};
 ghost use Rattle.basis.specs.Refuse.{firstFrom};
 ghost use Rattle.cut_entries.specs.CutOrder.{orderRoomRows, cutOrderRefusal, CutOrdered};

@@ -3,8 +3,8 @@ use Prim.Native.Nat.{ℕ, _+_, _*_, _≤_, _<_}
 use mathlib.Core.List.{List}
 use lib.ListN.{length}
 use lib.Ieee.{Float}
-use Rattle.cuts.specs.Cuts.{Given, cutCount}
-use Rattle.cuts.specs.Order.{Roomy}
+use Rattle.cut.specs.Cuts.{Given, cutCount}
+use Rattle.cut.specs.Order.{Roomy}
 use Rattle.cut_order.specs.Sort.{Keys, Ordered}
 
 -- room for item i of w elements

@@ -17,10 +17,10 @@ use Rattle.basis.specs.FlatLaws.{flat-snoc, flat-length}
 use Rattle.basis.specs.Number.{+0}
 use Rattle.basis.specs.Room.{roomOf}
 use Rattle.outline.specs.Points.{pointNumbers}
-use Rattle.cuts.specs.declared.cut.Case.{Case}
-use Rattle.cuts.specs.declared.cut.Cut.{Cut}
-use Rattle.cuts.specs.Cuts.{Given, givenIn, cutCount, cutOf, Arrival}
-use Rattle.cuts.specs.Order.{earlier, ordered, orderOf, numbersOf, pointOf, cutNumbers, cutPoints, Roomy, Written}
+use Rattle.cut.specs.declared.arrival.Case.{Case}
+use Rattle.cut.specs.declared.arrival.Cut.{Cut}
+use Rattle.cut.specs.Cuts.{Given, givenIn, cutCount, cutOf, Arrival}
+use Rattle.cut.specs.Order.{earlier, ordered, orderOf, numbersOf, pointOf, cutNumbers, cutPoints, Roomy, Written}
 use Rattle.cut_order.specs.Write.{Item, Known, WriteRoom, Few}
 use Rattle.cut_order.specs.SortLaws.{ordered-below, length-ordered}
 

@@ -5,14 +5,14 @@ ghost use Prim.Native.Nat.{_*_};
 ghost use lib.Seq.{sets};
 ghost use Rattle.basis.specs.Choice.{codeOf};
 ghost use Rattle.outline.specs.Points.{pointNumbers};
-ghost use Rattle.cuts.specs.Cuts.{given, givenIn};
-ghost use Rattle.cuts.specs.Order.{Roomy, Written};
+ghost use Rattle.cut.specs.Cuts.{given, givenIn};
+ghost use Rattle.cut.specs.Order.{Roomy, Written};
 ghost use Rattle.cut_order.specs.Write.{Item, Known, WriteRoom, Few};
 use crate::order;
 use basis::number::Tolerance;
-use cuts::cut;
-use cuts::cut::Case;
-use cuts::cut::Cut;
+use cut::arrival;
+use cut::arrival::Case;
+use cut::arrival::Cut;
 use outline::point::Point;
 
 // Yes is 1, no is 0.
@@ -62,7 +62,7 @@ fn write_items(
     let mut i = 0;
     while i < count {
         let n = order[i];
-        let c = cut::cut_of(outline, hit_at, hit, lap_at, lap, s, n);
+        let c = arrival::cut_of(outline, hit_at, hit, lap_at, lap, s, n);
         put_numbers(cut_at, i, c, n);
         put_point(cut, i, c.point);
         i += 1;

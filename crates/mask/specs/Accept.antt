@@ -16,13 +16,13 @@ use Rattle.basis.specs.RoomLaws.{room-front}
 use Rattle.basis.specs.Refuse.{sizeFault, sourceFault}
 use Rattle.basis.specs.RefuseLaws.{Clear, clear, clear-left, clear-right, clear-both, none-clear, answer-zero, answer-accepted, ok-length, ok-size}
 use Rattle.outline.specs.Outline.{Whole}
-use Rattle.cuts.specs.Cuts as cuts
+use Rattle.cut.specs.Cuts as cuts
 use Rattle.cut_order.specs.CutsLaws.{points-within}
-use Rattle.slices.specs.Slices.{candCount, candNumbers, candShapes, candidatesOf, numbersOf, shapeOf}
-use Rattle.slices.specs.Ready as slices
-use Rattle.candidates.specs.ItemLaws.{flat-length, wide-numbers, wide-shapes}
-use Rattle.candidates.specs.SlicesTheorems.{count-most, starts-below, offsets-most}
-use Rattle.candidates.specs.RangeTheorems.{InRange, shapes-in}
+use Rattle.candidate.specs.Candidates.{candCount, candNumbers, candShapes, candidatesOf, numbersOf, shapeOf}
+use Rattle.candidate.specs.Ready as slices
+use Rattle.candidate_write.specs.ItemLaws.{flat-length, wide-numbers, wide-shapes}
+use Rattle.candidate_write.specs.CandidateTheorems.{count-most, starts-below, offsets-most}
+use Rattle.candidate_write.specs.RangeTheorems.{InRange, shapes-in}
 use Rattle.basis.specs.declared.answer.CountAnswer.{CountAnswer}
 use Rattle.basis.specs.Answers.{countRefused}
 use Rattle.cut_entries.specs.CutRows.{listRows, valueRows, indexRows}
@@ -32,16 +32,16 @@ use Rattle.select.specs.declared.class.Starts.{Starts}
 use Rattle.prune.specs.Prune.{Cands, Overlaps, needOf, prunedOf, sliceCounts, sliceNumbers}
 use Rattle.prune.specs.Ready as prune
 use Rattle.prune.specs.Ready.{OverlapsFit}
-use Rattle.pruned.specs.PruneTheorems as PruneTheorems
-use Rattle.pruned.specs.PruneTheorems.{slices-few, starts-ascend, stitch-accepts}
+use Rattle.prune_write.specs.PruneTheorems as PruneTheorems
+use Rattle.prune_write.specs.PruneTheorems.{slices-few, starts-ascend, stitch-accepts}
 use Rattle.prune_entries.specs.declared.answer.PruneAnswer.{PruneAnswer}
 use Rattle.prune_entries.specs.Answers.{pruneRefused, pruneGiven}
 use Rattle.prune_entries.specs.PruneRows.{codesKnown, tooMany, roomFault}
 use Rattle.prune_entries.specs.PruneEntry.{Called, candsRows, lapsRows, codesRows, numbersRows, startsRows, reachesRows, inputRows, lentRows, pruneRefusal, pruneNumber, PruneLeft}
 use Rattle.prune_entries.specs.PruneEntryLaws.{prune-accepted, prune-sound}
-use Rattle.run.specs.Stitch as stitch
+use Rattle.stitch_run.specs.Stitch as stitch
 use Rattle.stitch.specs.Lent.{Lists, Long}
-use Rattle.run.specs.Demand3Theorems.{no-rounds-fault}
+use Rattle.stitch_run.specs.Demand3Theorems.{no-rounds-fault}
 use Rattle.stitch_entries.specs.StitchRows as rows
 use Rattle.stitch_entries.specs.StitchRows.{sourcesKnown, codeRows, numberRows, startsInside, offsetsInside, startsFault, roomRows}
 use Rattle.stitch_entries.specs.StitchEntry as stitched

@@ -18,11 +18,11 @@ use Rattle.view_entries.specs.CreateEntry.{createRows, createRefusal}
 use Rattle.view_entries.specs.SingleEntry.{singleRows, singleRefusal}
 use Rattle.view_entries.specs.EntireEntry.{entireRows, entireRefusal}
 use Rattle.verdict_entries.specs.ValidateEntry.{validateRows, validateRefusal}
-use Rattle.cuts.specs.Cuts as cuts
+use Rattle.cut.specs.Cuts as cuts
 use Rattle.cut_entries.specs.CutOrder.{cutOrderRows, cutOrderRefusal}
 use Rattle.candidate_entries.specs.Candidates.{candOpenRows, guardRows, candidatesRefusal}
 use Rattle.prune_entries.specs.PruneEntry.{Called, inputRows, lentRows, pruneRefusal}
-use Rattle.run.specs.Stitch as stitch
+use Rattle.stitch_run.specs.Stitch as stitch
 use Rattle.stitch_entries.specs.StitchRows.{roomRows}
 use Rattle.stitch_entries.specs.StitchEntry as stitched
 use Rattle.stitch_entries.specs.StitchEntry.{shapeRows, stitchRefusal}

@@ -19,15 +19,15 @@ use Rattle.view_entries.specs.CreateEntry.{createAnswer}
 use Rattle.view_entries.specs.SingleEntry.{singleAnswer}
 use Rattle.view_entries.specs.EntireEntry.{entireAnswer}
 use Rattle.verdict_entries.specs.ValidateEntry.{validateAnswer}
-use Rattle.cuts.specs.Cuts as cuts
-use Rattle.slices.specs.Ready as slices
+use Rattle.cut.specs.Cuts as cuts
+use Rattle.candidate.specs.Ready as slices
 use Rattle.basis.specs.declared.answer.CountAnswer.{CountAnswer}
 use Rattle.cut_entries.specs.CutOrder.{CutOrdered}
 use Rattle.candidate_entries.specs.Candidates.{Sliced}
 use Rattle.prune.specs.Ready as prune
 use Rattle.prune_entries.specs.declared.answer.PruneAnswer.{PruneAnswer}
 use Rattle.prune_entries.specs.PruneEntry.{Called, PruneLeft}
-use Rattle.run.specs.Stitch as stitch
+use Rattle.stitch_run.specs.Stitch as stitch
 use Rattle.stitch.specs.Lent.{Lists}
 use Rattle.stitch_entries.specs.declared.answer.StitchAnswer.{StitchAnswer}
 use Rattle.stitch_entries.specs.StitchEntry.{StitchLeft}

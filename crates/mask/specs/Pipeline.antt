@@ -10,8 +10,8 @@ use lib.Ieee.{Float}
 use borrow.Author.Tests.{not-false}
 use Rattle.basis.specs.Each.{placesBelow, placesAtMost}
 use Rattle.basis.specs.RefuseLaws.{answer-accepted}
-use Rattle.cuts.specs.Cuts as cuts
-use Rattle.slices.specs.Ready as slices
+use Rattle.cut.specs.Cuts as cuts
+use Rattle.candidate.specs.Ready as slices
 use Rattle.basis.specs.declared.answer.CountAnswer.{CountAnswer}
 use Rattle.cut_entries.specs.CutRows.{whichOf}
 use Rattle.cut_entries.specs.CutRowsLaws.{which-lt, cuts-ready}
@@ -22,7 +22,7 @@ use Rattle.prune_entries.specs.declared.answer.PruneAnswer.{PruneAnswer}
 use Rattle.prune_entries.specs.PruneRows.{codesKnown}
 use Rattle.prune_entries.specs.Answers.{pruneRefused}
 use Rattle.prune_entries.specs.PruneEntry.{Called, called, pruneNumber, PruneLeft}
-use Rattle.run.specs.Stitch as stitch
+use Rattle.stitch_run.specs.Stitch as stitch
 use Rattle.stitch.specs.Lent.{Lists, Long}
 use Rattle.stitch_entries.specs.declared.answer.StitchAnswer.{StitchAnswer}
 use Rattle.stitch_entries.specs.Answers.{stitchRefused}

@@ -1,6 +1,6 @@
 // Cuts and candidates.
-ghost use Rattle.cuts.specs.Cuts.{given};
-ghost use Rattle.slices.specs.Ready.{rooms};
+ghost use Rattle.cut.specs.Cuts.{given};
+ghost use Rattle.candidate.specs.Ready.{rooms};
 ghost use Rattle.cut_entries.specs.CutRows.{whichOf};
 ghost use Rattle.cut_entries.specs.CutOrder.{CutOrdered};
 ghost use Rattle.candidate_entries.specs.Candidates.{Sliced};

@@ -1,5 +1,5 @@
 // The stitch and the area pass.
-ghost use Rattle.run.specs.Stitch.{given};
+ghost use Rattle.stitch_run.specs.Stitch.{given};
 ghost use Rattle.stitch.specs.Lent.{lists};
 ghost use Rattle.stitch_entries.specs.StitchEntry.{StitchLeft};
 ghost use Rattle.area_entries.specs.AreaEntry.{AreaLeft};

@@ -10,7 +10,7 @@ use Rattle.basis.specs.RefuseLaws.{Clear, clear, clear-left, clear-right, first
 use Rattle.prune.specs.declared.counts.Pruned.{Pruned}
 use Rattle.prune.specs.Prune.{Cands}
 use Rattle.prune.specs.Ready.{CandsFit, OverlapsFit, Rooms, Ready, Written}
-use Rattle.pruned.specs.PruneTheorems.{cands-sound, overlaps-sound}
+use Rattle.prune_write.specs.PruneTheorems.{cands-sound, overlaps-sound}
 use Rattle.prune_entries.specs.declared.answer.PruneAnswer.{PruneAnswer}
 use Rattle.prune_entries.specs.Answers.{pruneRefused, pruneGiven}
 use Rattle.prune_entries.specs.PruneRowsLaws.{few-cands, few-laps, room-ok}

@@ -7,7 +7,7 @@ ghost use Rattle.prune_entries.specs.PruneEntry.{called, inputRows, Prun
 use crate::answer;
 use crate::answer::PruneAnswer;
 use crate::faults;
-use pruned::write;
+use prune_write::write;
 
 // Numbers 1 to 7: what is handed in.
 fn input_refusal(

@@ -12,10 +12,10 @@ use lib.ListN.{length, getD, drop, List·getD-append}
 use Rattle.basis.specs.Choice.{and-left}
 use Rattle.basis.specs.Refuse.{row, firstOf, firstFrom, orElse}
 use Rattle.basis.specs.RefuseLaws.{then-rows}
-use Rattle.layout.specs.Layout.{unpack, numOf}
-use Rattle.layout.specs.LayoutLaws.{length-unpack}
-use Rattle.layout.specs.Ready.{Fitted, fit-none, fit-one, ShapeAt, ShapeRead}
-use Rattle.layout.specs.StoreLaws.{sets-front}
+use Rattle.fields.specs.Fields.{unpack, numOf}
+use Rattle.fields.specs.FieldLaws.{length-unpack}
+use Rattle.fields.specs.Ready.{Fitted, fit-none, fit-one, ShapeAt, ShapeRead}
+use Rattle.fields.specs.StoreLaws.{sets-front}
 use Rattle.record.specs.declared.form.Version.{Version}
 use Rattle.record.specs.declared.head.Head.{Head}
 use Rattle.record.specs.Record.{markOk, frameRows, takenRows, countRows}

@@ -2,7 +2,7 @@
 use Prim.Native.Nat.{ℕ, zero, suc}
 use mathlib.Core.List.{List, [], _∷_, _++_}
 use lib.ListN.{take, drop}
-use Rattle.layout.specs.Layout.{rows}
+use Rattle.fields.specs.Fields.{rows}
 
 -- The head's fields 0 to 7 are the same in every version: the mark's three bytes, the version, two vertex counts, the selector, the tolerance.
 -- `later` is the number of the field that is the first of three starts; the slice count follows them.

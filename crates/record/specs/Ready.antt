@@ -3,8 +3,8 @@ use Prim.Native.Nat.{ℕ, _+_, _≤_, _<_}
 use mathlib.Core.Path.{_≡_}
 use mathlib.Core.List.{List}
 use lib.ListN.{length, getD}
-use Rattle.layout.specs.Layout.{size, unpack}
-use Rattle.layout.specs.Ready.{Narrow}
+use Rattle.fields.specs.Fields.{size, unpack}
+use Rattle.fields.specs.Ready.{Narrow}
 use Rattle.record.specs.declared.head.Head.{Head}
 use Rattle.record.specs.declared.form.Version.{Version}
 use Rattle.record.specs.Form.{Form}

@@ -9,8 +9,8 @@ use lib.Ieee.{Float}
 use Rattle.basis.specs.Number.{+0}
 use Rattle.basis.specs.Refuse.{Row, row, firstOf, answer}
 use Rattle.basis.specs.Room.{roomOf}
-use Rattle.layout.specs.Layout.{size, valueOf, pack, unpack, numOf, bitsOf}
-use Rattle.run.specs.Stitch.{Given, given}
+use Rattle.fields.specs.Fields.{size, valueOf, pack, unpack, numOf, bitsOf}
+use Rattle.stitch_run.specs.Stitch.{Given, given}
 use Rattle.record.specs.declared.head.Head.{Head}
 use Rattle.record.specs.declared.head.Seen.{Seen}
 use Rattle.record.specs.Form.{Form, bodyOf, column, mix}

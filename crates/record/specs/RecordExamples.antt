@@ -4,7 +4,7 @@ use mathlib.Core.Path.{_≡_, refl}
 use mathlib.Core.List.{List, [], _∷_}
 use Rattle.basis.specs.Number.{+0}
 use Rattle.basis.specs.Refuse.{firstOf}
-use Rattle.layout.specs.Layout.{size, valueOf}
+use Rattle.fields.specs.Fields.{size, valueOf}
 use Rattle.record.specs.declared.head.Head.{Head}
 use Rattle.record.specs.Form.{form1}
 use Rattle.record.specs.Record.{lengthOf, lengthIn, markOk, readRefusal}

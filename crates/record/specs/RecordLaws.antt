@@ -10,9 +10,9 @@ use lib.Seq.{length-take-le, sets}
 use Rattle.basis.specs.Refuse.{Row, row, firstOf}
 use Rattle.basis.specs.RefuseLaws.{Clear}
 use Rattle.basis.specs.Room.{roomOf}
-use Rattle.layout.specs.Layout.{size, rows, numOf}
-use Rattle.layout.specs.LayoutLaws.{length-rows, size-rows, size-append}
-use Rattle.layout.specs.StoreLaws.{sets-front}
+use Rattle.fields.specs.Fields.{size, rows, numOf}
+use Rattle.fields.specs.FieldLaws.{length-rows, size-rows, size-append}
+use Rattle.fields.specs.StoreLaws.{sets-front}
 use Rattle.record.specs.declared.head.Head.{Head}
 use Rattle.record.specs.Form.{vertexShape, bodyOf, column}
 use Rattle.record.specs.Record.{outline1Of, outline2Of, slicesAt, codesOf, numbersOf}

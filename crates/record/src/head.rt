@@ -6,9 +6,9 @@ ghost use Rattle.record.specs.Ready.{HeadFit, HeadRead, Sized, Counts};
 use crate::form;
 use crate::form::Version;
 use basis::refuse;
-use layout::copy;
-use layout::field;
-use layout::shape;
+use fields::copy;
+use fields::field;
+use fields::shape;
 use select::class::Starts;
 
 // The numbers of a head. The outlines and the slices lie beside it.

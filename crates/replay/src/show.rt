@@ -1,6 +1,6 @@
 // What a replay prints.
 use libc::STDOUT_FILENO;
-use vault::replay;
+use record_replay::replay;
 
 // Room for the vertices of 28 slices of offset 64: three numbers for each of 1 + 28 * 65.
 const ROOM: usize = 5463;

@@ -1,8 +1,8 @@
 // What was read so far: the line that is being read, the vertices of the outline that is being read, and the report on the outlines before it.
-ghost use Rattle.running.specs.Running.{Reported};
+ghost use Rattle.straight_entries.specs.Running.{Reported};
 use crate::print;
-use lines::Line;
 use straight_entries::answer::ReportAnswer;
+use text::lines::Line;
 
 pub(crate) struct State {
     pub(crate) line: Line,
@@ -24,7 +24,7 @@ const NOTHING: Line = Line {
 pub(crate) fn begin() -> State
     ensures { λ r. ⌜ Reported (r .«so_far») ⌝ }
 {
-    let so_far = running::none();
+    let so_far = straight_entries::running::none();
     State {
         line: NOTHING,
         number: 1,
@@ -83,7 +83,7 @@ fn with_outline(so_far: ReportAnswer, points: &[i64], vertices: usize) -> Report
     if vertices == 0 {
         return so_far;
     }
-    running::next(so_far, front(points, vertices), vertices)
+    straight_entries::running::next(so_far, front(points, vertices), vertices)
 }
 
 fn put(points: &mut [i64], k: usize, z: i64) {
@@ -108,8 +108,8 @@ fn vertex_read(s: State, points: &mut [i64]) -> State
     ensures { λ r. ⌜ Reported (r .«so_far») ⌝ }
 {
     let l = s.line;
-    let x = lines::coordinate(l.first_negative, l.first_size);
-    let y = lines::coordinate(l.negative, l.size);
+    let x = text::lines::coordinate(l.first_negative, l.first_size);
+    let y = text::lines::coordinate(l.negative, l.size);
     let n = store(points, s.vertices, x, y);
     let so_far = s.so_far;
     next_line(s, s.bad, n, so_far)
@@ -138,10 +138,10 @@ fn line_read(s: State, points: &mut [i64]) -> State
     requires { ⌜ Reported (s .«so_far») ⌝ }
     ensures { λ r. ⌜ Reported (r .«so_far») ⌝ }
 {
-    if lines::is_empty(s.line) {
+    if text::lines::is_empty(s.line) {
         return outline_read(s, points);
     }
-    if lines::is_pair(s.line) {
+    if text::lines::is_pair(s.line) {
         return vertex_read(s, points);
     }
     no_pair(s)
@@ -151,7 +151,7 @@ fn byte_read(s: State, c: u8) -> State
     requires { ⌜ Reported (s .«so_far») ⌝ }
     ensures { λ r. ⌜ Reported (r .«so_far») ⌝ }
 {
-    let line = lines::take(s.line, c);
+    let line = text::lines::take(s.line, c);
     let so_far = s.so_far;
     State {
         line,
@@ -187,7 +187,7 @@ fn last_line(s: State, points: &mut [i64]) -> State
     requires { ⌜ Reported (s .«so_far») ⌝ }
     ensures { λ r. ⌜ Reported (r .«so_far») ⌝ }
 {
-    if lines::is_empty(s.line) {
+    if text::lines::is_empty(s.line) {
         return s;
     }
     line_read(s, points)

@@ -1,8 +1,8 @@
 // Words and numbers.
-use exact::two::Two;
 use libc::STDERR_FILENO;
 use libc::STDOUT_FILENO;
 use straight_entries::answer::ReportAnswer;
+use whole::two::Two;
 
 fn word(text: &[u8]) {
     io::write_all(STDOUT_FILENO, text);
@@ -15,8 +15,8 @@ fn whole(n: usize) {
 // A number of two words.
 fn wide(high: u64, low: u64) {
     let mut text = [0u8; 39];
-    decimal::spell(Two { high, low }, &mut text);
-    let from = decimal::first_digit(&text);
+    text::decimal::spell(Two { high, low }, &mut text);
+    let from = text::decimal::first_digit(&text);
     io::write_all(STDOUT_FILENO, &text[from..]);
 }
 

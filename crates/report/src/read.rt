@@ -1,5 +1,5 @@
 // Reading to the end.
-ghost use Rattle.running.specs.Running.{Reported};
+ghost use Rattle.straight_entries.specs.Running.{Reported};
 use crate::outline;
 use crate::outline::State;
 use crate::print;

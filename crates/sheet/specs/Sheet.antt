@@ -15,9 +15,9 @@ use Rattle.view_entries.specs.declared.input.View.{View}
 use Rattle.view_entries.specs.Inputs.{viewData}
 use Rattle.view_entries.specs.ViewVertex.{viewVertexRefusal, viewVertexAnswer}
 use Rattle.view_entries.specs.SingleEntry.{singleRefusal, singleAnswer}
-use Rattle.cuts.specs.Cuts as cuts
-use Rattle.slices.specs.Slices.{candNumbers}
-use Rattle.slices.specs.Ready as slices
+use Rattle.cut.specs.Cuts as cuts
+use Rattle.candidate.specs.Candidates.{candNumbers}
+use Rattle.candidate.specs.Ready as slices
 use Rattle.basis.specs.declared.answer.CountAnswer.{CountAnswer}
 use Rattle.candidate_entries.specs.Candidates.{alongCuts, candidatesRefusal, Sliced}
 use Rattle.select.specs.declared.class.Starts.{Starts}
@@ -27,8 +27,8 @@ use Rattle.prune.specs.Ready as prune
 use Rattle.prune_entries.specs.declared.answer.PruneAnswer.{PruneAnswer}
 use Rattle.prune_entries.specs.Answers.{pruneGiven}
 use Rattle.prune_entries.specs.PruneEntry.{Called, called, pruneRefusal, PruneLeft}
-use Rattle.run.specs.Stitch as stitch
-use Rattle.run.specs.Stitch.{roundCount, roomItems, endItems}
+use Rattle.stitch_run.specs.Stitch as stitch
+use Rattle.stitch_run.specs.Stitch.{roundCount, roomItems, endItems}
 use Rattle.stitch.specs.Lent.{Lists}
 use Rattle.stitch_entries.specs.declared.answer.StitchAnswer.{StitchAnswer}
 use Rattle.stitch_entries.specs.Answers.{stitchRefused}

@@ -27,12 +27,12 @@ use Rattle.view_entries.specs.Answers.{vertexRefused, vertexFound, viewRefused,
 use Rattle.view_entries.specs.ViewVertex.{viewVertexRefusal, viewVertexAnswer}
 use Rattle.view_entries.specs.SingleEntry.{singleRefusal, singleAnswer}
 use Rattle.view.specs.Create.{nearVertex, bulgeBefore, createView, singleView}
-use Rattle.cuts.specs.Cuts as cuts
-use Rattle.cuts.specs.Cuts.{hitCut, moved, markedEnd, lapCut, cutOf}
-use Rattle.cuts.specs.Order.{distSquared, distance, sooner, earlier, insert, ordered, orderOf, cutNumbers, cutPoints}
-use Rattle.slices.specs.Slices as slices
-use Rattle.candidates.specs.ItemLaws.{flat-length, wide-numbers}
-use Rattle.slices.specs.Slices.{sameNext, firstCut, traverseFrom, traverseOf, sliceOf, pieceOf, walkOf, walked, walkAt, candidateAt, candidatesTo, walkLost, lostTo, anyWalkLost}
+use Rattle.cut.specs.Cuts as cuts
+use Rattle.cut.specs.Cuts.{hitCut, moved, markedEnd, lapCut, cutOf}
+use Rattle.cut.specs.Order.{distSquared, distance, sooner, earlier, insert, ordered, orderOf, cutNumbers, cutPoints}
+use Rattle.candidate.specs.Candidates as slices
+use Rattle.candidate_write.specs.ItemLaws.{flat-length, wide-numbers}
+use Rattle.candidate.specs.Candidates.{sameNext, firstCut, traverseFrom, traverseOf, sliceOf, pieceOf, walkOf, walked, walkAt, candidateAt, candidatesTo, walkLost, lostTo, anyWalkLost}
 use Rattle.cut_entries.specs.CutRows.{tooMany, cutRoomFault, cutLengthFault}
 use Rattle.basis.specs.declared.answer.CountAnswer.{CountAnswer}
 use Rattle.basis.specs.Answers.{countRefused, counted}
@@ -44,14 +44,14 @@ use Rattle.prune_entries.specs.PruneRows as pruneRows
 use Rattle.prune_entries.specs.PruneRows.{codesKnown, roomFault}
 use Rattle.prune_entries.specs.Answers.{pruneRefused, pruneGiven}
 use Rattle.prune_entries.specs.PruneEntry.{Called, inputRows, pruneRefusal, pruneNumber}
-use Rattle.chain.specs.Chain.{addVertex, addFirst, addView, dropLast}
-use Rattle.run.specs.Run as run
-use Rattle.run.specs.Run.{passing, free, candidate, taken, answered, asked, nextOf, roundOf, opened, onward, ended}
-use Rattle.run.specs.Run.{stopped, walk, chainFrom, added, begun, turn, turns, roundsOf}
-use Rattle.run.specs.Stitch as stitch
-use Rattle.run.specs.Stitch.{ofFirst, sliceOffset, sliceEnd, sliceView, sliceOutline, sliceCount, sliceVertex, startPoint, addSlice}
-use Rattle.run.specs.Stitch.{offersTo, rulesOf, runOf, loopOf, loopsOf, howOf, totals, roundCount, loopCount, roomItems}
-use Rattle.run.specs.Stitch.{endItems, isSpent, anySpent, roundsFault, sumBelow, weightAt, needFor}
+use Rattle.stitch_vertices.specs.Vertices.{addVertex, addFirst, addView, dropLast}
+use Rattle.stitch_run.specs.Run as run
+use Rattle.stitch_run.specs.Run.{passing, free, candidate, taken, answered, asked, nextOf, roundOf, opened, onward, ended}
+use Rattle.stitch_run.specs.Run.{stopped, walk, chainFrom, added, begun, turn, turns, roundsOf}
+use Rattle.stitch_run.specs.Stitch as stitch
+use Rattle.stitch_run.specs.Stitch.{ofFirst, sliceOffset, sliceEnd, sliceView, sliceOutline, sliceCount, sliceVertex, startPoint, addSlice}
+use Rattle.stitch_run.specs.Stitch.{offersTo, rulesOf, runOf, loopOf, loopsOf, howOf, totals, roundCount, loopCount, roomItems}
+use Rattle.stitch_run.specs.Stitch.{endItems, isSpent, anySpent, roundsFault, sumBelow, weightAt, needFor}
 use Rattle.stitch.specs.Lent.{Lists}
 use Rattle.stitch_entries.specs.StitchRows.{sourcesKnown, startsInside, offsetsInside, startsFault}
 use Rattle.stitch_entries.specs.declared.answer.StitchAnswer.{StitchAnswer}

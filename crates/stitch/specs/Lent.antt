@@ -10,14 +10,14 @@ use Rattle.basis.specs.Number.{+0}
 use Rattle.basis.specs.Room.{roomOf, cleared, Stretch}
 use Rattle.outline.specs.declared.point.Vertex.{Vertex}
 use Rattle.outline.specs.Points.{vertexNumbers}
-use Rattle.walk.specs.declared.rounds.ChainEnd.{ChainEnd}
+use Rattle.stitch_chain.specs.declared.rounds.ChainEnd.{ChainEnd}
 use Rattle.stitch.specs.declared.turn.Tally.{Tally}
 use Rattle.stitch.specs.declared.write.Stitched.{Stitched}
-use Rattle.run.specs.Run.{Chain, closed, turns, slicesOf, orderOf}
-use Rattle.run.specs.Stitch.{Given, sliceOffset, rulesOf, runOf, loopsOf, howOf, totals, needOf, roundCount, loopCount, chainCount, roomItems, endItems, chainItems, chainEndItems, howItems}
-use Rattle.run.specs.Demand3.{finished}
-use Rattle.round.specs.Ready.{Sound, Points}
-use Rattle.walk.specs.Ready.{Begun, chainsTo}
+use Rattle.stitch_run.specs.Run.{Chain, closed, turns, slicesOf, orderOf}
+use Rattle.stitch_run.specs.Stitch.{Given, sliceOffset, rulesOf, runOf, loopsOf, howOf, totals, needOf, roundCount, loopCount, chainCount, roomItems, endItems, chainItems, chainEndItems, howItems}
+use Rattle.stitch_run.specs.Demand3.{finished}
+use Rattle.stitch_round.specs.Ready.{Sound, Points}
+use Rattle.stitch_chain.specs.Ready.{Begun, chainsTo}
 
 -- what the chains l leave in each list
 abbrev pub numbersOf : List (Chain (List Vertex)) → List Float

@@ -11,24 +11,24 @@ use lib.Seq.{take-add, drop-drop, length-take-le}
 use lib.Ieee.{Float}
 use Rattle.outline.specs.declared.point.Vertex.{Vertex}
 use Rattle.outline.specs.Points.{vertexNumbers}
-use Rattle.chain.specs.Chain.{dropLast}
-use Rattle.chain.specs.Held.{chainOf}
-use Rattle.chain.specs.RestLaws.{chain-length, chain-less, chain-numbers, rest-lent, rest-front, rest-back}
-use Rattle.walk.specs.declared.rounds.ChainEnd.{ChainEnd}
+use Rattle.stitch_vertices.specs.Vertices.{dropLast}
+use Rattle.stitch_vertices.specs.Held.{chainOf}
+use Rattle.stitch_vertices.specs.RestLaws.{chain-length, chain-less, chain-numbers, rest-lent, rest-front, rest-back}
+use Rattle.stitch_chain.specs.declared.rounds.ChainEnd.{ChainEnd}
 use Rattle.stitch.specs.declared.turn.Tally.{Tally}
-use Rattle.run.specs.Run.{Ending, closed, tooSmall, noCandidate, noSelection, spent, Chain, Stitched, opened, added, begun, turn, turns, slicesOf, orderOf}
-use Rattle.run.specs.Stitch.{Given, sliceView, rulesOf, loopOf, loopsOf, howOf, totals, sumBelow, weightAt, needFor, needOf}
-use Rattle.run.specs.Demand3.{sumOver, leaves, finished}
-use Rattle.run.specs.SumLaws.{sum-append}
+use Rattle.stitch_run.specs.Run.{Ending, closed, tooSmall, noCandidate, noSelection, spent, Chain, Stitched, opened, added, begun, turn, turns, slicesOf, orderOf}
+use Rattle.stitch_run.specs.Stitch.{Given, sliceView, rulesOf, loopOf, loopsOf, howOf, totals, sumBelow, weightAt, needFor, needOf}
+use Rattle.stitch_run.specs.Demand3.{sumOver, leaves, finished}
+use Rattle.stitch_run.specs.SumLaws.{sum-append}
 use Rattle.basis.specs.FlatLaws.{flat-snoc}
-use Rattle.run.specs.TallyLaws.{tally-most}
-use Rattle.run.specs.RunLaws.{going-opened, kept-turns}
-use Rattle.run.specs.StitchLaws.{among}
-use Rattle.run.specs.ReportLaws.{order-snoc, loops-snoc, totals-snoc, totals-length, sum-map, flat-length, loops-size, loops-few, chains-few}
-use Rattle.round.specs.Ready.{Sound}
-use Rattle.walk.specs.Ready.{Begun, chainsTo, orderTo, mostOf, Opening, chainAt, Walked}
+use Rattle.stitch_run.specs.TallyLaws.{tally-most}
+use Rattle.stitch_run.specs.RunLaws.{going-opened, kept-turns}
+use Rattle.stitch_run.specs.StitchLaws.{among}
+use Rattle.stitch_run.specs.ReportLaws.{order-snoc, loops-snoc, totals-snoc, totals-length, sum-map, flat-length, loops-size, loops-few, chains-few}
+use Rattle.stitch_round.specs.Ready.{Sound}
+use Rattle.stitch_chain.specs.Ready.{Begun, chainsTo, orderTo, mostOf, Opening, chainAt, Walked}
 use Rattle.stitch.specs.Lent.{numbersOf, endsOf, chainEndsOf, howsOf, Lists, lists, Holds, EndFit, EndListed, loopEnd, tallyAfter, endsAfter, LoopFit, LoopListed, TurnFit, Turned}
-use Rattle.walk.specs.WalkLaws.{begins-fit, begun-put}
+use Rattle.stitch_chain.specs.ChainLaws.{begins-fit, begun-put}
 
 -- ---- the need
 

@@ -12,15 +12,15 @@ use lib.Ieee.{Float}
 use Rattle.basis.specs.Number.{+0}
 use Rattle.basis.specs.Room.{roomOf, cleared}
 use Rattle.stitch.specs.declared.turn.Tally.{Tally}
-use Rattle.run.specs.Run.{run, turns, orderOf}
-use Rattle.run.specs.Stitch.{Given, sliceOffset, sliceView, rulesOf, runOf, loopsOf, totals, sumBelow, weightAt, needFor, needOf, roundCount, loopCount, chainCount, roomItems, endItems, chainItems, chainEndItems, howItems}
-use Rattle.run.specs.RunLaws.{same-length}
-use Rattle.run.specs.StitchLaws.{among}
-use Rattle.run.specs.Demand3Theorems.{room-items, end-items, chain-items, how-items, chains-at-most, loops-at-most}
-use Rattle.round.specs.Ready.{Sound, Points}
-use Rattle.walk.specs.Ready.{Begun, chainsTo}
+use Rattle.stitch_run.specs.Run.{run, turns, orderOf}
+use Rattle.stitch_run.specs.Stitch.{Given, sliceOffset, sliceView, rulesOf, runOf, loopsOf, totals, sumBelow, weightAt, needFor, needOf, roundCount, loopCount, chainCount, roomItems, endItems, chainItems, chainEndItems, howItems}
+use Rattle.stitch_run.specs.RunLaws.{same-length}
+use Rattle.stitch_run.specs.StitchLaws.{among}
+use Rattle.stitch_run.specs.Demand3Theorems.{room-items, end-items, chain-items, how-items, chains-at-most, loops-at-most}
+use Rattle.stitch_round.specs.Ready.{Sound, Points}
+use Rattle.stitch_chain.specs.Ready.{Begun, chainsTo}
 use Rattle.stitch.specs.Lent.{Lists, Long, Holds, TurnFit, Turned, TurnsFit, AllTurned, NeedFit, RestFit, RestCleared, StitchFit, Few, Tabled, Written}
-use Rattle.walk.specs.WalkLaws.{begun-none, begun-then}
+use Rattle.stitch_chain.specs.ChainLaws.{begun-none, begun-then}
 
 -- ---- all turns
 

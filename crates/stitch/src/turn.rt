@@ -1,10 +1,10 @@
 // Document 01: "A chain starts at the lowest unvisited slice." Each slice has its turn, in ascending number.
-ghost use Rattle.round.specs.Ready.{planned};
+ghost use Rattle.stitch_round.specs.Ready.{planned};
 ghost use Rattle.stitch.specs.Lent.{lists, EndFit, EndListed, LoopFit, LoopListed, TurnFit, Turned, TurnsFit, AllTurned};
-use round::plan::Plan;
-use round::step;
-use walk::rounds;
-use walk::rounds::ChainEnd;
+use stitch_chain::rounds;
+use stitch_chain::rounds::ChainEnd;
+use stitch_round::plan::Plan;
+use stitch_round::step;
 
 // What is finished: vertices of the loops, loops, chains, rounds.
 pub(crate) struct Tally {

@@ -1,15 +1,15 @@
 // The stitch over lists that have been looked at: what it writes into the lent room and what it reports.
 ghost use mathlib.Core.Path.{_≡_};
-ghost use Rattle.round.specs.Ready.{planned};
-ghost use Rattle.run.specs.Stitch.{given, needOf};
+ghost use Rattle.stitch_round.specs.Ready.{planned};
+ghost use Rattle.stitch_run.specs.Stitch.{given, needOf};
 ghost use Rattle.stitch.specs.Lent.{lists, NeedFit, RestFit, RestCleared, StitchFit, Few, Tabled, Written};
 use crate::turn;
 use crate::turn::Tally;
 use basis::number::Tolerance;
 use basis::room;
-use round::plan::Plan;
-use round::slice;
 use select::class::Starts;
+use stitch_round::plan::Plan;
+use stitch_round::slice;
 
 // What is reported: the rounds taken, the loops returned, the chains walked.
 pub struct Stitched {

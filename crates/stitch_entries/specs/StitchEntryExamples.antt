@@ -5,9 +5,9 @@ use Rattle.basis.specs.Number.{absF, within, tolerable}
 use Rattle.basis.specs.All.{allOf}
 use Rattle.basis.specs.Each.{eachTo, placesBelow}
 use Rattle.basis.specs.Refuse.{firstOf, lengthFault, sizeFault, sourceFault}
-use Rattle.run.specs.Demand3Theorems.{no-rounds-fault}
-use Rattle.run.specs.Stitch.{sliceOffset, sumBelow, weightAt, needFor, needOf}
-use Rattle.run.specs.StitchExamples.{union}
+use Rattle.stitch_run.specs.Demand3Theorems.{no-rounds-fault}
+use Rattle.stitch_run.specs.Stitch.{sliceOffset, sumBelow, weightAt, needFor, needOf}
+use Rattle.stitch_run.specs.StitchExamples.{union}
 use Rattle.stitch_entries.specs.StitchRows.{sourcesKnown, startsInside, offsetsInside, startsFault}
 use Rattle.stitch_entries.specs.StitchEntry.{stitchRefusal}
 

@@ -16,9 +16,9 @@ use Rattle.basis.specs.RefuseLaws.{Clear, clear, clear-left, clear-right, first
 use Rattle.outline.specs.Outline.{Whole}
 use Rattle.view.specs.View.{Fit}
 use Rattle.select.specs.declared.class.Starts.{Starts}
-use Rattle.run.specs.Stitch.{Given, given, ofFirst, sliceOffset, sliceView, sliceOutline, sliceCount, roundCount, loopCount, chainCount}
-use Rattle.run.specs.Demand3Theorems.{no-rounds-fault}
-use Rattle.round.specs.Ready.{Sound}
+use Rattle.stitch_run.specs.Stitch.{Given, given, ofFirst, sliceOffset, sliceView, sliceOutline, sliceCount, roundCount, loopCount, chainCount}
+use Rattle.stitch_run.specs.Demand3Theorems.{no-rounds-fault}
+use Rattle.stitch_round.specs.Ready.{Sound}
 use Rattle.stitch.specs.Lent.{Lists, NeedFit, StitchFit, Written}
 use Rattle.stitch.specs.declared.write.Stitched.{Stitched}
 use Rattle.stitch_entries.specs.declared.answer.StitchAnswer.{StitchAnswer}

@@ -13,7 +13,7 @@ use Rattle.basis.specs.Choice.{by-test}
 use Rattle.basis.specs.Each.{eachTo, placesBelow}
 use Rattle.basis.specs.Refuse.{Row, row, lengthFault, sizeFault, choiceFault, sourceFault, countFor}
 use Rattle.select.specs.declared.class.Starts.{Starts}
-use Rattle.run.specs.Stitch.{needOf}
+use Rattle.stitch_run.specs.Stitch.{needOf}
 
 -- 1: the lists' lengths are 3 a vertex, 4 and 6 a slice; "slices in a stitch: 0 to 1,792"
 abbrev pub listRows : ℕ → ℕ → ℕ → ℕ → ℕ → ℕ → ℕ → List Row

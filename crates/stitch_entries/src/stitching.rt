@@ -1,6 +1,6 @@
 ghost use mathlib.Core.Path.{_≡_};
 ghost use Rattle.basis.specs.Refuse.{firstFrom};
-ghost use Rattle.run.specs.Stitch.{given};
+ghost use Rattle.stitch_run.specs.Stitch.{given};
 ghost use Rattle.stitch.specs.Lent.{lists};
 ghost use Rattle.stitch_entries.specs.StitchEntry.{shapeRows, stitchRefusal, StitchLeft};
 use crate::answer;

@@ -8,8 +8,8 @@ use native.Mathlib.Omega.{arith}
 use borrow.Author.Tests.{ltb-false}
 use lib.Signed.{ltZ}
 use lib.IntN.{ℤ, pos, negsuc, natAbs, _*ℤ_}
-use Rattle.exact.specs.Fit.{Near, NotBelow}
-use Rattle.exact.specs.FitLaws.{mul-near}
+use Rattle.whole.specs.Fit.{Near, NotBelow}
+use Rattle.whole.specs.FitLaws.{mul-near}
 use Rattle.straight.specs.Ready.{Held, Edge, above}
 
 -- the four numbers of an edge

@@ -15,7 +15,7 @@ use lib.IntN.{ℤ, pos, negℤ, _+ℤ_, _-ℤ_, +ℤ-assoc, +ℤ-idl, +ℤ-idr, 
 use borrow.Author.Tests.{lt-ltb, le-ltb, ltb-true}
 use Rattle.straight.specs.Plane.{Spot, spots, first, sums, around}
 use Rattle.basis.specs.Choice.{by-test}
-use Rattle.exact.specs.IntegerLaws.{swap-mid}
+use Rattle.whole.specs.IntegerLaws.{swap-mid}
 use Rattle.straight.specs.Ready.{spotAt, next, Edge, Outline}
 
 -- ---- the vertex after i

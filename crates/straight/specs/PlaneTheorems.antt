@@ -10,7 +10,7 @@ use native.Mathlib.Omega.{arith}
 use borrow.Author.Tests.{le-ltb, lt-ltb, leb-true}
 use Rattle.basis.specs.Choice.{by-test}
 use Rattle.straight.specs.Plane.{Spot, spots, side, left, right, spans, one, crossing, twice, winding, cross, area}
-use Rattle.exact.specs.IntegerLaws.{neg-minus, neg-mul, mul-neg, mul-sub, sub-mul, sub-both}
+use Rattle.whole.specs.IntegerLaws.{neg-minus, neg-mul, mul-neg, mul-sub, sub-mul, sub-both}
 use Rattle.straight.specs.AroundLaws.{started, repeated, reversed}
 
 no-order : (m n : ℕ) → (leb m n && ltb n m) ≡ false

@@ -6,7 +6,7 @@ use mathlib.Core.List.{List}
 use lib.Dec.{ltb}
 use lib.ListN.{length, getD}
 use lib.IntN.{ℤ, pos, negsuc}
-use Rattle.exact.specs.Fit.{Near}
+use Rattle.whole.specs.Fit.{Near}
 use Rattle.straight.specs.Plane.{Spot, left, spans, cross}
 
 -- two products of numbers up to 1,600,000,000 and their difference fit 64 bits: 2 · 1.6e9² = 5.12e18 < 2^63

@@ -7,11 +7,11 @@ use mathlib.Core.Bool.{Bool, true, false, _&&_}
 use mathlib.Core.List.{List}
 use lib.ListN.{getD}
 use lib.IntN.{ℤ, pos, negsuc, negℤ, natAbs, _+ℤ_, _-ℤ_, +ℤ-idl, +ℤ-idr}
-use Rattle.exact.specs.declared.two.Two.{Two}
-use Rattle.exact.specs.Two.{value, two, Roomy}
-use Rattle.exact.specs.TwoLaws.{value-two, high-below}
-use Rattle.exact.specs.Fit.{Near}
-use Rattle.exact.specs.FitLaws.{as-near, mul-near, sub-near}
+use Rattle.whole.specs.declared.two.Two.{Two}
+use Rattle.whole.specs.Two.{value, two, Roomy}
+use Rattle.whole.specs.TwoLaws.{value-two, high-below}
+use Rattle.whole.specs.Fit.{Near}
+use Rattle.whole.specs.FitLaws.{as-near, mul-near, sub-near}
 use Rattle.straight.specs.Plane.{Spot, spots, crossing, spans, twice, one, cross, around, winding, area}
 use Rattle.straight.specs.PlaneTheorems.{left-turns, cross-turns}
 use Rattle.straight.specs.Ready.{Edge, Seen, Outline, Probed, spotAt, next, rises, above, gain}

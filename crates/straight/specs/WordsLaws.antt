@@ -6,8 +6,8 @@ use mathlib.Core.Bool.{Bool, true, false, cond}
 use lib.IntN.{ℤ, pos, negsuc, natAbs, _-ℤ_}
 use lib.Dec.{ltb}
 use borrow.Author.Tests.{lt-ltb, le-ltb, ltb-true, ltb-false}
-use Rattle.exact.specs.Two.{value, two, NoMore}
-use Rattle.exact.specs.declared.two.Two.{Two}
+use Rattle.whole.specs.Two.{value, two, NoMore}
+use Rattle.whole.specs.declared.two.Two.{Two}
 use Rattle.straight.specs.declared.sum.Area.{Area}
 use Rattle.straight.specs.Words.{minusSign, areaWords}
 

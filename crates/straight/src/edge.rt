@@ -1,5 +1,5 @@
 // One edge of an outline: which side a probe is on, and what it adds to the area.
-use exact::signed;
+use whole::signed;
 ghost use mathlib.Core.Path.{_≡_};
 ghost use lib.IntN.{pos, _-ℤ_, _*ℤ_};
 ghost use lib.ListN.{getD};

@@ -1,12 +1,12 @@
 // Sums round one outline.
 use crate::edge;
-use exact::signed;
-use exact::two;
-use exact::two::Two;
+use whole::signed;
+use whole::two;
+use whole::two::Two;
 ghost use mathlib.Core.Path.{_≡_};
 ghost use Prim.Native.Nat.{_<_};
 ghost use lib.IntN.{pos, _-ℤ_};
-ghost use Rattle.exact.specs.Two.{value};
+ghost use Rattle.whole.specs.Two.{value};
 ghost use Rattle.straight.specs.Plane.{spots, one, winding, area};
 ghost use Rattle.straight.specs.Ready.{Outline, Probed, Few, next};
 ghost use Rattle.straight.specs.Words.{areaWords};

@@ -6,3 +6,6 @@ pub mod WindingEntry
 pub mod ReportEntry
 pub mod LargestTheorems
 pub mod EntryExamples
+pub mod Running
+pub mod RunningLaws
+pub mod AtOnceTheorems

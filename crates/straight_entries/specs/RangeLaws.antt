@@ -13,8 +13,8 @@ use mir.Facts.{toZ-ofZ}
 use borrow.Author.Tests.{leb-true, ltb-true, ltb-false}
 use Rattle.basis.specs.Choice.{by-test, and-left, and-right}
 use Rattle.basis.specs.All.{all-at}
-use Rattle.exact.specs.Fit.{Near}
-use Rattle.exact.specs.FitLaws.{got}
+use Rattle.whole.specs.Fit.{Near}
+use Rattle.whole.specs.FitLaws.{got}
 use Rattle.straight_entries.specs.Range.{inReach, allInReach}
 
 pub reach-near : (m : ℕ) (z : ℤ) → inReach m z ≡ true → Near m z

@@ -1,7 +1,7 @@
 // Number 18: whether coordinates are in range.
 ghost use mathlib.Core.Path.{_≡_};
 ghost use Rattle.straight_entries.specs.Range.{inReach, allInReach};
-use exact::signed;
+use whole::signed;
 
 // A coordinate of a vertex.
 fn near_vertex(z: i64) -> bool

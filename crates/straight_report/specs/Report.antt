@@ -8,7 +8,7 @@ use lib.Dec.{eqb}
 use lib.ListN.{length, getD, take, drop}
 use lib.IntN.{ℤ, pos, natAbs}
 use Rattle.basis.specs.Refuse.{sizeFault}
-use Rattle.exact.specs.Fit.{Near}
+use Rattle.whole.specs.Fit.{Near}
 use Rattle.straight.specs.Plane.{Spot, spots, one, area}
 use Rattle.straight_report.specs.declared.Report.{Report}
 

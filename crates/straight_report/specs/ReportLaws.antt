@@ -14,10 +14,10 @@ use borrow.Author.Tests.{ltb-true, ltb-false, ne-eqb, eq-eqb}
 use Rattle.basis.specs.Choice.{by-test, or-left, or-right}
 use Rattle.basis.specs.Refuse.{sizeFault}
 use Rattle.basis.specs.RefuseLaws.{size-ok}
-use Rattle.exact.specs.declared.two.Two.{Two}
-use Rattle.exact.specs.Two.{value, Roomy}
-use Rattle.exact.specs.TwoLaws.{two-is, value-two, high-below}
-use Rattle.exact.specs.Fit.{Near}
+use Rattle.whole.specs.declared.two.Two.{Two}
+use Rattle.whole.specs.Two.{value, Roomy}
+use Rattle.whole.specs.TwoLaws.{two-is, value-two, high-below}
+use Rattle.whole.specs.Fit.{Near}
 use Rattle.straight.specs.Plane.{Spot, spots, one, area}
 use Rattle.straight.specs.Ready.{Outline}
 use Rattle.straight.specs.SumLaws.{one-most}

@@ -1,8 +1,8 @@
 // The report on many outlines: how many have area zero, and the total of the absolute doubled areas.
-use exact::two;
-use exact::two::Two;
 use straight::sum;
 use straight::sum::Area;
+use whole::two;
+use whole::two::Two;
 ghost use mathlib.Core.Path.{_≡_};
 ghost use Prim.Native.Nat.{_+_, _*_, _^_};
 ghost use lib.Dec.{eqb};

@@ -1,6 +1,6 @@
 // Little-endian words of 8 bytes, and lists of counts.
-use exact::signed;
-use layout::field;
+use fields::field;
+use whole::signed;
 
 // The first word, and 0 where there is none.
 fn first(s: &[u8]) -> u64 {

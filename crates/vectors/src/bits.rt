@@ -1,5 +1,5 @@
 // Little-endian words of 8 bytes.
-use layout::field;
+use fields::field;
 
 // The first word, and 0 where there is none.
 pub(crate) fn word(s: &[u8]) -> usize {

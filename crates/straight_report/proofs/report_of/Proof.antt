@@ -5,9 +5,9 @@ use lib.Dec.{eqb}
 use lib.ListN.{length, getD}
 use borrow.Author.Needs.{needs}
 use denote.Ref.{now}
-use Rattle.exact.specs.declared.two.Two.{Two}
-use Rattle.exact.specs.Two.{value, two}
-use Rattle.exact.specs.TwoLaws.{value-two}
+use Rattle.whole.specs.declared.two.Two.{Two}
+use Rattle.whole.specs.Two.{value, two}
+use Rattle.whole.specs.TwoLaws.{value-two}
 use Rattle.straight.specs.Plane.{spots, one, area}
 use Rattle.straight.specs.SumLaws.{one-most}
 use Rattle.straight_report.specs.Report.{part, outlines}

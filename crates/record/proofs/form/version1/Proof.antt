@@ -1,5 +1,5 @@
 use mathlib.Core.Path.{refl}
-use Rattle.layout.specs.Layout.{size}
+use Rattle.fields.specs.Fields.{size}
 use Rattle.record.proofs.form.version1.Statement.{statement}
 use Rattle.record.proofs.form.version1.Tie as tie
 

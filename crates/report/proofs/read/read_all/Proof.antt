@@ -1,6 +1,6 @@
 use mathlib.Core.Path.{_≡_}
 use lib.ListN.{length}
-use Rattle.running.specs.Running.{Reported}
+use Rattle.straight_entries.specs.Running.{Reported}
 use borrow.Author.Needs.{needs}
 use Rattle.report.proofs.read.read_all.Statement.{statement}
 use Rattle.report.proofs.read.read_all.Tie as tie

@@ -1,7 +1,7 @@
 use Prim.Native.Nat.{_≤_, _-_}
 use mathlib.Core.Path.{_≡_}
 use lib.ListN.{length}
-use Rattle.running.specs.Running.{Reported}
+use Rattle.straight_entries.specs.Running.{Reported}
 use borrow.Author.Needs.{needs}
 use Rattle.report.proofs.read.take_all.Statement.{statement}
 use Rattle.report.proofs.read.take_all.Tie as tie

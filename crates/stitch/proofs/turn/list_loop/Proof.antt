@@ -1,5 +1,5 @@
 use Rattle.basis.specs.Choice.{cases}
-use Rattle.run.specs.Stitch.{howOf}
+use Rattle.stitch_run.specs.Stitch.{howOf}
 use Rattle.stitch.specs.Lent.{tallyAfter, endsAfter}
 use borrow.Author.Needs.{needs}
 use Rattle.stitch.proofs.turn.list_loop.Statement.{statement}

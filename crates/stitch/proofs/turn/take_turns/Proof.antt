@@ -1,6 +1,6 @@
 use borrow.Author.Needs.{needs}
 use Prim.Native.Nat.{_-_}
-use Rattle.round.specs.Ready.{planned}
+use Rattle.stitch_round.specs.Ready.{planned}
 use Rattle.stitch.specs.Lent.{lists}
 use Rattle.stitch.specs.WriteLaws.{Turning, turns-turn, turning}
 use Rattle.stitch.proofs.turn.take_turns.Statement.{statement}

@@ -3,8 +3,8 @@ use mathlib.Core.Path.{_∙_}
 use lib.IntN.{ℤ, _*ℤ_, _-ℤ_}
 use mir.Syntax.{w64}
 use mir.Val.{toZ, ofZ}
-use Rattle.exact.specs.Fit.{Near}
-use Rattle.exact.specs.FitLaws.{got, read, as-near, wider}
+use Rattle.whole.specs.Fit.{Near}
+use Rattle.whole.specs.FitLaws.{got, read, as-near, wider}
 use Rattle.straight.specs.Plane.{cross}
 use borrow.Author.Needs.{needs}
 use Rattle.straight.proofs.edge.cross_at.Statement.{statement}

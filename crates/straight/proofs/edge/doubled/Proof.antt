@@ -7,7 +7,7 @@ use lib.ListN.{getD}
 use mir.Syntax.{w64}
 use mir.Val.{SFits}
 use borrow.Author.Needs.{needs}
-use Rattle.exact.specs.FitLaws.{fit, read, mul-near, mul-fit, mul-read}
+use Rattle.whole.specs.FitLaws.{fit, read, mul-near, mul-fit, mul-read}
 use Rattle.straight.specs.Ready.{Held}
 use Rattle.straight.proofs.edge.doubled.Statement.{statement}
 use Rattle.straight.proofs.edge.doubled.Tie as tie

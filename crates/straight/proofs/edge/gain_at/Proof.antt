@@ -2,7 +2,7 @@ use mathlib.Core.Path.{_∙_, sym, ap}
 use lib.IntN.{ℤ}
 use mir.Syntax.{w64}
 use mir.Val.{toZ, ofZ}
-use Rattle.exact.specs.FitLaws.{got}
+use Rattle.whole.specs.FitLaws.{got}
 use Rattle.straight.specs.Ready.{above}
 use Rattle.straight.specs.EdgeLaws.{above-yes, above-no}
 use borrow.Author.Needs.{needs}

@@ -3,7 +3,7 @@ use lib.IntN.{ℤ, _*ℤ_, _-ℤ_}
 use mir.Syntax.{w64}
 use mir.Val.{SFits}
 use mir.Facts.{toZ-ofZ}
-use Rattle.exact.specs.FitLaws.{fit, mul-near, sub-near, mul-fit, sub-fit, mul-read, sub-read}
+use Rattle.whole.specs.FitLaws.{fit, mul-near, sub-near, mul-fit, sub-fit, mul-read, sub-read}
 use Rattle.straight.proofs.edge.gap.Statement.{statement}
 use Rattle.straight.proofs.edge.gap.Tie as tie
 

@@ -2,7 +2,7 @@ use mathlib.Core.Path.{_≡_, _∙_, ap}
 use lib.IntN.{ℤ, pos, _*ℤ_, _-ℤ_}
 use lib.Signed.{ltZ}
 use mir.Facts.{toZ-ofZ}
-use Rattle.exact.specs.FitLaws.{got, as-near}
+use Rattle.whole.specs.FitLaws.{got, as-near}
 use Rattle.straight.specs.Plane.{left, side, twice}
 use Rattle.straight.specs.EdgeLaws.{from-x, from-y, to-x, to-y, twice-near}
 use borrow.Author.Needs.{needs}

@@ -4,8 +4,8 @@ use lib.IntN.{ℤ, _*ℤ_, _-ℤ_}
 use mir.Syntax.{w64}
 use mir.Val.{SFits, toZ, ofZ}
 use mir.Facts.{toZ-ofZ}
-use Rattle.exact.specs.Fit.{Near}
-use Rattle.exact.specs.FitLaws.{got, fit, sub-near, as-near, sub-fit, sub-read}
+use Rattle.whole.specs.Fit.{Near}
+use Rattle.whole.specs.FitLaws.{got, fit, sub-near, as-near, sub-fit, sub-read}
 use Rattle.straight.proofs.edge.side_of.Statement.{statement}
 use Rattle.straight.proofs.edge.side_of.Tie as tie
 

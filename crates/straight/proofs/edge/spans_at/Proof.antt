@@ -6,7 +6,7 @@ use mathlib.Core.Path.{_∙_, sym}
 use mathlib.Core.Bool.{_&&_}
 use lib.Signed.{leZ, ltZ}
 use mir.Facts.{toZ-ofZ}
-use Rattle.exact.specs.FitLaws.{got}
+use Rattle.whole.specs.FitLaws.{got}
 use Rattle.straight.specs.Plane.{spans, twice}
 use Rattle.straight.specs.EdgeLaws.{from-y, to-y}
 use borrow.Author.Needs.{needs}

@@ -6,8 +6,8 @@ use native.Mathlib.Omega.{arith}
 use borrow.Author.Needs.{needs}
 use mathlib.Core.Path.{_≡_, _∙_, ap}
 use denote.Ref.{now}
-use Rattle.exact.specs.declared.two.Two.{Two}
-use Rattle.exact.specs.Two.{value}
+use Rattle.whole.specs.declared.two.Two.{Two}
+use Rattle.whole.specs.Two.{value}
 use Rattle.straight.specs.Plane.{cross}
 use Rattle.straight.specs.PartLaws.{Part, part-none, part-end}
 use Rattle.straight.specs.SumLaws.{on, back, area-more, summed}

@@ -1,6 +1,6 @@
 use mathlib.Core.Path.{_∙_}
 use lib.IntN.{pos, _-ℤ_}
-use Rattle.exact.specs.FitLaws.{fit, got, sub-near, sub-fit}
+use Rattle.whole.specs.FitLaws.{fit, got, sub-near, sub-fit}
 use borrow.Author.Needs.{needs}
 use Rattle.straight.proofs.sum.balance.Statement.{statement}
 use Rattle.straight.proofs.sum.balance.Tie as tie

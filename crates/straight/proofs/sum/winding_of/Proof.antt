@@ -6,7 +6,7 @@ use mir.Val.{toZ, ofZ}
 use mir.Facts.{toZ-ofZ}
 use borrow.Author.Needs.{needs}
 use denote.Ref.{now}
-use Rattle.exact.specs.FitLaws.{got}
+use Rattle.whole.specs.FitLaws.{got}
 use Rattle.straight.specs.Plane.{one}
 use Rattle.straight.specs.PartLaws.{Part, part-none, part-end}
 use Rattle.straight.specs.Ready.{Probed}

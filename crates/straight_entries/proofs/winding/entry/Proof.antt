@@ -4,7 +4,7 @@ use mir.Val.{toZ, ofZ}
 use mir.Facts.{toZ-ofZ}
 use denote.Ref.{now}
 use Rattle.basis.specs.RefuseLaws.{answer-no, answer-yes}
-use Rattle.exact.specs.FitLaws.{got}
+use Rattle.whole.specs.FitLaws.{got}
 use Rattle.straight.specs.Plane.{spots, winding}
 use Rattle.straight.specs.SumLaws.{probed-as}
 use Rattle.straight_entries.specs.Answers.{windingRefused, windingFound}

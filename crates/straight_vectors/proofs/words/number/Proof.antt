@@ -1,7 +1,7 @@
 use native.Mathlib.Nat.{le-refl, le-of-lt}
 use mathlib.Core.Path.{refl, _∙_}
 use lib.IntN.{pos}
-use Rattle.exact.specs.FitLaws.{got, fit, sub-near, sub-fit}
+use Rattle.whole.specs.FitLaws.{got, fit, sub-near, sub-fit}
 use borrow.Author.Needs.{needs}
 use Rattle.straight_vectors.proofs.words.number.Statement.{statement}
 use Rattle.straight_vectors.proofs.words.number.Tie as tie

@@ -1,4 +1,0 @@
-pub mod Archive
-pub mod Ready
-pub mod ValueLaws
-pub mod KeepLaws

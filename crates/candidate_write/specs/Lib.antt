@@ -1,0 +1,4 @@
+pub mod PutLaws
+pub mod ItemLaws
+pub mod CandidateTheorems
+pub mod RangeTheorems

@@ -1,4 +1,0 @@
-pub mod PutLaws
-pub mod ItemLaws
-pub mod SlicesTheorems
-pub mod RangeTheorems

@@ -1,4 +1,0 @@
-pub mod Chain
-pub mod Held
-pub mod ChainLaws
-pub mod RestLaws

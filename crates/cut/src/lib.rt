@@ -1,0 +1,2 @@
+// The cuts of one outline: what each arrival is.
+pub mod arrival;

@@ -1,2 +1,0 @@
-// The cuts of one outline: what each arrival is.
-pub mod cut;

@@ -1,0 +1,145 @@
+-- Laws of shapes, for any widths: what is packed has the shape's length, and each way there and back is the identity.
+use Prim.Native.Nat.{ℕ, zero, suc, _+_, _*_, _/_, _%_, _^_, _≤_, _<_}
+use mathlib.Core.Bool.{Bool, true, false, _&&_, true≢false}
+use mathlib.Core.Path.{_≡_, refl, sym, ap, _∙_}
+use mathlib.Core.List.{List, [], _∷_, _++_, append-assoc}
+use native.Mathlib.Omega.{arith}
+use native.Mathlib.Nat.{suc-mul, pow-suc, div-add-mod, div-lt-iff-lt-mul}
+use borrow.Author.Tests.{leb-true}
+use lib.Dec.{leb}
+use lib.ListN.{length, getD, take, drop, length-append, length-drop}
+use lib.Seq.{drop-at, drop-drop, getD-drop, take-add}
+use Rattle.fields.specs.Fields.{size, bytesOf, valueOf, pack, unpack, rows}
+use Rattle.fields.specs.Ready.{Narrow, narrow-none, narrow-one, Fitted, fit-none, fit-one}
+
+-- ---- lengths
+pub length-bytes : (w v : ℕ) → length (bytesOf w v) ≡ w
+unfolding bytesOf
+length-bytes zero v = refl
+length-bytes (suc w) v = ap suc (length-bytes w (v / 256))
+
+pub length-pack : (ws vs : List ℕ) → length ws ≤ length vs → length (pack ws vs) ≡ size ws
+unfolding pack size
+length-pack [] vs h = refl
+length-pack (w ∷ ws) [] h = absurd (omega arith)
+length-pack (w ∷ ws) (v ∷ vs) h = length-append (bytesOf w v) (pack ws vs) ∙ omega (arith, length-bytes w v, length-pack ws vs (omega arith))
+
+pub length-unpack : (ws b : List ℕ) → length (unpack ws b) ≡ length ws
+unfolding unpack
+length-unpack [] b = refl
+length-unpack (w ∷ ws) b = ap suc (length-unpack ws (drop w b))
+
+pub fitted-length : {ws vs : List ℕ} → Fitted ws vs → length vs ≡ length ws
+fitted-length fit-none = refl
+fitted-length (fit-one h r) = ap suc (fitted-length r)
+
+-- ---- two shapes, one after the other
+pub size-append : (ws us : List ℕ) → size (ws ++ us) ≡ size ws + size us
+unfolding size
+size-append [] us = omega arith
+size-append (w ∷ ws) us = omega (arith, size-append ws us)
+
+pub unpack-append : (ws us b : List ℕ) → unpack (ws ++ us) b ≡ unpack ws b ++ unpack us (drop (size ws) b)
+unfolding unpack size
+unpack-append [] us b = refl
+unpack-append (w ∷ ws) us b = rw (unpack-append ws us (drop w b), drop-drop (size ws) w b)
+
+pub pack-append : (ws us vs : List ℕ) → length ws ≤ length vs → pack (ws ++ us) vs ≡ pack ws vs ++ pack us (drop (length ws) vs)
+unfolding pack
+pack-append [] us vs h = refl
+pack-append (w ∷ ws) us [] h = absurd (omega arith)
+pack-append (w ∷ ws) us (v ∷ vs) h = rw (pack-append ws us vs (omega arith)) (sym (append-assoc (bytesOf w v) (pack ws vs) (pack us (drop (length ws) vs))))
+
+pub fitted-append : {ws us vs xs : List ℕ} → Fitted ws vs → Fitted us xs → Fitted (ws ++ us) (vs ++ xs)
+fitted-append fit-none r = r
+fitted-append (fit-one h f) r = fit-one h (fitted-append f r)
+
+-- ---- rows
+pub size-rows : (n : ℕ) (ws : List ℕ) → size (rows n ws) ≡ n * size ws
+unfolding rows size
+size-rows zero ws = omega arith
+size-rows (suc n) ws = size-append ws (rows n ws) ∙ omega (arith, size-rows n ws, suc-mul n (size ws))
+
+pub length-rows : (n : ℕ) (ws : List ℕ) → length (rows n ws) ≡ n * length ws
+unfolding rows
+length-rows zero ws = omega arith
+length-rows (suc n) ws = length-append ws (rows n ws) ∙ omega (arith, length-rows n ws, suc-mul n (length ws))
+
+-- ---- writing, then reading
+value-bytes : (w v : ℕ) (rest : List ℕ) → v < 256 ^ w → valueOf w (bytesOf w v ++ rest) ≡ v
+unfolding bytesOf valueOf
+value-bytes zero v rest h = omega (arith, h)
+value-bytes (suc w) v rest h =
+    let p : v < 256 ^ w * 256 = rw pow-suc at h in
+    let q : v / 256 < 256 ^ w = div-lt-iff-lt-mul {k = 256} {x = v} {y = 256 ^ w} (omega arith) .1 p in
+    omega (arith, value-bytes w (v / 256) rest q, div-add-mod v 256)
+
+pub unpack-pack : {ws vs : List ℕ} (rest : List ℕ) → Fitted ws vs → unpack ws (pack ws vs ++ rest) ≡ vs
+unfolding pack unpack
+unpack-pack rest fit-none = refl
+unpack-pack rest (fit-one {w} {v} {ws} {vs} h r) =
+    let e : (bytesOf w v ++ pack ws vs) ++ rest ≡ bytesOf w v ++ (pack ws vs ++ rest) = append-assoc (bytesOf w v) (pack ws vs) rest in
+    rw (e, value-bytes w v (pack ws vs ++ rest) h, drop-at (bytesOf w v) (pack ws vs ++ rest) w (length-bytes w v), unpack-pack rest r)
+
+-- ---- reading, then writing
+
+-- every element is a byte
+abbrev pub Octets : List ℕ → Type 0
+Octets b = (i : ℕ) → getD b i 0 < 256
+
+pub octets-drop : (n : ℕ) (b : List ℕ) → Octets b → Octets (drop n b)
+octets-drop n b h i = rw (getD-drop n b i 0) (h (n + i))
+
+value-octets : (w : ℕ) (b : List ℕ) → Octets b → w ≤ length b → bytesOf w (valueOf w b) ≡ take w b
+unfolding bytesOf valueOf
+value-octets zero b h k = refl
+value-octets (suc w) [] h k = absurd (omega arith)
+value-octets (suc w) (x ∷ b) h k =
+    let v = valueOf w b in
+    let l : x < 256 = h 0 in
+    let p : (x + 256 * v) % 256 ≡ x = omega arith in
+    let q : (x + 256 * v) / 256 ≡ v = omega arith in
+    rw (p, q, value-octets w b (λ i. h (suc i)) (omega arith))
+
+-- a value of w bytes is below 256 to the w
+value-below : (w : ℕ) (b : List ℕ) → Octets b → valueOf w b < 256 ^ w
+unfolding valueOf
+value-below zero b h = omega arith
+value-below (suc w) b h = rw pow-suc (omega (arith, h 0, value-below w (drop 1 b) (octets-drop 1 b h)))
+
+pub unpack-fitted : (ws b : List ℕ) → Octets b → Fitted ws (unpack ws b)
+unfolding unpack
+unpack-fitted [] b h = fit-none
+unpack-fitted (w ∷ ws) b h = fit-one (value-below w b h) (unpack-fitted ws (drop w b) (octets-drop w b h))
+
+pub pack-unpack : (ws b : List ℕ) → Octets b → size ws ≤ length b → pack ws (unpack ws b) ≡ take (size ws) b
+unfolding pack unpack size
+pack-unpack [] b h k = refl
+pack-unpack (w ∷ ws) b h k =
+    rw (value-octets w b h (omega arith), pack-unpack ws (drop w b) (octets-drop w b h) (rw length-drop (omega arith))) (sym (take-add w (size ws) b))
+
+-- ---- a table's widths, by one computed test
+abbrev pub thin : List ℕ → Bool
+thin [] = true
+thin (w ∷ ws) = leb w 8 && thin ws
+
+pub thin-narrow : (ws : List ℕ) → thin ws ≡ true → Narrow ws
+thin-narrow [] h = narrow-none
+thin-narrow (w ∷ ws) h = narrow-one (leb-true w 8 (left (leb w 8) (thin ws) h)) (thin-narrow ws (right (leb w 8) (thin ws) h))
+  where
+    left : (a b : Bool) → (a && b) ≡ true → a ≡ true
+    left true b e = refl
+    left false b e = e
+
+    right : (a b : Bool) → (a && b) ≡ true → b ≡ true
+    right true b e = e
+    right false b e = absurd (true≢false (sym e))
+
+pub narrow-append : {ws us : List ℕ} → Narrow ws → Narrow us → Narrow (ws ++ us)
+narrow-append narrow-none q = q
+narrow-append (narrow-one h p) q = narrow-one h (narrow-append p q)
+
+pub narrow-rows : (n : ℕ) {ws : List ℕ} → Narrow ws → Narrow (rows n ws)
+unfolding rows
+narrow-rows zero p = narrow-none
+narrow-rows (suc n) p = narrow-append p (narrow-rows n p)

@@ -1,0 +1,6 @@
+pub mod Fields
+pub mod Ready
+pub mod FieldLaws
+pub mod NumberLaws
+pub mod StoreLaws
+pub mod StepLaws

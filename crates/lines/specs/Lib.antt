@@ -1,4 +1,0 @@
-pub mod Lines
-pub mod LinesLaws
-pub mod LinesExamples
-pub mod LinesTheorems

@@ -1,0 +1,24 @@
+use Rattle.prune_write.specs.WriteLaws.{both-of}
+use borrow.Author.Needs.{needs}
+use Rattle.prune_write.proofs.write.write_both.Statement.{statement}
+use Rattle.prune_write.proofs.write.write_both.Tie as tie
+
+write-kept-requires : tie.Need-write-kept-requires
+write-kept-requires c κs = search needs
+
+write-kept-requires-2 : tie.Need-write-kept-requires-2
+write-kept-requires-2 c κs = search needs
+
+same-length : tie.Need-same-length
+same-length c = search needs
+
+same-length-2 : tie.Need-same-length-2
+same-length-2 c = search needs
+
+returns : tie.Need-returns
+returns c = search (needs, both-of)
+
+pub write-both-spec : {M : Type 1} → statement M
+write-both-spec =
+    tie.close
+    (tie.spec write-kept-requires write-kept-requires-2 same-length same-length-2 returns)

@@ -1,0 +1,59 @@
+use borrow.Author.Needs.{needs}
+use native.Mathlib.Omega.{arith}
+use Rattle.fields.specs.Fields.{numOf}
+use Rattle.record_read.proofs.Gathering.{Gathering, gathering-none, gathering-row, gathering-room, gathering-copy, gathering-more, gathering-end}
+use Rattle.record_read.proofs.body.gather_numbers.Statement.{statement}
+use Rattle.record_read.proofs.body.gather_numbers.Tie as tie
+
+abbrev Inv-loop : tie.InvT-loop
+Inv-loop values from stride offset per count out₀ p₀ q₀ left₀ out p q left = Gathering numOf values from stride offset per count out₀ out p q left
+
+abbrev μ-loop : tie.MeasureT-loop
+μ-loop values from stride offset per count out₀ p₀ q₀ left₀ out p q left = left
+
+loop-holds : tie.Need-loop-holds Inv-loop μ-loop
+loop-holds c = search (needs, gathering-none)
+
+add-copy-numbers : tie.Need-add-copy-numbers Inv-loop μ-loop
+add-copy-numbers c = let g = c .before .loop .inv in omega (arith, gathering-row g (c .loop-test .taken), g .part)
+
+copy-numbers-requires : tie.Need-copy-numbers-requires Inv-loop μ-loop
+copy-numbers-requires c κs = search (needs, gathering-copy)
+
+add-p : tie.Need-add-p Inv-loop μ-loop
+add-p c = omega (arith, gathering-row (c .before .before .before .before .before .loop .inv) (c .before .before .before .before .loop-test .taken))
+
+add-q : tie.Need-add-q Inv-loop μ-loop
+add-q c = let g = c .before .before .before .before .before .loop .inv in omega (arith, gathering-room g (c .before .before .before .before .loop-test .taken), g .long)
+
+sub-left : tie.Need-sub-left Inv-loop μ-loop
+sub-left c = search needs
+
+loop-less : tie.Need-loop-less Inv-loop μ-loop
+loop-less c = search needs
+
+loop-again : tie.Need-loop-again Inv-loop μ-loop
+loop-again c = search (needs, gathering-more)
+
+same-length : tie.Need-same-length Inv-loop μ-loop
+same-length c = search needs
+
+returns : tie.Need-returns Inv-loop μ-loop
+returns c = search (needs, gathering-end)
+
+pub gather-numbers-spec : {M : Type 1} → statement M
+gather-numbers-spec =
+    tie.close
+    (tie.spec
+    Inv-loop
+    μ-loop
+    loop-holds
+    add-copy-numbers
+    copy-numbers-requires
+    add-p
+    add-q
+    sub-left
+    loop-less
+    loop-again
+    same-length
+    returns)

@@ -1,0 +1,46 @@
+use borrow.Author.Needs.{needs}
+use Rattle.record_read.proofs.Reading.{vertex-rows, slice-rows, values-listed}
+use Rattle.record_read.proofs.Reading.{room-still}
+use Rattle.record_read.proofs.body.list_values.Statement.{statement}
+use Rattle.record_read.proofs.body.list_values.Tie as tie
+
+add-vertices : tie.Need-add-vertices
+add-vertices c = search needs
+
+mul-p : tie.Need-mul-p
+mul-p c = search needs
+
+add-p : tie.Need-add-p
+add-p c = search needs
+
+mul-q : tie.Need-mul-q
+mul-q c = search needs
+
+slice-aggregate-read-rows : tie.Need-slice-aggregate-read-rows
+slice-aggregate-read-rows c = search needs
+
+read-rows-requires : tie.Need-read-rows-requires
+read-rows-requires c κs = search (needs, vertex-rows)
+
+read-rows-requires-2 : tie.Need-read-rows-requires-2
+read-rows-requires-2 c κs = search (needs, slice-rows, room-still)
+
+same-length : tie.Need-same-length
+same-length c = search needs
+
+returns : tie.Need-returns
+returns c = search (needs, values-listed)
+
+pub list-values-spec : {M : Type 1} → statement M
+list-values-spec =
+    tie.close
+    (tie.spec
+    add-vertices
+    mul-p
+    add-p
+    mul-q
+    slice-aggregate-read-rows
+    read-rows-requires
+    read-rows-requires-2
+    same-length
+    returns)

@@ -1,0 +1,53 @@
+use borrow.Author.Needs.{needs}
+use Rattle.record_read.proofs.Versions.{tables1, read1}
+use Rattle.record_read.proofs.read.read.Statement.{statement}
+use Rattle.record_read.proofs.read.read.Tie as tie
+
+version1-requires : tie.Need-version1-requires
+version1-requires c κs = search needs
+
+head1-requires : tie.Need-head1-requires
+head1-requires c κs = search needs
+
+slice1-requires : tie.Need-slice1-requires
+slice1-requires c κs = search needs
+
+slice-aggregate-read-form : tie.Need-slice-aggregate-read-form
+slice-aggregate-read-form c = search needs
+
+slice-aggregate-read-form-2 : tie.Need-slice-aggregate-read-form-2
+slice-aggregate-read-form-2 c = search needs
+
+read-form-requires : tie.Need-read-form-requires
+read-form-requires c κs = tables1 (c .before .before .before .before .before .before .before .before .version1 .ensures) (c .before .before .before .before .before .before .before .head1 .ensures) (c .before .before .before .before .before .before .slice1 .ensures)
+
+same-length : tie.Need-same-length
+same-length c = search needs
+
+same-length-2 : tie.Need-same-length-2
+same-length-2 c = search needs
+
+same-length-3 : tie.Need-same-length-3
+same-length-3 c = search needs
+
+same-length-4 : tie.Need-same-length-4
+same-length-4 c = search needs
+
+returns : tie.Need-returns
+returns c = read1 (c .before .before .before .before .before .before .before .before .before .before .before .before .before .before .before .before .before .version1 .ensures) (c .before .before .before .before .before .before .before .before .before .before .before .before .before .before .before .before .head1 .ensures) (c .before .before .before .before .before .before .before .before .before .before .before .before .before .before .before .slice1 .ensures) (c .before .before .before .before .before .before .before .before .read-form .ensures)
+
+pub read-spec : {M : Type 1} → statement M
+read-spec =
+    tie.close
+    (tie.spec
+    version1-requires
+    head1-requires
+    slice1-requires
+    slice-aggregate-read-form
+    slice-aggregate-read-form-2
+    read-form-requires
+    same-length
+    same-length-2
+    same-length-3
+    same-length-4
+    returns)

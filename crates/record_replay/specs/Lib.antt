@@ -1,0 +1,4 @@
+pub mod Replayed
+pub mod Ready
+pub mod ReplayLaws
+pub mod ReplayTheorems

@@ -1,0 +1,46 @@
+-- Document 02, K1: what a replay answers, and what it leaves in the lists of the stitch.
+use Prim.Native.Nat.{ℕ}
+use mathlib.Core.Path.{_≡_}
+use mathlib.Core.List.{List}
+use Rattle.basis.specs.Number.{+0}
+use Rattle.basis.specs.Refuse.{answer}
+use Rattle.basis.specs.Room.{roomOf}
+use Rattle.stitch_run.specs.Stitch.{Given, needOf, roundCount, loopCount, chainCount, roomItems, endItems, chainItems, chainEndItems, howItems}
+use Rattle.stitch.specs.Lent.{Lists}
+use Rattle.stitch_entries.specs.declared.answer.StitchAnswer.{StitchAnswer}
+use Rattle.stitch_entries.specs.StitchEntry.{stitchNumber}
+use Rattle.record.specs.Form.{form1}
+use Rattle.record.specs.Record.{stitchIn, readRefusal}
+use Rattle.record_replay.specs.declared.replay.ReplayAnswer.{ReplayAnswer}
+
+-- the stitch that the bytes hold
+abbrev pub heldIn : List ℕ → Given
+heldIn b = stitchIn form1 b
+
+-- "11 .., 12 .., 13 .., looked at in that order, before all others"; then 1 and 2 by what the program takes. The lists that the record is read to have room for
+-- 64 vertices an outline and 28 slices
+abbrev pub formNumber : List ℕ → ℕ
+formNumber b = readRefusal form1 b 192 192 112 168
+
+-- and then the numbers of the stitch itself
+unfoldable pub replayNumber : List ℕ → Lists → ℕ
+replayNumber b x = answer (λ (n : ℕ). n) (formNumber b) (stitchNumber (heldIn b) x)
+
+abbrev pub replayRefused : ℕ → ReplayAnswer
+replayRefused n = record { refusal = n; slices = 0; rounds = 0; loops = 0; chains = 0 }
+
+abbrev pub replayGiven : ℕ → ℕ → ℕ → ℕ → ReplayAnswer
+replayGiven slices rounds loops chains = record { refusal = 0; slices = slices; rounds = rounds; loops = loops; chains = chains }
+
+-- what is said of the stitch's answer
+unfoldable pub replayOf : ℕ → StitchAnswer → ReplayAnswer
+replayOf slices a = answer replayRefused (a .refusal) (replayGiven slices (a .rounds) (a .loops) (a .chains))
+
+-- the answer, and each lent list at exit: as the stitch leaves it where the replay is accepted, untouched where it is refused
+pub record ReplayLeft (b : List ℕ) (x : Lists) (r : ReplayAnswer) (left : Lists) : Type 0 where
+  pub answers : r ≡ answer replayRefused (replayNumber b x) (replayGiven (heldIn b .slices) (roundCount (heldIn b)) (loopCount (heldIn b)) (chainCount (heldIn b)))
+  pub room : left .room ≡ answer (λ _. x .room) (replayNumber b x) (roomOf +0 3 (needOf (heldIn b .sliceAt) (heldIn b .slices)) (roomItems (heldIn b)) (x .room))
+  pub ends : left .ends ≡ answer (λ _. x .ends) (replayNumber b x) (roomOf 0 1 (heldIn b .slices) (endItems (heldIn b)) (x .ends))
+  pub chain : left .chain ≡ answer (λ _. x .chain) (replayNumber b x) (roomOf 0 1 (heldIn b .slices) (chainItems (heldIn b)) (x .chain))
+  pub chainEnds : left .chainEnds ≡ answer (λ _. x .chainEnds) (replayNumber b x) (roomOf 0 1 (heldIn b .slices) (chainEndItems (heldIn b)) (x .chainEnds))
+  pub chainHow : left .chainHow ≡ answer (λ _. x .chainHow) (replayNumber b x) (roomOf 0 1 (heldIn b .slices) (howItems (heldIn b)) (x .chainHow))

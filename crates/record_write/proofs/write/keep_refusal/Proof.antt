@@ -1,0 +1,33 @@
+use borrow.Author.Needs.{needs}
+use Rattle.basis.specs.RefuseLaws.{then-rows}
+use Rattle.record_write.proofs.write.keep_refusal.Statement.{statement}
+use Rattle.record_write.proofs.write.keep_refusal.Tie as tie
+
+list-refusal-requires : tie.Need-list-refusal-requires
+list-refusal-requires c κs = search needs
+
+taken-refusal-requires : tie.Need-taken-refusal-requires
+taken-refusal-requires c κs = search needs
+
+code-refusal-requires : tie.Need-code-refusal-requires
+code-refusal-requires c κs = search needs
+
+number-refusal-requires : tie.Need-number-refusal-requires
+number-refusal-requires c κs = search needs
+
+index-refusal-requires : tie.Need-index-refusal-requires
+index-refusal-requires c κs = search needs
+
+returns : tie.Need-returns
+returns c = search (then-rows) depth 14
+
+pub keep-refusal-spec : {M : Type 1} → statement M
+keep-refusal-spec =
+    tie.close
+    (tie.spec
+    list-refusal-requires
+    taken-refusal-requires
+    code-refusal-requires
+    number-refusal-requires
+    index-refusal-requires
+    returns)

@@ -1,0 +1,9 @@
+pub mod Writer
+pub mod Ready
+pub mod ValueLaws
+pub mod KeepLaws
+pub mod Columns
+pub mod Fits
+pub mod WriteRead
+pub mod ReadWrite
+pub mod OneAnswer

@@ -1,0 +1,204 @@
+-- The other way: reading a record that is accepted, then writing what was read, gives the same bytes.
+use Prim.Native.Nat.{ℕ, _+_, _*_, _≤_}
+use mathlib.Core.Bool.{true}
+use mathlib.Core.Path.{_≡_, refl, sym, ap, _∙_}
+use mathlib.Core.List.{List, [], _∷_, _++_, map}
+use native.Mathlib.Omega.{arith}
+use borrow.Author.Tests.{le-ltb, eqb-true, not-false}
+use lib.Dec.{ltb, leb, eqb}
+use lib.ListN.{length, getD, take, drop, length-drop, take-append-drop}
+use lib.Seq.{getD-drop, drop-drop, take-all}
+use Rattle.basis.specs.Choice.{and-left, and-right}
+use Rattle.basis.specs.Number.{tolerable}
+use Rattle.basis.specs.Refuse.{Row, row, firstOf}
+use Rattle.basis.specs.RefuseLaws.{Clear, clear, clear-left, clear-right, clear-both, none-clear}
+use Rattle.stitch_run.specs.Stitch.{Given}
+use Rattle.stitch_entries.specs.StitchRows.{listRows, codeRows, numberRows, indexRows}
+use Rattle.stitch_entries.specs.StitchEntry.{shapeRows}
+use Rattle.fields.specs.Fields.{size, valueOf, pack, unpack, bitsOf}
+use Rattle.fields.specs.FieldLaws.{Octets, octets-drop, length-unpack, unpack-fitted, pack-unpack}
+use Rattle.record.specs.declared.head.Head.{Head}
+use Rattle.record.specs.Form.{form1, bodyOf, column, mix}
+use Rattle.record.specs.Record.{headIn, bodyIn, slicesAt, outline1Of, outline2Of, codesOf, numbersOf, stitchOf, stitchIn, markOk, frameRows, lengthOf, lengthIn, takenRows, countRows, roomRows, readRefusal, headOf, valuesOf, recordOf}
+use Rattle.record.specs.RecordLaws.{length-body, size-body}
+use Rattle.record_write.specs.Writer.{keepRows, lengthFor, lengthGiven, writeRefusal}
+use Rattle.record_write.specs.Columns.{rows-back}
+use Rattle.record_write.specs.Fits.{Below, fitted-below, below-at, below-take, below-drop, below-column, head-narrow, body-narrow, tolerance-back, numbers-kept}
+
+one-byte : (l : List ℕ) → valueOf 1 l ≡ getD l 0 0
+unfolding valueOf
+one-byte l = omega arith
+
+-- a list of twelve, of which five are known by other names
+twelve : (a0 a1 a2 a3 a7 b0 b1 b2 b3 b7 x4 x5 x6 x8 x9 x10 x11 : ℕ) → a0 ≡ b0 → a1 ≡ b1 → a2 ≡ b2 → a3 ≡ b3 → a7 ≡ b7
+    → (a0 ∷ a1 ∷ a2 ∷ a3 ∷ x4 ∷ x5 ∷ x6 ∷ a7 ∷ x8 ∷ x9 ∷ x10 ∷ x11 ∷ []) ≡ (b0 ∷ b1 ∷ b2 ∷ b3 ∷ x4 ∷ x5 ∷ x6 ∷ b7 ∷ x8 ∷ x9 ∷ x10 ∷ x11 ∷ [])
+twelve a0 a1 a2 a3 a7 b0 b1 b2 b3 b7 x4 x5 x6 x8 x9 x10 x11 p q r s t = rw (p, q, r, s, t)
+
+module _ (b : List ℕ) (octets : Octets b) (r1 r2 r3 r4 : ℕ) (z : readRefusal form1 b r1 r2 r3 r4 ≡ 0) (ok : Clear (shapeRows (stitchIn form1 b))) where
+  abbrev H : Head
+  H = headIn form1 b
+
+  abbrev g : Given
+  g = stitchIn form1 b
+
+  abbrev vs : List ℕ
+  vs = bodyIn form1 H b
+
+  abbrev frame : List Row
+  frame = frameRows 1 (size (form1 .head)) 4610 b
+
+  abbrev counts : List Row
+  counts = countRows (length b) (lengthIn form1 H) H
+
+  accepted : Clear (frame ++ (counts ++ roomRows H r1 r2 r3 r4))
+  unfolding readRefusal
+  accepted = clear (frame ++ (counts ++ roomRows H r1 r2 r3 r4)) tt z
+
+  framed : Clear frame
+  framed = clear-left frame (counts ++ roomRows H r1 r2 r3 r4) accepted
+
+  counted : Clear counts
+  counted = clear-left counts (roomRows H r1 r2 r3 r4) (clear-right frame (counts ++ roomRows H r1 r2 r3 r4) accepted)
+
+  long : length b ≡ lengthIn form1 H
+  long = eqb-true (length b) (lengthIn form1 H) (not-false _ (counted .0))
+
+  -- the parts of the stitch's table
+  abbrev lists : List Row
+  lists = listRows (length (g .outline1)) (g .vc1) (length (g .outline2)) (g .vc2) (length (g .sliceAt)) (length (g .slice)) (g .slices)
+
+  abbrev codes : List Row
+  codes = codeRows (g .vc1) (g .vc2) (g .selector) (g .sliceAt)
+
+  abbrev numbers : List Row
+  numbers = numberRows (g .tolerance) (g .outline1) (g .outline2) (g .slice)
+
+  abbrev indexes : List Row
+  indexes = indexRows (g .vc1) (g .vc2) (g .sliceAt) (g .starts) (g .slices)
+
+  after-lists : Clear (codes ++ (numbers ++ indexes))
+  after-lists = clear-right lists (codes ++ (numbers ++ indexes)) ok
+
+  numbers-clear : Clear numbers
+  numbers-clear = clear-left numbers indexes (clear-right codes (numbers ++ indexes) after-lists)
+
+  -- ---- the head
+  marked : markOk b ≡ true
+  marked = not-false _ (framed .0)
+
+  byte0 : getD b 0 0 ≡ 80
+  unfolding markOk
+  byte0 = eqb-true _ _ (and-left (eqb (getD b 0 0) 80) _ (and-right (leb 5 (length b)) _ marked))
+
+  byte1 : getD b 1 0 ≡ 66
+  unfolding markOk
+  byte1 = eqb-true _ _ (and-left (eqb (getD b 1 0) 66) _ (and-right (eqb (getD b 0 0) 80) _ (and-right (leb 5 (length b)) _ marked)))
+
+  byte2 : getD b 2 0 ≡ 82
+  unfolding markOk
+  byte2 = eqb-true _ _ (and-right (eqb (getD b 1 0) 66) _ (and-right (eqb (getD b 0 0) 80) _ (and-right (leb 5 (length b)) _ marked)))
+
+  version : valueOf 2 (drop 3 b) ≡ 1
+  version = eqb-true _ _ (not-false _ (framed .1 .0))
+
+  head-below : Below (unpack (form1 .head) b)
+  head-below = fitted-below (unpack-fitted (form1 .head) b octets) head-narrow
+
+  tolerance-kept : bitsOf (g .tolerance) ≡ getD (unpack (form1 .head) b) 7 0
+  unfolding stitchIn stitchOf headIn
+  tolerance-kept = tolerance-back (getD (unpack (form1 .head) b) 7 0) (below-at 7 head-below) (not-false (tolerable (g .tolerance)) (numbers-clear .0))
+
+  head-same : headOf 1 g ≡ unpack (form1 .head) b
+  unfolding stitchIn stitchOf headIn unpack
+  head-same =
+      let e0 : 80 ≡ valueOf 1 b = sym (one-byte b ∙ byte0) in
+      let e1 : 66 ≡ valueOf 1 (drop 1 b) = sym (one-byte (drop 1 b) ∙ getD-drop 1 b 0 0 ∙ byte1) in
+      let e2 : 82 ≡ valueOf 1 (drop 1 (drop 1 b)) = sym (one-byte (drop 1 (drop 1 b)) ∙ getD-drop 1 (drop 1 b) 0 0 ∙ getD-drop 1 b 1 0 ∙ byte2) in
+      let d : drop 1 (drop 1 (drop 1 b)) ≡ drop 3 b = ap (drop 1) (drop-drop 1 1 b) ∙ drop-drop 1 2 b in
+      let e3 : 1 ≡ valueOf 2 (drop 1 (drop 1 (drop 1 b))) = sym (ap (valueOf 2) d ∙ version) in
+      twelve _ _ _ _ _ _ _ _ _ _ _ _ _ _ _ _ _ e0 e1 e2 e3 tolerance-kept
+
+  -- ---- what follows it
+  body-below : Below vs
+  unfolding bodyIn
+  body-below = fitted-below (unpack-fitted (bodyOf (form1 .entry) (H .vc1 + H .vc2) (H .slices)) (drop (size (form1 .head)) b) (octets-drop (size (form1 .head)) b octets)) (body-narrow (H .vc1 + H .vc2) (H .slices))
+
+  values-long : length vs ≡ (H .vc1 + H .vc2) * 3 + H .slices * 10
+  unfolding bodyIn
+  values-long = length-unpack (bodyOf (form1 .entry) (H .vc1 + H .vc2) (H .slices)) (drop (size (form1 .head)) b) ∙ length-body (form1 .entry) (H .vc1 + H .vc2) (H .slices)
+
+  first-kept : map bitsOf (outline1Of H vs) ≡ take (3 * H .vc1) vs
+  unfolding outline1Of
+  first-kept = numbers-kept (below-take (3 * H .vc1) body-below) (unfold stitchIn stitchOf in not-false _ (numbers-clear .1 .0))
+
+  second-kept : map bitsOf (outline2Of H vs) ≡ take (3 * H .vc2) (drop (3 * H .vc1) vs)
+  unfolding outline2Of
+  second-kept = numbers-kept (below-take (3 * H .vc2) (below-drop (3 * H .vc1) body-below)) (unfold stitchIn stitchOf in not-false _ (numbers-clear .1 .1 .0))
+
+  third-kept : map bitsOf (numbersOf 10 H vs) ≡ column 10 4 6 (H .slices) (drop (slicesAt H) vs)
+  unfolding numbersOf
+  third-kept = numbers-kept (below-column 10 4 6 (H .slices) (below-drop (slicesAt H) body-below)) (unfold stitchIn stitchOf in not-false _ (numbers-clear .1 .1 .1 .0))
+
+  slices-kept : mix 4 6 (H .slices) (codesOf 10 H vs) (map bitsOf (numbersOf 10 H vs)) ≡ drop (slicesAt H) vs
+  unfolding codesOf
+  slices-kept = rw third-kept (rows-back 4 6 (H .slices) (drop (slicesAt H) vs) (length-drop (slicesAt H) vs ∙ omega (arith, values-long)))
+
+  values-same : valuesOf g ≡ vs
+  unfolding valuesOf stitchIn stitchOf
+  values-same =
+      rw (first-kept, second-kept, slices-kept)
+      (ap (λ (l : List ℕ). take (3 * H .vc1) vs ++ (take (3 * H .vc2) (drop (3 * H .vc1) vs) ++ l)) (sym (drop-drop (3 * H .vc2) (3 * H .vc1) vs))
+      ∙ ap (λ (l : List ℕ). take (3 * H .vc1) vs ++ l) (take-append-drop (3 * H .vc2) (drop (3 * H .vc1) vs))
+      ∙ take-append-drop (3 * H .vc1) vs)
+
+  -- ---- the bytes
+  sizes : size (form1 .head) + size (bodyOf (form1 .entry) (H .vc1 + H .vc2) (H .slices)) ≡ length b
+  unfolding lengthOf
+  sizes = omega (arith, size-body (form1 .entry) (H .vc1 + H .vc2) (H .slices), long)
+
+  head-bytes : pack (form1 .head) (headOf 1 g) ≡ take (size (form1 .head)) b
+  head-bytes = ap (pack (form1 .head)) head-same ∙ pack-unpack (form1 .head) b octets (omega (arith, sizes))
+
+  body-bytes : pack (bodyOf (form1 .entry) (H .vc1 + H .vc2) (H .slices)) (valuesOf g) ≡ drop (size (form1 .head)) b
+  unfolding bodyIn
+  body-bytes =
+      let body = bodyOf (form1 .entry) (H .vc1 + H .vc2) (H .slices) in
+      let rest = drop (size (form1 .head)) b in
+      let lr : length rest ≡ size body = length-drop (size (form1 .head)) b ∙ omega (arith, sizes) in
+      ap (pack body) values-same
+      ∙ pack-unpack body rest (octets-drop (size (form1 .head)) b octets) (omega (arith, lr))
+      ∙ take-all (size body) rest (omega (arith, lr))
+
+  both-parts : recordOf form1 g ≡ pack (form1 .head) (headOf 1 g) ++ pack (bodyOf (form1 .entry) (H .vc1 + H .vc2) (H .slices)) (valuesOf g)
+  unfolding recordOf stitchIn stitchOf
+  both-parts = refl
+
+  pub same-bytes : recordOf form1 g ≡ b
+  same-bytes = both-parts ∙ rw (head-bytes, body-bytes) (take-append-drop (size (form1 .head)) b)
+
+  -- and the writer does not refuse it
+  same-length : lengthGiven form1 g ≡ lengthIn form1 H
+  unfolding lengthFor lengthOf stitchIn stitchOf
+  same-length = refl
+
+  taken : Clear (takenRows (g .vc1) (g .vc2) (g .slices))
+  unfolding stitchIn stitchOf
+  taken = counted .1
+
+  pub written-again : (room : ℕ) → length b ≤ room → writeRefusal form1 g room ≡ 0
+  unfolding writeRefusal
+  written-again room h =
+      let all : Clear (keepRows g) =
+      clear-both lists (takenRows (g .vc1) (g .vc2) (g .slices) ++ (codes ++ (numbers ++ indexes))) (clear-left lists (codes ++ (numbers ++ indexes)) ok) (clear-both (takenRows (g .vc1) (g .vc2) (g .slices)) (codes ++ (numbers ++ indexes)) taken after-lists) in
+      let last : Clear (row (ltb room (lengthGiven form1 g)) 9 ∷ []) = (le-ltb room (lengthGiven form1 g) (omega (arith, long, same-length, h)), tt) in
+      none-clear (keepRows g ++ (row (ltb room (lengthGiven form1 g)) 9 ∷ [])) (clear-both (keepRows g) (row (ltb room (lengthGiven form1 g)) 9 ∷ []) all last)
+
+-- the theorem, over the reader's and the stitch's own numbers: of a record that is accepted, the writer gives back each byte
+pub record WritesBack (b : List ℕ) : Type 0 where
+  pub same : recordOf form1 (stitchIn form1 b) ≡ b
+  pub accepted : (room : ℕ) → length b ≤ room → writeRefusal form1 (stitchIn form1 b) room ≡ 0
+
+pub read-then-write : (b : List ℕ) → Octets b → (r1 r2 r3 r4 : ℕ) → readRefusal form1 b r1 r2 r3 r4 ≡ 0 → firstOf (shapeRows (stitchIn form1 b)) ≡ 0 → WritesBack b
+read-then-write b octets r1 r2 r3 r4 z y =
+    let ok = clear (shapeRows (stitchIn form1 b)) tt y in
+    record { same = same-bytes b octets r1 r2 r3 r4 z ok; accepted = written-again b octets r1 r2 r3 r4 z ok }

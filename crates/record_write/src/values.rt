@@ -1,0 +1,79 @@
+// The values of a record's fields, from a stitch.
+ghost use mathlib.Core.Path.{_≡_};
+ghost use mathlib.Core.List.{map};
+ghost use lib.ListN.{length};
+ghost use lib.Seq.{sets};
+ghost use Rattle.fields.specs.Fields.{bitsOf};
+ghost use Rattle.fields.specs.Ready.{Number};
+ghost use Rattle.record.specs.Form.{mix};
+ghost use Rattle.record_write.specs.Writer.{headValues, bodyValues};
+ghost use Rattle.record_write.specs.Ready.{MixFit, ValuesFit};
+use fields::copy;
+use select::class::Starts;
+
+// The values of the head's fields in version 1.
+pub fn head_values(
+    vc1: usize,
+    vc2: usize,
+    selector: u32,
+    tolerance: f64,
+    starts: Starts,
+    slices: usize,
+) -> [usize; 12]
+    requires { ⌜ Number tolerance ⌝ }
+    ensures { λ r. ⌜ r ≡ headValues 1 vc1 vc2 selector tolerance starts slices ⌝ }
+{
+    let bits = copy::bits(tolerance);
+    [
+        80,
+        66,
+        82,
+        1,
+        vc1,
+        vc2,
+        selector as usize,
+        bits,
+        starts.pline2,
+        starts.pline1_overlapping,
+        starts.pline2_overlapping,
+        slices,
+    ]
+}
+
+// Lists of each slice its 4 codes and the patterns of its 6 numbers, from `to` on.
+fn mix_slices(slice_at: &[usize], slice: &[f64], count: usize, values: &mut [usize], to: usize)
+    requires { ⌜ MixFit (length (now «slice_at»)) (now slice) count (length (now values)) to ⌝ }
+    ensures { λ _. ⌜ now (values .exit) ≡ sets (now (values .entry)) to (mix 4 6 count (now («slice_at» .entry)) (map bitsOf (now (slice .entry)))) ⌝ }
+{
+    let mut q = to;
+    let mut i = 0;
+    let mut j = 0;
+    let mut left = count;
+    while left > 0 {
+        copy::copy(slice_at, i, 4, values, q);
+        copy::copy_bits(slice, j, 6, values, q + 4);
+        q += 10;
+        i += 4;
+        j += 6;
+        left -= 1;
+    }
+}
+
+// Lists the values of the fields that follow the head, from the front on.
+pub fn list_values(
+    outline1: &[f64],
+    outline2: &[f64],
+    slice_at: &[usize],
+    slice: &[f64],
+    count: usize,
+    values: &mut [usize],
+)
+    requires { ⌜ ValuesFit (now outline1) (now outline2) (length (now «slice_at»)) (now slice) count (length (now values)) ⌝ }
+    ensures { λ _. ⌜ now (values .exit) ≡ sets (now (values .entry)) 0 (bodyValues (now (outline1 .entry)) (now (outline2 .entry)) (now («slice_at» .entry)) (now (slice .entry)) count) ⌝ }
+{
+    let n1 = outline1.len();
+    let n2 = outline2.len();
+    copy::copy_bits(outline1, 0, n1, values, 0);
+    copy::copy_bits(outline2, 0, n2, values, n1);
+    mix_slices(slice_at, slice, count, values, n1 + n2);
+}

@@ -1,3 +1,0 @@
-// The candidates of one outline: the pieces between neighbouring cuts, and the walks from a segment's last cut to the next segment that has one.
-pub mod candidate;
-pub mod table;

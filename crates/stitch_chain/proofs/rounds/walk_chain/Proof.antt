@@ -1,0 +1,83 @@
+use borrow.Author.Needs.{needs}
+use Prim.Native.Nat.{_-_}
+use Rattle.stitch_round.specs.Ready.{planned}
+use Rattle.stitch_chain.specs.ChainLaws.{Walking, walk-start, walk-place, walk-end, walk-whole, walking}
+use Rattle.stitch_chain.proofs.rounds.walk_chain.Statement.{statement}
+use Rattle.stitch_chain.proofs.rounds.walk_chain.Tie as tie
+
+abbrev Inv-loop : tie.InvT-loop
+Inv-loop visited₀ room₀ chain₀ outline1 outline2 slice-at slice points p first before n₀ current₀ rounds₀ visited room chain n current rounds = Walking (planned outline1 outline2 slice-at slice p) first points room₀ chain₀ visited room chain n current rounds
+
+abbrev μ-loop : tie.MeasureT-loop
+μ-loop visited₀ room₀ chain₀ outline1 outline2 slice-at slice points p first before n₀ current₀ rounds₀ visited room chain n current rounds = p .count - rounds
+
+place-requires : tie.Need-place-requires Inv-loop μ-loop
+place-requires c κs = search (needs, walking)
+
+loop-holds : tie.Need-loop-holds Inv-loop μ-loop
+loop-holds c = walk-start _ _ _ _ _ _ _ (c .before .before .before .before .before .before .before .before .before .before .before .before .before .before .before .pre) (c .before .before .before .before .place .ensures)
+
+mul-chain : tie.Need-mul-chain Inv-loop μ-loop
+mul-chain c = search needs
+
+slice-write-chain : tie.Need-slice-write-chain Inv-loop μ-loop
+slice-write-chain c = search needs
+
+add-rounds : tie.Need-add-rounds Inv-loop μ-loop
+add-rounds c = search needs
+
+next-of-requires : tie.Need-next-of-requires Inv-loop μ-loop
+next-of-requires c κs = search (needs, walking)
+
+enum-known-j : tie.Need-enum-known-j Inv-loop μ-loop
+enum-known-j c = search needs
+
+sub-place : tie.Need-sub-place Inv-loop μ-loop
+sub-place c = search needs
+
+place-requires-2 : tie.Need-place-requires-2 Inv-loop μ-loop
+place-requires-2 c κs = walk-place _ _ _ _ _ _ _ (c .before .before .before .before .before .before .before .before .loop .inv) (c .before .before .before .before .before .next-of .ensures) (c .before .before .before .j .given .1)
+
+loop-less : tie.Need-loop-less Inv-loop μ-loop
+loop-less c = search needs
+
+loop-again : tie.Need-loop-again Inv-loop μ-loop
+loop-again c = search (needs, walking)
+
+enum-known-how : tie.Need-enum-known-how Inv-loop μ-loop
+enum-known-how c = search needs
+
+same-length : tie.Need-same-length Inv-loop μ-loop
+same-length c = search (needs, walking)
+
+same-length-2 : tie.Need-same-length-2 Inv-loop μ-loop
+same-length-2 c = search (needs, walking)
+
+same-length-3 : tie.Need-same-length-3 Inv-loop μ-loop
+same-length-3 c = search (needs, walking)
+
+returns : tie.Need-returns Inv-loop μ-loop
+returns c = walk-whole _ _ _ _ _ _ _ (c .before .before .before .before .before .before .before .before .before .before .before .before .before .before .before .before .before .before .before .before .before .before .pre) (c .before .before .before .before .before .before .before .before .before .before .before .place .ensures) (walk-end _ _ _ _ _ _ _ (c .before .before .before .before .before .before .loop .inv) (c .before .before .before .next-of .ensures) (c .before .how .given .1))
+
+pub walk-chain-spec : {M : Type 1} → statement M
+walk-chain-spec =
+    tie.close
+    (tie.spec
+    Inv-loop
+    μ-loop
+    place-requires
+    loop-holds
+    mul-chain
+    slice-write-chain
+    add-rounds
+    next-of-requires
+    enum-known-j
+    sub-place
+    place-requires-2
+    loop-less
+    loop-again
+    enum-known-how
+    same-length
+    same-length-2
+    same-length-3
+    returns)

@@ -1,0 +1,55 @@
+use borrow.Author.Needs.{needs}
+use Prim.Native.Nat.{_-_}
+use Rattle.view.specs.View.{vertexOf}
+use Rattle.stitch_vertices.specs.VertexLaws.{Adding, extending}
+use Rattle.stitch_vertices.proofs.grow.extend_remove_repeat.Statement.{statement}
+use Rattle.stitch_vertices.proofs.grow.extend_remove_repeat.Tie as tie
+
+abbrev Inv-loop : tie.InvT-loop
+Inv-loop room₀ n outline vc view t count m₀ k₀ room m k = Adding t (vertexOf outline vc view) count n room₀ m room k
+
+abbrev μ-loop : tie.MeasureT-loop
+μ-loop room₀ n outline vc view t count m₀ k₀ room m k = count - k
+
+add-count : tie.Need-add-count Inv-loop μ-loop
+add-count c = search needs
+
+loop-holds : tie.Need-loop-holds Inv-loop μ-loop
+loop-holds c = search (needs, extending)
+
+vertex-of-requires : tie.Need-vertex-of-requires Inv-loop μ-loop
+vertex-of-requires c κs = search needs
+
+add-or-replace-vertex-requires : tie.Need-add-or-replace-vertex-requires Inv-loop μ-loop
+add-or-replace-vertex-requires c κs = search (needs, extending)
+
+add-k : tie.Need-add-k Inv-loop μ-loop
+add-k c = search needs
+
+loop-less : tie.Need-loop-less Inv-loop μ-loop
+loop-less c = search needs
+
+loop-again : tie.Need-loop-again Inv-loop μ-loop
+loop-again c = search (needs, extending)
+
+same-length : tie.Need-same-length Inv-loop μ-loop
+same-length c = search needs
+
+returns : tie.Need-returns Inv-loop μ-loop
+returns c = search (needs, extending)
+
+pub extend-remove-repeat-spec : {M : Type 1} → statement M
+extend-remove-repeat-spec =
+    tie.close
+    (tie.spec
+    Inv-loop
+    μ-loop
+    add-count
+    loop-holds
+    vertex-of-requires
+    add-or-replace-vertex-requires
+    add-k
+    loop-less
+    loop-again
+    same-length
+    returns)

@@ -1,0 +1,4 @@
+pub mod Vertices
+pub mod Held
+pub mod VertexLaws
+pub mod RestLaws

@@ -1,4 +1,0 @@
-pub mod Vault
-pub mod Ready
-pub mod VaultLaws
-pub mod VaultTheorems
