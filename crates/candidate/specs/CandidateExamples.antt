@@ -5,7 +5,8 @@ use mathlib.Core.Path.{_≡_, refl}
 use mathlib.Core.List.{List, [], _∷_, map, flatMap}
 use lib.IntN.{pos, negsuc}
 use lib.Ieee.{Float, fin, binary64, ofInt, sub, lt}
-use Rattle.basis.specs.Number.{absF, agree, Tolerance, toleranceOf}
+use Rattle.basis.specs.Number.{absF, agree, toleranceOf}
+use Rattle.basis.specs.declared.number.Tolerance.{Tolerance}
 use Rattle.outline.specs.Points.{pointsAgree}
 use Rattle.outline.specs.Outline.{vertexAt, wrap, outlineAt, pointAt}
 use Rattle.view.specs.View.{vertexCount}

@@ -3,7 +3,8 @@ use Prim.Native.Nat.{ℕ}
 use mathlib.Core.Path.{_≡_, refl}
 use mathlib.Core.List.{List, [], _∷_, flatMap}
 use lib.Ieee.{Float, binary64, ofBits, lt, add, sub, mul}
-use Rattle.basis.specs.Number.{+0, one, agree, absF, Tolerance, toleranceOf}
+use Rattle.basis.specs.Number.{+0, one, agree, absF, toleranceOf}
+use Rattle.basis.specs.declared.number.Tolerance.{Tolerance}
 use Rattle.outline.specs.Points.{pointsAgree}
 use Rattle.outline.specs.Outline.{vertexAt, outlineAt, wrap, pointAt}
 use Rattle.view.specs.Create.{nearVertex}

@@ -5,7 +5,8 @@ use mathlib.Core.List.{List}
 use native.Mathlib.Omega.{arith}
 use lib.ListN.{length, take, length-append}
 use lib.Ieee.{Float}
-use Rattle.basis.specs.Number.{+0, Tolerance, toleranceOf}
+use Rattle.basis.specs.Number.{+0, toleranceOf}
+use Rattle.basis.specs.declared.number.Tolerance.{Tolerance}
 use Rattle.basis.specs.Refuse.{answer}
 use Rattle.basis.specs.RefuseLaws.{answer-no, answer-yes, answer-accepted}
 use Rattle.basis.specs.Room.{roomOf}

@@ -8,7 +8,7 @@ use lib.Dec.{ltb}
 use lib.ListN.{length, take, drop, length-append, length-map}
 use lib.Seq.{take-at, sets}
 use lib.Ieee.{Float}
-use Rattle.basis.specs.Number.{Tolerance}
+use Rattle.basis.specs.declared.number.Tolerance.{Tolerance}
 use Rattle.basis.specs.Refuse.{Row, row, firstOf, firstFrom}
 use Rattle.basis.specs.RefuseLaws.{Clear, clear, first-from, answer-no, answer-yes, first-found, first-later}
 use Rattle.fields.specs.Fields.{size, pack, bitsOf}

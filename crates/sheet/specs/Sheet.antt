@@ -7,7 +7,8 @@ use mathlib.Core.List.{List, [], _∷_, _++_, map}
 use lib.ListN.{length, take}
 use lib.IntN.{pos, negsuc}
 use lib.Ieee.{Float, fin, binary64, ofInt, ofBits}
-use Rattle.basis.specs.Number.{+0, Tolerance, toleranceOf}
+use Rattle.basis.specs.Number.{+0, toleranceOf}
+use Rattle.basis.specs.declared.number.Tolerance.{Tolerance}
 use Rattle.outline.specs.declared.point.Vertex.{Vertex}
 use Rattle.outline.specs.Points.{posOf, pointsAgree, inBox}
 use Rattle.view.specs.View.{vertexCount}

@@ -6,7 +6,8 @@ use mathlib.Core.List.{List, [], _∷_, _++_, flatMap}
 use lib.ListN.{length}
 use lib.Ieee.{Float, fin, binary64, ofBits, neg, add, sub, lt, le}
 use lib.IntN.{pos, negsuc}
-use Rattle.basis.specs.Number.{+0, absF, agree, inSpan, Tolerance, toleranceOf}
+use Rattle.basis.specs.Number.{+0, absF, agree, inSpan, toleranceOf}
+use Rattle.basis.specs.declared.number.Tolerance.{Tolerance}
 use Rattle.outline.specs.Points.{pointsAgree, inBox}
 use Rattle.outline.specs.Outline.{vertexAt, wrap, outlineAt}
 use Rattle.view.specs.View.{forwardAt, turnedAt, invertedAt, vertexOf}
