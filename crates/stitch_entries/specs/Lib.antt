@@ -3,3 +3,6 @@ pub mod StitchRows
 pub mod StitchEntry
 pub mod StitchEntryLaws
 pub mod StitchEntryExamples
+pub mod Demand
+pub mod TightLaws
+pub mod DemandTheorems

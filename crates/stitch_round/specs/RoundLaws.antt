@@ -1,9 +1,8 @@
 -- Laws of a round: the scan's candidates are the definition's, and so is what the round comes to.
-use Prim.Native.Nat.{ℕ, zero, suc, _-_, _<_}
+use Prim.Native.Nat.{ℕ, _-_, _<_}
 use mathlib.Core.Bool.{Bool, true, false, not, cond, _&&_, true≢false}
 use mathlib.Core.Path.{_≡_, refl, sym, ap, _∙_}
 use mathlib.Core.List.{List, [], _∷_}
-use native.Mathlib.Omega.{arith}
 use lib.Dec.{eqb, ltb}
 use lib.Ieee.{Float}
 use borrow.Author.Tests.{not-true, not-false}
@@ -24,17 +23,13 @@ use Rattle.stitch_round.specs.declared.step.Step.{Step}
 use Rattle.stitch_round.specs.declared.step.Step.the-variants.{Onto, Ends}
 use Rattle.stitch_run.specs.Run.{Rules, Next, onto, ends, closed, tooSmall, noCandidate, passing, free, candidate, candidatesOf, taken, answered, asked, nextOf}
 use Rattle.stitch_run.specs.Stitch.{Given, rulesOf, offersTo, howOf}
+use Rattle.stitch_run.specs.TallyLaws.{passing-same}
 use Rattle.stitch_round.specs.Ready.{planned, Points, nearEnd, hasAny, Met, toldOf, stepOf, standing, Rounded}
 
 -- what the callees answer, in place of their definitions
 pub met-as : (points : List Float) (visited : List Bool) (first : ℕ) (p : Plan) (v w : Vertex) (e : Point) (c d : Choices) (r : Seen) → v ≡ w → e ≡ posOf v → c ≡ d
     → Met (nearEnd points visited first e (p .t)) (p .starts) c (p .count) r → Met (nearEnd points visited first (posOf w) (p .t)) (p .starts) d (p .count) r
 met-as points visited first p v w e c d r f h k m = rw (h, f, k) at m
-
-passing-same : (p q : ℕ → Bool) (n : ℕ) → ((j : ℕ) → j < n → p j ≡ q j) → passing p n ≡ passing q n
-unfolding passing
-passing-same p q zero h = refl
-passing-same p q (suc n) h = rw (passing-same p q n (λ j d. h j (omega arith)), h n (omega arith))
 
 -- no candidate; or some, and the selector is asked
 module _ {C : Type 0} (R : Rules C) (first current : ℕ) (b : C) where

@@ -46,6 +46,12 @@ passing-all p (suc n) j e h = go (decLt j n) (passing-all p n j e)
     go (yes d) r = Memᴰ·append-left (cond (p n) (n ∷ []) []) (r d)
     go (no d) r = let q : j ≡ n = omega arith in Memᴰ·append-right (passing p n) (last (p n) (ap p (sym q) ∙ e) q)
 
+-- Two tests that say the same of each number below n list the same.
+pub passing-same : (p q : ℕ → Bool) (n : ℕ) → ((j : ℕ) → j < n → p j ≡ q j) → passing p n ≡ passing q n
+unfolding passing
+passing-same p q zero h = refl
+passing-same p q (suc n) h = rw (passing-same p q n (λ j d. h j (omega arith)), h n (omega arith))
+
 -- They ascend.
 passing-below : (p : ℕ → Bool) (n : ℕ) → All (λ j. j < n) (passing p n)
 unfolding passing
