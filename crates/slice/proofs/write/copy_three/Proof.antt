@@ -1,0 +1,83 @@
+use native.Mathlib.Omega.{arith}
+use native.Mathlib.Numerals.{towards-suc}
+use lib.ListN.{length-set}
+use borrow.Author.Needs.{needs}
+use Rattle.slice.proofs.write.copy_three.Statement.{statement}
+use Rattle.slice.proofs.write.copy_three.Tie as tie
+
+mul-room : tie.Need-mul-room
+mul-room c = search needs
+
+shared-slice-read-room : tie.Need-shared-slice-read-room
+shared-slice-read-room c = search needs
+
+mul-room-2 : tie.Need-mul-room-2
+mul-room-2 c = search needs
+
+slice-write-room : tie.Need-slice-write-room
+slice-write-room c = search needs
+
+add-room : tie.Need-add-room
+add-room c = search needs
+
+mul-room-3 : tie.Need-mul-room-3
+mul-room-3 c = search needs
+
+shared-slice-read-room-2 : tie.Need-shared-slice-read-room-2
+shared-slice-read-room-2 c = search needs
+
+add-room-2 : tie.Need-add-room-2
+add-room-2 c = search needs
+
+mul-room-4 : tie.Need-mul-room-4
+mul-room-4 c = search needs
+
+slice-write-room-2 : tie.Need-slice-write-room-2
+slice-write-room-2 c = simp length-set (omega arith)
+
+add-room-3 : tie.Need-add-room-3
+add-room-3 c = search needs
+
+mul-room-5 : tie.Need-mul-room-5
+mul-room-5 c = search needs
+
+shared-slice-read-room-3 : tie.Need-shared-slice-read-room-3
+shared-slice-read-room-3 c = search needs
+
+add-room-4 : tie.Need-add-room-4
+add-room-4 c = search needs
+
+mul-room-6 : tie.Need-mul-room-6
+mul-room-6 c = search needs
+
+slice-write-room-3 : tie.Need-slice-write-room-3
+slice-write-room-3 c = simp length-set (omega arith)
+
+same-length : tie.Need-same-length
+same-length c = search needs
+
+returns : tie.Need-returns
+returns c = simp towards-suc
+
+pub copy-three-spec : {M : Type 1} → statement M
+copy-three-spec =
+    tie.close
+    (tie.spec
+    mul-room
+    shared-slice-read-room
+    mul-room-2
+    slice-write-room
+    add-room
+    mul-room-3
+    shared-slice-read-room-2
+    add-room-2
+    mul-room-4
+    slice-write-room-2
+    add-room-3
+    mul-room-5
+    shared-slice-read-room-3
+    add-room-4
+    mul-room-6
+    slice-write-room-3
+    same-length
+    returns)
