@@ -1,13 +1,13 @@
--- A slice: its source with the view that is cut from it, in four codes and six numbers. Slices stand in two lists, one of codes and one of numbers.
+-- A slice: its source and the view that is cut from it, as four codes and a shape of six numbers. Slices stand in two lists: one has the codes of each, the other its shape.
 use Prim.Native.Nat.{ℕ, _+_, _*_}
-use mathlib.Core.List.{List, [], _∷_}
+use mathlib.Core.List.{List, [], _∷_, _++_}
 use lib.ListN.{getD}
 use lib.Dec.{eqb}
 use lib.Ieee.{Float, nan}
-use Rattle.outline.specs.declared.point.Point.{Point}
-use Rattle.outline.specs.declared.point.Vertex.{Vertex}
+use Rattle.outline.specs.Points.{pointNumbers, vertexNumbers}
 use Rattle.view.specs.declared.data.ViewData.{ViewData}
 use Rattle.slice.specs.declared.data.Codes.{Codes}
+use Rattle.slice.specs.declared.data.Shape.{Shape}
 
 -- source, inverted, start, offset
 abbrev pub codeWidth : ℕ
@@ -17,23 +17,25 @@ codeWidth = 4
 abbrev pub shapeWidth : ℕ
 shapeWidth = 6
 
+-- the view that codes and a shape are
+abbrev pub viewOf : Codes → Shape → ViewData
+viewOf c s =
+    record {
+      «start_index» = c .start;
+      «end_index_offset» = c .offset;
+      «updated_start» = s .«updated_start»;
+      «updated_end_bulge» = s .«end_bulge»;
+      «end_point» = s .«end_point»;
+      «inverted_direction» = eqb (c .inverted) 1;
+    }
+
+-- a slice as one thing
 pub record Slice : Type 0 where
   pub codes : Codes
-  pub updatedStart : Vertex
-  pub endBulge : Float
-  pub endPoint : Point
+  pub shape : Shape
 
--- its view, where the code of inverted is a yes
-abbrev pub viewOf : Slice → ViewData
-viewOf s =
-    record {
-      «start_index» = s .codes .start;
-      «end_index_offset» = s .codes .offset;
-      «updated_start» = s .updatedStart;
-      «updated_end_bulge» = s .endBulge;
-      «end_point» = s .endPoint;
-      «inverted_direction» = eqb (s .codes .inverted) 1;
-    }
+abbrev pub sliceOf : Codes → Shape → Slice
+sliceOf c s = record { codes = c; shape = s }
 
 -- ---- read from the lists
 
@@ -47,19 +49,18 @@ codesAt at i =
       offset = getD at (codeWidth * i + 3) 0;
     }
 
--- the slice of these codes with the six numbers of item k
-abbrev pub sliceOf : Codes → List Float → ℕ → Slice
-sliceOf c l k =
+-- its shape
+unfoldable pub shapeAt : List Float → ℕ → Shape
+shapeAt l i =
     record {
-      codes = c;
-      updatedStart = record { x = getD l (shapeWidth * k) nan; y = getD l (shapeWidth * k + 1) nan; bulge = getD l (shapeWidth * k + 2) nan };
-      endBulge = getD l (shapeWidth * k + 3) nan;
-      endPoint = record { x = getD l (shapeWidth * k + 4) nan; y = getD l (shapeWidth * k + 5) nan };
+      «updated_start» = record { x = getD l (shapeWidth * i) nan; y = getD l (shapeWidth * i + 1) nan; bulge = getD l (shapeWidth * i + 2) nan };
+      «end_bulge» = getD l (shapeWidth * i + 3) nan;
+      «end_point» = record { x = getD l (shapeWidth * i + 4) nan; y = getD l (shapeWidth * i + 5) nan };
     }
 
--- the view of slice number i, and its offset
+-- its view, and its offset
 unfoldable pub sliceView : List ℕ → List Float → ℕ → ViewData
-sliceView at shape i = viewOf (sliceOf (codesAt at i) shape i)
+sliceView at shape i = viewOf (codesAt at i) (shapeAt shape i)
 
 unfoldable pub sliceOffset : List ℕ → ℕ → ℕ
 sliceOffset at i = codesAt at i .offset
@@ -68,9 +69,11 @@ sliceOffset at i = codesAt at i .offset
 abbrev pub codeList : Codes → List ℕ
 codeList c = c .source ∷ c .inverted ∷ c .start ∷ c .offset ∷ []
 
+abbrev pub shapeList : Shape → List Float
+shapeList s = vertexNumbers (s .«updated_start») ++ (s .«end_bulge» ∷ pointNumbers (s .«end_point»))
+
 abbrev pub codesOf : Slice → List ℕ
 codesOf s = codeList (s .codes)
 
 abbrev pub shapeOf : Slice → List Float
-shapeOf s =
-    s .updatedStart .x ∷ s .updatedStart .y ∷ s .updatedStart .bulge ∷ s .endBulge ∷ s .endPoint .x ∷ s .endPoint .y ∷ []
+shapeOf s = shapeList (s .shape)

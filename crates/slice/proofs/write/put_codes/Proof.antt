@@ -1,63 +1,23 @@
-use native.Mathlib.Omega.{arith}
-use native.Mathlib.Numerals.{towards-suc}
-use lib.ListN.{length-set}
+use Rattle.slice.specs.PutLaws.{putting}
 use borrow.Author.Needs.{needs}
 use Rattle.slice.proofs.write.put_codes.Statement.{statement}
 use Rattle.slice.proofs.write.put_codes.Tie as tie
 
-mul-room : tie.Need-mul-room
-mul-room c = search needs
+put-pair-requires : tie.Need-put-pair-requires
+put-pair-requires c κs = search needs
 
-slice-write-room : tie.Need-slice-write-room
-slice-write-room c = search needs
+add-put-pair : tie.Need-add-put-pair
+add-put-pair c = search needs
 
-add-room : tie.Need-add-room
-add-room c = search needs
-
-mul-room-2 : tie.Need-mul-room-2
-mul-room-2 c = search needs
-
-slice-write-room-2 : tie.Need-slice-write-room-2
-slice-write-room-2 c = simp length-set (omega arith)
-
-add-room-2 : tie.Need-add-room-2
-add-room-2 c = search needs
-
-mul-room-3 : tie.Need-mul-room-3
-mul-room-3 c = search needs
-
-slice-write-room-3 : tie.Need-slice-write-room-3
-slice-write-room-3 c = simp length-set (omega arith)
-
-add-room-3 : tie.Need-add-room-3
-add-room-3 c = search needs
-
-mul-room-4 : tie.Need-mul-room-4
-mul-room-4 c = search needs
-
-slice-write-room-4 : tie.Need-slice-write-room-4
-slice-write-room-4 c = simp length-set (omega arith)
+put-pair-requires-2 : tie.Need-put-pair-requires-2
+put-pair-requires-2 c κs = search needs
 
 same-length : tie.Need-same-length
 same-length c = search needs
 
 returns : tie.Need-returns
-returns c = simp towards-suc
+returns c = search (needs, putting)
 
 pub put-codes-spec : {M : Type 1} → statement M
 put-codes-spec =
-    tie.close
-    (tie.spec
-    mul-room
-    slice-write-room
-    add-room
-    mul-room-2
-    slice-write-room-2
-    add-room-2
-    mul-room-3
-    slice-write-room-3
-    add-room-3
-    mul-room-4
-    slice-write-room-4
-    same-length
-    returns)
+    tie.close (tie.spec put-pair-requires add-put-pair put-pair-requires-2 same-length returns)

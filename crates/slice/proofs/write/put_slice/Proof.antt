@@ -9,8 +9,11 @@ mul-put-codes c = search needs
 put-codes-requires : tie.Need-put-codes-requires
 put-codes-requires c κs = search needs
 
-copy-shape-requires : tie.Need-copy-shape-requires
-copy-shape-requires c κs = search needs
+mul-put-shape : tie.Need-mul-put-shape
+mul-put-shape c = search needs
+
+put-shape-requires : tie.Need-put-shape-requires
+put-shape-requires c κs = search needs
 
 same-length : tie.Need-same-length
 same-length c = search needs
@@ -24,4 +27,11 @@ returns c = search (needs, putting)
 pub put-slice-spec : {M : Type 1} → statement M
 put-slice-spec =
     tie.close
-    (tie.spec mul-put-codes put-codes-requires copy-shape-requires same-length same-length-2 returns)
+    (tie.spec
+    mul-put-codes
+    put-codes-requires
+    mul-put-shape
+    put-shape-requires
+    same-length
+    same-length-2
+    returns)
