@@ -50,7 +50,8 @@ use Rattle.stitch_run.specs.Run as run
 use Rattle.stitch_run.specs.Run.{passing, free, candidate, taken, answered, asked, nextOf, roundOf, opened, onward, ended}
 use Rattle.stitch_run.specs.Run.{stopped, walk, chainFrom, added, begun, turn, turns, roundsOf}
 use Rattle.stitch_run.specs.Stitch as stitch
-use Rattle.stitch_run.specs.Stitch.{ofFirst, sliceOffset, sliceEnd, sliceView, sliceOutline, sliceCount, sliceVertex, startPoint, addSlice}
+use Rattle.stitch_run.specs.Stitch.{sliceOutline, sliceCount, sliceVertex, startPoint, addSlice}
+use Rattle.slice.specs.Slice.{codesAt, shapeAt, sliceView}
 use Rattle.stitch_run.specs.Stitch.{offersTo, rulesOf, runOf, loopOf, loopsOf, howOf, totals, roundCount, loopCount, roomItems}
 use Rattle.stitch_run.specs.Stitch.{endItems, isSpent, anySpent, roundsFault, sumBelow, weightAt, needFor}
 use Rattle.stitch.specs.Lent.{Lists}
@@ -87,7 +88,7 @@ unfolding passing free candidate run.candidatesOf taken answered asked nextOf ro
 rounds = tt
 
 stitching : Unit {0}
-unfolding views pruning rounds addVertex addFirst addView dropLast ofFirst sliceOffset sliceEnd sliceView sliceOutline sliceCount sliceVertex startPoint addSlice offersTo rulesOf runOf loopOf loopsOf howOf totals roundCount loopCount roomItems endItems roundsOf isSpent anySpent roundsFault sumBelow weightAt needFor stitch.needOf run.slicesOf run.orderOf
+unfolding views pruning rounds addVertex addFirst addView dropLast codesAt shapeAt sliceView sliceOutline sliceCount sliceVertex startPoint addSlice offersTo rulesOf runOf loopOf loopsOf howOf totals roundCount loopCount roomItems endItems roundsOf isSpent anySpent roundsFault sumBelow weightAt needFor stitch.needOf run.slicesOf run.orderOf
 stitching = tt
 
 refusals : Unit {0}

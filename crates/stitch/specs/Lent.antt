@@ -14,7 +14,8 @@ use Rattle.stitch_chain.specs.declared.rounds.ChainEnd.{ChainEnd}
 use Rattle.stitch.specs.declared.turn.Tally.{Tally}
 use Rattle.stitch.specs.declared.write.Stitched.{Stitched}
 use Rattle.stitch_run.specs.Run.{Chain, closed, turns, slicesOf, orderOf}
-use Rattle.stitch_run.specs.Stitch.{Given, sliceOffset, rulesOf, runOf, loopsOf, howOf, totals, needOf, roundCount, loopCount, chainCount, roomItems, endItems, chainItems, chainEndItems, howItems}
+use Rattle.stitch_run.specs.Stitch.{Given, rulesOf, runOf, loopsOf, howOf, totals, needOf, roundCount, loopCount, chainCount, roomItems, endItems, chainItems, chainEndItems, howItems}
+use Rattle.slice.specs.Slice.{codeWidth, sliceOffset}
 use Rattle.stitch_run.specs.Demand3.{finished}
 use Rattle.stitch_round.specs.Ready.{Sound, Points}
 use Rattle.stitch_chain.specs.Ready.{Begun, chainsTo}
@@ -121,7 +122,7 @@ pub record AllTurned (g : Given) (x : Lists) (w : Tally) (x′ : Lists) : Type 0
 -- ---- the room behind what was written
 
 pub record NeedFit (at : List ℕ) (n : ℕ) : Type 0 where
-  pub long : 4 * n ≤ length at
+  pub long : codeWidth * n ≤ length at
   pub few : n ≤ 1792
   pub offsets : (i : ℕ) → i < n → sliceOffset at i ≤ 1024
 

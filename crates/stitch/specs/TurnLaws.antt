@@ -17,7 +17,8 @@ use Rattle.stitch_vertices.specs.RestLaws.{chain-length, chain-less, chain-numb
 use Rattle.stitch_chain.specs.declared.rounds.ChainEnd.{ChainEnd}
 use Rattle.stitch.specs.declared.turn.Tally.{Tally}
 use Rattle.stitch_run.specs.Run.{Ending, closed, tooSmall, noCandidate, noSelection, spent, Chain, Stitched, opened, added, begun, turn, turns, slicesOf, orderOf}
-use Rattle.stitch_run.specs.Stitch.{Given, sliceView, rulesOf, loopOf, loopsOf, howOf, totals, sumBelow, weightAt, needFor, needOf}
+use Rattle.stitch_run.specs.Stitch.{Given, rulesOf, loopOf, loopsOf, howOf, totals, sumBelow, weightAt, needFor, needOf}
+use Rattle.slice.specs.Slice.{sliceView}
 use Rattle.stitch_run.specs.Demand3.{sumOver, leaves, finished}
 use Rattle.stitch_run.specs.SumLaws.{sum-append}
 use Rattle.basis.specs.FlatLaws.{flat-snoc}

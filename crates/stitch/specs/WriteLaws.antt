@@ -13,7 +13,8 @@ use Rattle.basis.specs.Number.{+0}
 use Rattle.basis.specs.Room.{roomOf, cleared}
 use Rattle.stitch.specs.declared.turn.Tally.{Tally}
 use Rattle.stitch_run.specs.Run.{run, turns, orderOf}
-use Rattle.stitch_run.specs.Stitch.{Given, sliceOffset, sliceView, rulesOf, runOf, loopsOf, totals, sumBelow, weightAt, needFor, needOf, roundCount, loopCount, chainCount, roomItems, endItems, chainItems, chainEndItems, howItems}
+use Rattle.stitch_run.specs.Stitch.{Given, rulesOf, runOf, loopsOf, totals, sumBelow, weightAt, needFor, needOf, roundCount, loopCount, chainCount, roomItems, endItems, chainItems, chainEndItems, howItems}
+use Rattle.slice.specs.Slice.{codeWidth, codesAt, sliceView}
 use Rattle.stitch_run.specs.RunLaws.{same-length}
 use Rattle.stitch_run.specs.StitchLaws.{among}
 use Rattle.stitch_run.specs.Demand3Theorems.{room-items, end-items, chain-items, how-items, chains-at-most, loops-at-most}
@@ -112,8 +113,8 @@ pub record Summing (at : List ℕ) (n sum i : ℕ) : Type 0 where
   pub is : sum ≡ 1 + sumBelow (weightAt at) i
   pub most : sum ≤ 1 + 1025 * i
 
-pub sum-offset : (at : List ℕ) (n i : ℕ) → NeedFit at n → i < n → getD at (4 * i + 3) 0 ≤ 1024
-unfolding sliceOffset
+pub sum-offset : (at : List ℕ) (n i : ℕ) → NeedFit at n → i < n → getD at (codeWidth * i + 3) 0 ≤ 1024
+unfolding codesAt
 sum-offset at n i f h = f .offsets i h
 
 module _ (at : List ℕ) (n : ℕ) where
@@ -121,8 +122,8 @@ module _ (at : List ℕ) (n : ℕ) where
   unfolding sumBelow
   sum-none = record { upto = omega arith; is = refl; most = omega arith }
 
-  pub sum-more : (sum i : ℕ) → NeedFit at n → Summing at n sum i → i < n → Summing at n (sum + (getD at (4 * i + 3) 0 + 1)) (i + 1)
-  unfolding sumBelow weightAt sliceOffset
+  pub sum-more : (sum i : ℕ) → NeedFit at n → Summing at n sum i → i < n → Summing at n (sum + (getD at (codeWidth * i + 3) 0 + 1)) (i + 1)
+  unfolding sumBelow weightAt codesAt
   sum-more sum i f s h =
       record {
         upto = omega arith;

@@ -8,8 +8,9 @@ use crate::turn::Tally;
 use basis::number::Tolerance;
 use basis::room;
 use select::class::Starts;
+use slice::data::CODE_WIDTH;
 use stitch_round::plan::Plan;
-use stitch_round::slice;
+use stitch_round::slices;
 
 // What is reported: the rounds taken, the loops returned, the chains walked.
 pub struct Stitched {
@@ -29,7 +30,7 @@ pub fn room_need(slice_at: &[usize], count: usize) -> usize
     let mut sum = 1;
     let mut i = 0;
     while i < count {
-        let a = 4 * i + 3;
+        let a = CODE_WIDTH * i + 3;
         sum += slice_at[a] + 1;
         i += 1;
     }
@@ -75,7 +76,7 @@ fn write_with(
     requires { ⌜ Tabled (planned (now outline1) (now outline2) (now «slice_at») (now slice) p) (now points) (now visited) (lists (now room) (now ends) (now chain) (now «chain_ends») (now «chain_how»)) ⌝ }
     ensures { λ r. ⌜ Written (planned (now (outline1 .entry)) (now (outline2 .entry)) (now («slice_at» .entry)) (now (slice .entry)) p) (lists (now (room .entry)) (now (ends .entry)) (now (chain .entry)) (now («chain_ends» .entry)) (now («chain_how» .entry))) r (lists (now (room .exit)) (now (ends .exit)) (now (chain .exit)) (now («chain_ends» .exit)) (now («chain_how» .exit))) ⌝ }
 {
-    slice::fill_points(points, outline1, outline2, slice_at, slice, p);
+    slices::fill_points(points, outline1, outline2, slice_at, slice, p);
     let w = turn::take_turns(
         visited,
         room,

@@ -17,7 +17,8 @@ use Rattle.stitch_chain.specs.declared.rounds.ChainEnd.{ChainEnd}
 use Rattle.stitch_round.specs.declared.step.Step.{Step}
 use Rattle.stitch_round.specs.declared.step.Step.the-variants.{Onto, Ends}
 use Rattle.stitch_run.specs.Run.{Rules, Ending, Next, onto, ends, Underway, Finished, nextOf, roundOf, opened, onward, ended, walk, chainFrom, turns, slicesOf}
-use Rattle.stitch_run.specs.Stitch.{Given, sliceOffset, rulesOf, addSlice, howOf, weightAt}
+use Rattle.stitch_run.specs.Stitch.{Given, rulesOf, addSlice, howOf, weightAt}
+use Rattle.slice.specs.Slice.{sliceOffset}
 use Rattle.stitch_run.specs.TallyLaws.{tally-weight, tally-most}
 use Rattle.stitch_run.specs.RunLaws.{placed, placed-longer, onto-facts, Going, going-onward, going-opened, ended-slices, kept-turns}
 use Rattle.stitch_run.specs.NeedLaws.{Roomy, round-fits, roomy-onward, roomy-opened, held-turns}

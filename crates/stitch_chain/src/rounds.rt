@@ -2,7 +2,7 @@
 ghost use Rattle.stitch_round.specs.Ready.{planned};
 ghost use Rattle.stitch_chain.specs.Ready.{Placing, Placed, Opening, Walked};
 use stitch_round::plan::Plan;
-use stitch_round::slice;
+use stitch_round::slices;
 use stitch_round::step;
 use stitch_round::step::Step;
 
@@ -29,7 +29,7 @@ fn place(
     ensures { λ r. ⌜ Placed (planned (now (outline1 .entry)) (now (outline2 .entry)) (now («slice_at» .entry)) (now (slice .entry)) p) j n (now (visited .entry)) (now (room .entry)) r (now (visited .exit)) (now (room .exit)) ⌝ }
 {
     visited[j] = true;
-    slice::add_slice(room, n, outline1, outline2, slice_at, slice, p, j)
+    slices::add_slice(room, n, outline1, outline2, slice_at, slice, p, j)
 }
 
 // The chain that begins with slice `first`, in a room that begins with it. Each round lists its slice, after the rounds of the chains before.

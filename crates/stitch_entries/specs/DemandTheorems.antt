@@ -10,6 +10,7 @@ use lib.Dec.{T, eqb}
 use lib.ListN.{length, getD, take, drop, length-append, length-map}
 use lib.Seq.{take-at, drop-at}
 use Rattle.basis.specs.All.{All}
+use Rattle.basis.specs.Sizes.{mostSlices}
 use Rattle.basis.specs.Room.{roomOf}
 use Rattle.basis.specs.RoomLaws.{room-front}
 use Rattle.basis.specs.Choice.{T-left, T-right, true-of}
@@ -158,6 +159,6 @@ module _ (g : Given) (x : Lists) (r : StitchAnswer) (left : Lists) (holds : Stit
 
 -- For every n from 1 to 1,792 there is a call of n slices that is accepted, whatever lists are lent that are as long as the need, and whose one chain really
 -- holds as many vertices as the need says.
-pub need-is-reached : (n : ℕ) → 1 ≤ n → n ≤ 1792
+pub need-is-reached : (n : ℕ) → 1 ≤ n → n ≤ mostSlices
     → (toAndFro n .slices ≡ n) × Tight (toAndFro n) × ((x : Lists) (r : StitchAnswer) (left : Lists) → Long (toAndFro n) x → StitchLeft (toAndFro n) x r left → r .refusal ≡ 0)
 need-is-reached n some few = (refl, need-is-tight n some, λ x r left l h. need-accepted (toAndFro n) x r left h (tight-shape n few) l)

@@ -1,29 +1,31 @@
 -- What the entry `mask_stitch` is proved by: acceptance, the dead guard, and the two ways out.
-use Prim.Native.Nat.{ℕ, zero, suc, _+_, _*_, _/_, _≤_, _<_}
+use Prim.Native.Nat.{ℕ, zero, suc, _*_, _≤_, _<_}
 use mathlib.Core.Bool.{Bool, true, false, cond}
 use mathlib.Core.Path.{_≡_, refl, sym, ap, subst, _∙_}
 use mathlib.Core.List.{List, _++_}
-use native.Mathlib.Nat.{mul-div-right, le-of-eq, le-trans}
+use native.Mathlib.Nat.{le-of-eq, le-trans}
 use native.Mathlib.Omega.{arith}
-use lib.ListN.{length, getD}
+use lib.ListN.{length}
 use lib.Dec.{eqb}
 use lib.Ieee.{Float}
-use borrow.Author.Tests.{ltb-true, ltb-false, leb-true, not-false}
+use borrow.Author.Tests.{ltb-false, not-false}
 use Rattle.basis.specs.declared.number.Tolerance.{Tolerance}
-use Rattle.basis.specs.EachLaws.{each-at}
+use Rattle.basis.specs.Sizes.{mostSlices}
 use Rattle.basis.specs.Refuse.{Row, firstFrom, orElse, countFor}
 use Rattle.basis.specs.RefuseLaws.{Clear, clear, clear-left, clear-right, first-from, found-stays, then-rows, length-ok, size-ok, choice-ok, answer-no, answer-yes}
 use Rattle.outline.specs.Outline.{Whole}
 use Rattle.view.specs.View.{Fit}
 use Rattle.select.specs.declared.class.Starts.{Starts}
-use Rattle.stitch_run.specs.Stitch.{Given, given, ofFirst, sliceOffset, sliceView, sliceOutline, sliceCount, roundCount, loopCount, chainCount}
+use Rattle.stitch_run.specs.Stitch.{Given, given, sliceOutline, sliceCount, roundCount, loopCount, chainCount}
+use Rattle.slice.specs.Slice.{codeWidth, shapeWidth, codesAt, sliceView, sliceOffset}
+use Rattle.slice.specs.SliceLaws.{start-at, offset-at}
 use Rattle.stitch_run.specs.Demand3Theorems.{no-rounds-fault}
 use Rattle.stitch_round.specs.Ready.{Sound}
 use Rattle.stitch.specs.Lent.{Lists, NeedFit, StitchFit, Written}
 use Rattle.stitch.specs.declared.write.Stitched.{Stitched}
 use Rattle.stitch_entries.specs.declared.answer.StitchAnswer.{StitchAnswer}
 use Rattle.stitch_entries.specs.Answers.{stitchRefused, stitchGiven}
-use Rattle.stitch_entries.specs.StitchRows.{listRows, codeRows, numberRows, startsInside, offsetsInside, indexRows, roomRows}
+use Rattle.stitch_entries.specs.StitchRows.{listRows, codeRows, numberRows, indexRows, roomRows}
 use Rattle.stitch_entries.specs.StitchEntry.{shapeRows, guardRows, stitchRefusal, stitchNumber, StitchLeft}
 
 module _ (g : Given) where
@@ -41,11 +43,8 @@ module _ (g : Given) where
 
   -- each slice's view fits its own outline
   module _ (a : Clear lists) (b : Clear codes) (c : Clear indexes) where
-    at-four : length (g .sliceAt) ≡ 4 * g .slices
-    at-four = length-ok 4 (length (g .sliceAt)) (g .slices) (a .1 .1 .0)
-
-    items : length (g .sliceAt) / 4 ≡ g .slices
-    items = ap (λ (n : ℕ). n / 4) at-four ∙ mul-div-right (g .slices) (omega arith)
+    at-codes : length (g .sliceAt) ≡ codeWidth * g .slices
+    at-codes = length-ok codeWidth (length (g .sliceAt)) (g .slices) (a .1 .1 .0)
 
     whole-of : (first : Bool) → Whole (cond first (g .outline1) (g .outline2)) (cond first (g .vc1) (g .vc2))
     whole-of true =
@@ -55,24 +54,22 @@ module _ (g : Given) where
         let size = size-ok (g .vc2) (b .1 .0) in
         record { triples = length-ok 3 (length (g .outline2)) (g .vc2) (a .1 .0); least = size .0; most = size .1 }
 
-    offset-most : (i : ℕ) → i < g .slices → sliceOffset (g .sliceAt) i ≤ countFor (g .vc1) (g .vc2) (getD (g .sliceAt) (4 * i) 0)
-    unfolding sliceOffset offsetsInside
-    offset-most i h = leb-true _ _ (each-at _ (length (g .sliceAt) / 4) i (not-false _ (c .1 .0)) (subst (λ (n : ℕ). i < n) (sym items) h))
+    offset-most : (i : ℕ) → i < g .slices → sliceOffset (g .sliceAt) i ≤ countFor (g .vc1) (g .vc2) (codesAt (g .sliceAt) i .source)
+    offset-most = offset-at (g .sliceAt) (g .slices) at-codes (g .vc1) (g .vc2) (not-false _ (c .1 .0))
 
-    start-below : (i : ℕ) → i < g .slices → getD (g .sliceAt) (4 * i + 2) 0 < countFor (g .vc1) (g .vc2) (getD (g .sliceAt) (4 * i) 0)
-    unfolding startsInside
-    start-below i h = ltb-true _ _ (each-at _ (length (g .sliceAt) / 4) i (not-false _ (c .0)) (subst (λ (n : ℕ). i < n) (sym items) h))
+    start-below : (i : ℕ) → i < g .slices → codesAt (g .sliceAt) i .start < countFor (g .vc1) (g .vc2) (codesAt (g .sliceAt) i .source)
+    start-below = start-at (g .sliceAt) (g .slices) at-codes (g .vc1) (g .vc2) (not-false _ (c .0))
 
     view-fits : (i : ℕ) → i < g .slices → Fit (sliceOutline g i) (sliceCount g i) (sliceView (g .sliceAt) (g .slice) i)
-    unfolding sliceOutline sliceCount sliceView ofFirst
-    view-fits i h = record { whole = whole-of (eqb (getD (g .sliceAt) (4 * i) 0) 1); starts = start-below i h; reaches = offset-most i h }
+    unfolding sliceOutline sliceCount sliceView
+    view-fits i h = record { whole = whole-of (eqb (codesAt (g .sliceAt) i .source) 1); starts = start-below i h; reaches = offset-most i h }
 
     sound-of : Sound g
     sound-of =
         record {
-          at = at-four;
-          numbers = length-ok 6 (length (g .slice)) (g .slices) (a .1 .1 .1 .0);
-          few = ltb-false 1792 (g .slices) (a .1 .1 .1 .1 .0);
+          at = at-codes;
+          numbers = length-ok shapeWidth (length (g .slice)) (g .slices) (a .1 .1 .1 .0);
+          few = ltb-false mostSlices (g .slices) (a .1 .1 .1 .1 .0);
           selectors = let s = choice-ok (g .selector) (b .1 .1 .0) in omega arith;
           views = view-fits;
         }
@@ -80,9 +77,9 @@ module _ (g : Given) where
     need-of : NeedFit (g .sliceAt) (g .slices)
     need-of =
         record {
-          long = le-of-eq (sym at-four);
-          few = ltb-false 1792 (g .slices) (a .1 .1 .1 .1 .0);
-          offsets = λ i h. le-trans (offset-most i h) (whole-of (eqb (getD (g .sliceAt) (4 * i) 0) 1) .most);
+          long = le-of-eq (sym at-codes);
+          few = ltb-false mostSlices (g .slices) (a .1 .1 .1 .1 .0);
+          offsets = λ i h. le-trans (offset-most i h) (whole-of (eqb (codesAt (g .sliceAt) i .source) 1) .most);
         }
 
   sound : Clear (shapeRows g) → Sound g

@@ -1,17 +1,14 @@
 // The refusals of `mask_stitch`, part by part of their table. Each part goes on from what was found so far.
 ghost use mathlib.Core.Path.{_≡_};
-ghost use mathlib.Core.Bool.{not};
-ghost use Rattle.basis.specs.Refuse.{firstFrom, countFor, sourceFault};
+ghost use Rattle.basis.specs.Refuse.{firstFrom};
 ghost use Rattle.stitch.specs.Lent.{NeedFit};
-ghost use Rattle.stitch_entries.specs.StitchRows.{listRows, sourcesKnown, codeRows, numberRows, startsInside, offsetsInside, startsFault, indexRows, roomRows};
-use basis::items;
+ghost use Rattle.stitch_entries.specs.StitchRows.{listRows, codeRows, numberRows, startsFault, indexRows, roomRows};
 use basis::number;
 use basis::number::Tolerance;
 use basis::refuse;
+use basis::sizes::MOST_SLICES;
 use select::class::Starts;
 use stitch::write;
-
-const MOST_SLICES: usize = 1792;
 
 // Number 1.
 pub fn list_refusal(
@@ -27,30 +24,8 @@ pub fn list_refusal(
 {
     let r = refuse::or_else(0, refuse::bad_length(len1, 3, vc1), 1);
     let r = refuse::or_else(r, refuse::bad_length(len2, 3, vc2), 1);
-    let r = refuse::or_else(r, refuse::bad_length(at, 4, count), 1);
-    let r = refuse::or_else(r, refuse::bad_length(numbers, 6, count), 1);
+    let r = slice::faults::list_refusal(r, at, numbers, count);
     refuse::or_else(r, MOST_SLICES < count, 1)
-}
-
-// A source that is 1 or 2.
-fn known_source(source: usize) -> bool
-    ensures { λ r. ⌜ r ≡ not (sourceFault source) ⌝ }
-{
-    source == 1 || source == 2
-}
-
-// Every slice's source is 1 or 2.
-fn sources_known(slice_at: &[usize]) -> bool
-    ensures { λ r. ⌜ r ≡ sourcesKnown (now («slice_at» .entry)) ⌝ }
-{
-    let count = slice_at.len() / 4;
-    let mut ok = true;
-    let mut i = 0;
-    while i < count {
-        ok = ok & known_source(slice_at[4 * i]);
-        i += 1;
-    }
-    ok
 }
 
 // Numbers 2 and 3.
@@ -60,8 +35,7 @@ pub fn code_refusal(r: u32, vc1: usize, vc2: usize, selector: u32, slice_at: &[u
     let r = refuse::or_else(r, refuse::bad_size(vc1), 2);
     let r = refuse::or_else(r, refuse::bad_size(vc2), 2);
     let r = refuse::or_else(r, refuse::bad_choice(selector), 3);
-    let r = refuse::or_else(r, !sources_known(slice_at), 3);
-    refuse::or_else(r, !items::all_below(slice_at, 4, 1, 2), 3)
+    slice::faults::code_refusal(r, slice_at)
 }
 
 // Numbers 4 and 5.
@@ -78,43 +52,6 @@ pub fn number_refusal(
     let r = refuse::or_else(r, !number::all_in_range(outline1), 5);
     let r = refuse::or_else(r, !number::all_in_range(outline2), 5);
     refuse::or_else(r, !number::all_in_range(slice), 5)
-}
-
-// The vertex count of a slice's own outline.
-fn count_for(vc1: usize, vc2: usize, source: usize) -> usize
-    ensures { λ r. ⌜ r ≡ countFor vc1 vc2 source ⌝ }
-{
-    if source == 1 { vc1 } else { vc2 }
-}
-
-// Every slice's start index is below its outline's vertex count.
-fn starts_inside(vc1: usize, vc2: usize, slice_at: &[usize]) -> bool
-    ensures { λ r. ⌜ r ≡ startsInside vc1 vc2 (now («slice_at» .entry)) ⌝ }
-{
-    let count = slice_at.len() / 4;
-    let mut ok = true;
-    let mut i = 0;
-    while i < count {
-        let most = count_for(vc1, vc2, slice_at[4 * i]);
-        ok = ok & (slice_at[4 * i + 2] < most);
-        i += 1;
-    }
-    ok
-}
-
-// Every slice's offset is at most its outline's vertex count.
-fn offsets_inside(vc1: usize, vc2: usize, slice_at: &[usize]) -> bool
-    ensures { λ r. ⌜ r ≡ offsetsInside vc1 vc2 (now («slice_at» .entry)) ⌝ }
-{
-    let count = slice_at.len() / 4;
-    let mut ok = true;
-    let mut i = 0;
-    while i < count {
-        let most = count_for(vc1, vc2, slice_at[4 * i]);
-        ok = ok & (slice_at[4 * i + 3] <= most);
-        i += 1;
-    }
-    ok
 }
 
 // Number 8: the classes do not begin in order.
@@ -136,8 +73,7 @@ pub fn index_refusal(
 ) -> u32
     ensures { λ n. ⌜ n ≡ firstFrom r (indexRows vc1 vc2 (now («slice_at» .entry)) starts count) ⌝ }
 {
-    let r = refuse::or_else(r, !starts_inside(vc1, vc2, slice_at), 6);
-    let r = refuse::or_else(r, !offsets_inside(vc1, vc2, slice_at), 7);
+    let r = slice::faults::index_refusal(r, vc1, vc2, slice_at);
     refuse::or_else(r, bad_starts(starts, count), 8)
 }
 

@@ -21,7 +21,8 @@ use Rattle.stitch_round.specs.declared.scan.Seen.{Seen}
 use Rattle.stitch_round.specs.declared.step.Step.{Step}
 use Rattle.stitch_round.specs.declared.step.Step.the-variants.{Onto, Ends}
 use Rattle.stitch_run.specs.Run.{Next, onto, ends, closed, tooSmall, Underway, passing, free, nextOf}
-use Rattle.stitch_run.specs.Stitch.{Given, given, sliceOffset, sliceView, sliceOutline, sliceCount, startPoint, addSlice, rulesOf, howOf}
+use Rattle.stitch_run.specs.Stitch.{Given, given, sliceOutline, sliceCount, startPoint, addSlice, rulesOf, howOf}
+use Rattle.slice.specs.Slice.{codeWidth, shapeWidth, sliceView, sliceOffset}
 
 -- a call, as the functions below the top have it
 abbrev pub planned : List Float → List Float → List ℕ → List Float → Plan → Given
@@ -29,17 +30,13 @@ planned o1 o2 at numbers p = given o1 (p .vc1) o2 (p .vc2) at numbers (p .count)
 
 -- the lists are as long as the count says, and each slice's view fits its outline
 pub record Sound (g : Given) : Type 0 where
-  pub at : length (g .sliceAt) ≡ 4 * g .slices
-  pub numbers : length (g .slice) ≡ 6 * g .slices
+  pub at : length (g .sliceAt) ≡ codeWidth * g .slices
+  pub numbers : length (g .slice) ≡ shapeWidth * g .slices
   pub few : g .slices ≤ 1792
   pub selectors : g .selector < 2
   pub views : (i : ℕ) → i < g .slices → Fit (sliceOutline g i) (sliceCount g i) (sliceView (g .sliceAt) (g .slice) i)
 
 -- ---- slices
-
-pub record SliceThere (at : List ℕ) (numbers : List Float) (i : ℕ) : Type 0 where
-  pub four : 4 * i + 3 < length at
-  pub six : 6 * i + 5 < length numbers
 
 pub record SliceFit (g : Given) (i : ℕ) : Type 0 where
   pub sound : Sound g

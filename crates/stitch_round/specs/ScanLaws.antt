@@ -26,73 +26,72 @@ use Rattle.select.specs.SelectLaws as select
 use Rattle.stitch_vertices.specs.Held.{ViewMore, Extended}
 use Rattle.stitch_round.specs.declared.plan.Plan.{Plan}
 use Rattle.stitch_run.specs.Run.{passing}
-use Rattle.stitch_run.specs.Stitch.{Given, ofFirst, sliceOffset, sliceEnd, sliceView, sliceOutline, sliceCount, sliceVertex, startPoint, addSlice}
-use Rattle.stitch_round.specs.Ready.{planned, SliceThere, SliceFit, SliceMore, SliceAdded, PointsFit, Points, hasAny, Met}
+use Rattle.stitch_run.specs.Stitch.{Given, sliceOutline, sliceCount, sliceVertex, startPoint, addSlice}
+use Rattle.slice.specs.declared.data.Codes.{Codes}
+use Rattle.slice.specs.Ready.{CodesThere, SliceThere}
+use Rattle.slice.specs.Slice.{codesAt, sliceView}
+use Rattle.stitch_round.specs.Ready.{planned, SliceFit, SliceMore, SliceAdded, PointsFit, Points, hasAny, Met}
 
 -- ---- a slice
 
-pub view-is : (at : List ℕ) (numbers : List Float) (i : ℕ) (w : Vertex) → w ≡ vertexAt numbers (2 * i)
-    → record {
-      «start_index» = getD at (4 * i + 2) 0;
-      «end_index_offset» = getD at (4 * i + 3) 0;
-      «updated_start» = w;
-      «updated_end_bulge» = getD numbers (6 * i + 3) nan;
-      «end_point» = record { x = getD numbers (6 * i + 4) nan; y = getD numbers (6 * i + 5) nan };
-      «inverted_direction» = eqb (getD at (4 * i + 1) 0) 1;
-    }
-    ≡ sliceView at numbers i
-unfolding sliceView sliceOffset sliceEnd
-view-is at numbers i w e = rw e
-
 pub there-of : (o1 o2 : List Float) (at : List ℕ) (numbers : List Float) (p : Plan) (i : ℕ) → SliceFit (planned o1 o2 at numbers p) i → SliceThere at numbers i
-there-of o1 o2 at numbers p i f = record { four = omega (arith, f .sound .at); six = omega (arith, f .sound .numbers) }
+there-of o1 o2 at numbers p i f = record { codes = record { inside = omega (arith, f .sound .at) }; shape-there = record { inside = omega (arith, f .sound .numbers) } }
+
+pub codes-of : (o1 o2 : List Float) (at : List ℕ) (numbers : List Float) (p : Plan) (i : ℕ) → SliceFit (planned o1 o2 at numbers p) i → CodesThere at i
+codes-of o1 o2 at numbers p i f = there-of o1 o2 at numbers p i f .codes
 
 -- its source is 1, or not: the slice is of outline 1, or of outline 2
-module _ (o1 o2 : List Float) (at : List ℕ) (numbers : List Float) (p : Plan) (i : ℕ) (v : ViewData) (e : v ≡ sliceView at numbers i) where
+module _ (o1 o2 : List Float) (at : List ℕ) (numbers : List Float) (p : Plan) (i : ℕ) (v : ViewData) (e : v ≡ sliceView at numbers i) (x : Codes) (t : x ≡ codesAt at i) where
   abbrev g : Given
   g = planned o1 o2 at numbers p
 
-  pub fit-first : SliceFit g i → getD at (4 * i) 0 ≡ 1 → Fit o1 (p .vc1) v
-  unfolding sliceOutline sliceCount ofFirst
-  fit-first f h = let k = f .sound .views i (f .here) in rw e (rw (eq-eqb (getD at (4 * i) 0) 1 h) at k)
+  first : x .source ≡ 1 → eqb (codesAt at i .source) 1 ≡ true
+  first h = eq-eqb (codesAt at i .source) 1 (rw t at h)
 
-  pub fit-second : SliceFit g i → (getD at (4 * i) 0 ≡ 1 → ⊥) → Fit o2 (p .vc2) v
-  unfolding sliceOutline sliceCount ofFirst
-  fit-second f h = let k = f .sound .views i (f .here) in rw e (rw (ne-eqb (getD at (4 * i) 0) 1 h) at k)
+  second : (x .source ≡ 1 → ⊥) → eqb (codesAt at i .source) 1 ≡ false
+  second h = ne-eqb (codesAt at i .source) 1 (rw t at h)
+
+  pub fit-first : SliceFit g i → x .source ≡ 1 → Fit o1 (p .vc1) v
+  unfolding sliceOutline sliceCount
+  fit-first f h = let k = f .sound .views i (f .here) in rw e (rw (first h) at k)
+
+  pub fit-second : SliceFit g i → (x .source ≡ 1 → ⊥) → Fit o2 (p .vc2) v
+  unfolding sliceOutline sliceCount
+  fit-second f h = let k = f .sound .views i (f .here) in rw e (rw (second h) at k)
 
   -- its start point
-  pub start-first : (w : Vertex) (r : Point) → getD at (4 * i) 0 ≡ 1 → w ≡ vertexOf o1 (p .vc1) v 0 → r ≡ posOf w → r ≡ startPoint g i
-  unfolding startPoint sliceVertex sliceOutline sliceCount ofFirst
-  start-first w r h p q = q ∙ ap posOf p ∙ rw (e, eq-eqb (getD at (4 * i) 0) 1 h)
+  pub start-first : (w : Vertex) (r : Point) → x .source ≡ 1 → w ≡ vertexOf o1 (p .vc1) v 0 → r ≡ posOf w → r ≡ startPoint g i
+  unfolding startPoint sliceVertex sliceOutline sliceCount
+  start-first w r h p q = q ∙ ap posOf p ∙ rw (e, first h)
 
-  pub start-second : (w : Vertex) (r : Point) → (getD at (4 * i) 0 ≡ 1 → ⊥) → w ≡ vertexOf o2 (p .vc2) v 0 → r ≡ posOf w → r ≡ startPoint g i
-  unfolding startPoint sliceVertex sliceOutline sliceCount ofFirst
-  start-second w r h p q = q ∙ ap posOf p ∙ rw (e, ne-eqb (getD at (4 * i) 0) 1 h)
+  pub start-second : (w : Vertex) (r : Point) → (x .source ≡ 1 → ⊥) → w ≡ vertexOf o2 (p .vc2) v 0 → r ≡ posOf w → r ≡ startPoint g i
+  unfolding startPoint sliceVertex sliceOutline sliceCount
+  start-second w r h p q = q ∙ ap posOf p ∙ rw (e, second h)
 
   -- its vertices follow
-  pub more-first : (room : List Float) (n : ℕ) → SliceMore g i room n → getD at (4 * i) 0 ≡ 1 → ViewMore room n o1 (p .vc1) v
+  pub more-first : (room : List Float) (n : ℕ) → SliceMore g i room n → x .source ≡ 1 → ViewMore room n o1 (p .vc1) v
   unfolding sliceView
   more-first room n m h = record { view = fit-first (m .slice) h; fits = rw e (m .fits) }
 
-  pub more-second : (room : List Float) (n : ℕ) → SliceMore g i room n → (getD at (4 * i) 0 ≡ 1 → ⊥) → ViewMore room n o2 (p .vc2) v
+  pub more-second : (room : List Float) (n : ℕ) → SliceMore g i room n → (x .source ≡ 1 → ⊥) → ViewMore room n o2 (p .vc2) v
   unfolding sliceView
   more-second room n m h = record { view = fit-second (m .slice) h; fits = rw e (m .fits) }
 
-  pub added-first : (n : ℕ) (room : List Float) (r : ℕ) (room′ : List Float) → getD at (4 * i) 0 ≡ 1
+  pub added-first : (n : ℕ) (room : List Float) (r : ℕ) (room′ : List Float) → x .source ≡ 1
       → Extended (p .t) o1 (p .vc1) v n room r room′ → SliceAdded g i n room r room′
-  unfolding addSlice sliceOutline sliceCount ofFirst
-  added-first n room r room′ h x =
-      let y = rw e at x in
-      record { grown = rw (eq-eqb (getD at (4 * i) 0) 1 h) (unfold sliceView in y .grown); some = x .some }
+  unfolding addSlice sliceOutline sliceCount
+  added-first n room r room′ h a =
+      let y = rw e at a in
+      record { grown = rw (first h) (unfold sliceView in y .grown); some = a .some }
 
-  pub added-second : (n : ℕ) (room : List Float) (r : ℕ) (room′ : List Float) → (getD at (4 * i) 0 ≡ 1 → ⊥)
+  pub added-second : (n : ℕ) (room : List Float) (r : ℕ) (room′ : List Float) → (x .source ≡ 1 → ⊥)
       → Extended (p .t) o2 (p .vc2) v n room r room′ → SliceAdded g i n room r room′
-  unfolding addSlice sliceOutline sliceCount ofFirst
-  added-second n room r room′ h x =
-      let y = rw e at x in
-      record { grown = rw (ne-eqb (getD at (4 * i) 0) 1 h) (unfold sliceView in y .grown); some = x .some }
+  unfolding addSlice sliceOutline sliceCount
+  added-second n room r room′ h a =
+      let y = rw e at a in
+      record { grown = rw (second h) (unfold sliceView in y .grown); some = a .some }
 
-pub ruleset slicing = (view-is, there-of, fit-first, fit-second, start-first, start-second, more-first, more-second, added-first, added-second)
+pub ruleset slicing = (there-of, codes-of, fit-first, fit-second, start-first, start-second, more-first, more-second, added-first, added-second)
 
 -- ---- the table of start points: those below i are written
 

@@ -1,25 +1,28 @@
 -- The need is tight: for every number of slices there is a stitch whose one chain really holds as many vertices as the need says.
 use Prim.Native.Nat.{ℕ, zero, suc, _+_, _*_, _≤_, _<_}
-use mathlib.Core.Bool.{Bool, true, false, cond}
+use mathlib.Core.Bool.{Bool, false}
 use mathlib.Core.Path.{_≡_, refl, sym, ap, _∙_}
 use mathlib.Core.List.{List, [], _∷_, _++_, List·Memᴰ, List·Memᴰ·head, List·Memᴰ·tail}
 use native.Mathlib.Nat.{not-suc-le-zero, le-of-suc-le-suc, mul-suc}
 use native.Mathlib.Omega.{arith}
 use borrow.Author.Tests.{lt-ltb}
-use lib.Dec.{eqb, ltb}
+use lib.Dec.{ltb}
 use lib.ListN.{length, getD, length-append, List·getD-append}
 use lib.Seq.{getD-append-add}
 use lib.Ieee.{Float, nan}
 use Rattle.basis.specs.Number.{+0}
+use Rattle.basis.specs.Refuse.{bySource, countFor}
 use Rattle.outline.specs.declared.point.Vertex.{Vertex}
 use Rattle.outline.specs.Points.{posOf, inBox}
 use Rattle.view.specs.View.{vertexOf}
-use Rattle.view.specs.declared.data.ViewData.{ViewData}
+use Rattle.slice.specs.declared.data.Codes.{Codes}
+use Rattle.slice.specs.declared.data.Shape.{Shape}
+use Rattle.slice.specs.Slice.{codeWidth, shapeWidth, viewOf, codesAt, shapeAt}
 use Rattle.select.specs.declared.best.Selected.the-variants.{Slice, NoSlice}
 use Rattle.select.specs.Select.{classOf, preferenceOf, suitsOf, firstThat, orElse, choose, choicesOf, pickOf, selectOf}
 use Rattle.stitch_vertices.specs.Vertices.{addView, dropLast}
 use Rattle.stitch_run.specs.Run.{Chain}
-use Rattle.stitch_run.specs.Stitch.{Given, given, ofFirst, sliceView, addSlice, offersTo, rulesOf, runOf, sumBelow, weightAt, needFor, needOf}
+use Rattle.stitch_run.specs.Stitch.{Given, given, addSlice, offersTo, rulesOf, runOf, sumBelow, weightAt, needFor, needOf}
 use Rattle.stitch_run.specs.LineLaws.{InLine, whole, whole-built, alone}
 use Rattle.stitch_run.specs.StitchExamples.{n2, n4, t, at, from, slices, needs}
 
@@ -63,18 +66,37 @@ copies-at d l w e (suc n) (suc i) k h j =
     rw q (getD-append-add l (copies l n) (w * i + k) d ∙ copies-at d l w e n i k (le-of-suc-le-suc h) j)
 
 -- the codes of slice i
-pub code-at : (n i k : ℕ) → i < n → k < 4 → getD (copies codes n) (4 * i + k) 0 ≡ getD codes k 0
-code-at n i k h j = copies-at 0 codes 4 refl n i k h j
+abbrev there : Codes
+there = record { source = 1; inverted = 0; start = 0; offset = 1 }
 
-pub code-first : (n i : ℕ) → i < n → getD (copies codes n) (4 * i) 0 ≡ 1
-code-first n i h = let e : 4 * i ≡ 4 * i + 0 = omega arith in rw e (code-at n i 0 h (omega arith))
+pub codes-at : (n i : ℕ) → i < n → codesAt (copies codes n) i ≡ there
+unfolding codesAt
+codes-at n i h =
+    let at : (a k : ℕ) → a ≡ codeWidth * i + k → k < codeWidth → getD (copies codes n) a 0 ≡ getD codes k 0 = λ a k e j. rw e (copies-at 0 codes codeWidth refl n i k h j) in
+    rw (
+      at (codeWidth * i) 0 (omega arith) (omega arith),
+      at (codeWidth * i + 1) 1 refl (omega arith),
+      at (codeWidth * i + 2) 2 refl (omega arith),
+      at (codeWidth * i + 3) 3 refl (omega arith),
+    )
 
--- the numbers of a slice after the first
-number-at : (m i k a : ℕ) → i < m → k < 6 → a ≡ 6 * suc i + k → getD (numbersOf (suc m)) a nan ≡ getD (from n2 +0 n2 +0) k nan
-unfolding numbersOf
-number-at m i k a h j e =
-    let q : a ≡ 6 + (6 * i + k) = omega arith in
-    rw q (getD-append-add (from +0 +0 n2 +0) (copies (from n2 +0 n2 +0) m) (6 * i + k) nan ∙ copies-at nan (from n2 +0 n2 +0) 6 refl m i k h j)
+-- the shape of a slice after the first
+abbrev later : Shape
+later = record { «updated_start» = record { x = n2; y = +0; bulge = +0 }; «end_bulge» = +0; «end_point» = record { x = n2; y = +0 } }
+
+shape-at : (m i : ℕ) → i < m → shapeAt (numbersOf (suc m)) (suc i) ≡ later
+unfolding shapeAt numbersOf
+shape-at m i h =
+    let at : (a k : ℕ) → a ≡ 6 + (6 * i + k) → k < 6 → getD (numbersOf (suc m)) a nan ≡ getD (from n2 +0 n2 +0) k nan =
+    λ a k e j. rw e (getD-append-add (from +0 +0 n2 +0) (copies (from n2 +0 n2 +0) m) (6 * i + k) nan ∙ copies-at nan (from n2 +0 n2 +0) 6 refl m i k h j) in
+    rw (
+      at (shapeWidth * suc i) 0 (omega arith) (omega arith),
+      at (shapeWidth * suc i + 1) 1 (omega arith) (omega arith),
+      at (shapeWidth * suc i + 2) 2 (omega arith) (omega arith),
+      at (shapeWidth * suc i + 3) 3 (omega arith) (omega arith),
+      at (shapeWidth * suc i + 4) 4 (omega arith) (omega arith),
+      at (shapeWidth * suc i + 5) 5 (omega arith) (omega arith),
+    )
 
 -- ---- its vertices
 
@@ -100,56 +122,30 @@ unfolding back
 back-length zero = refl
 back-length (suc i) = omega (arith, back-length i)
 
--- the view of a slice after the first
-abbrev later : ViewData
-later =
-    record {
-      «start_index» = 0;
-      «end_index_offset» = 1;
-      «updated_start» = atTwo;
-      «updated_end_bulge» = +0;
-      «end_point» = record { x = n2; y = +0 };
-      «inverted_direction» = false;
-    }
-
 module _ (m : ℕ) where
   abbrev g : Given
   g = toAndFro (suc m)
-
-  view-later : (i : ℕ) → i < m → sliceView (g .sliceAt) (g .slice) (suc i) ≡ later
-  unfolding slices
-  view-later i h =
-      rw (
-        code-at (suc m) (suc i) 1 (omega arith) (omega arith),
-        code-at (suc m) (suc i) 2 (omega arith) (omega arith),
-        code-at (suc m) (suc i) 3 (omega arith) (omega arith),
-        number-at m i 0 (3 * (2 * suc i)) h (omega arith) (omega arith),
-        number-at m i 1 (3 * (2 * suc i) + 1) h (omega arith) (omega arith),
-        number-at m i 2 (3 * (2 * suc i) + 2) h (omega arith) (omega arith),
-        number-at m i 3 (6 * suc i + 3) h (omega arith) refl,
-        number-at m i 4 (6 * suc i + 4) h (omega arith) refl,
-        number-at m i 5 (6 * suc i + 5) h (omega arith) refl,
-      )
 
   begins : addSlice g 0 [] ≡ build 0
   unfolding slices copies numbersOf back
   begins = refl
 
-  -- of a slice after the first everything is known: which outline it is of, and its view
-  known : {X : Type 0} (f : Bool → ViewData → X) (i : ℕ) → i < m → f (ofFirst (g .sliceAt) (suc i)) (sliceView (g .sliceAt) (g .slice) (suc i)) ≡ f true later
-  unfolding ofFirst
-  known f i h = ap (λ (k : ℕ). f (eqb k 1) (sliceView (g .sliceAt) (g .slice) (suc i))) (code-first (suc m) (suc i) (omega arith)) ∙ ap (f true) (view-later i h)
+  -- of a slice after the first everything is known
+  known : {X : Type 0} (f : Codes → Shape → X) (i : ℕ) → i < m → f (codesAt (g .sliceAt) (suc i)) (shapeAt (g .slice) (suc i)) ≡ f there later
+  known f i h = ap (λ (c : Codes). f c (shapeAt (g .slice) (suc i))) (codes-at (suc m) (suc i) (omega arith)) ∙ ap (f there) (shape-at m i h)
 
+  -- its vertices, in a chain that drops its last
   joins : (i : ℕ) → i < m → addSlice g (suc i) (atFour ∷ back i) ≡ build (suc i)
   unfolding slices back
-  joins i h = known (λ first v. addView t (cond first (g .outline1) (g .outline2)) (cond first 2 2) v (atFour ∷ back i)) i h
+  joins i h = known (λ c s. addView t (bySource (g .outline1) (g .outline2) (c .source)) (countFor 2 2 (c .source)) (viewOf c s) (atFour ∷ back i)) i h
 
   -- every slice but the first begins where the chain ends
   offers : (i j : ℕ) → j < suc m → offersTo g (build i) j ≡ ltb 0 j
   unfolding slices copies numbersOf
   offers i zero h = refl
   offers i (suc j) h =
-      known (λ first v. inBox t (posOf atTwo) (posOf (vertexOf (cond first (g .outline1) (g .outline2)) (cond first 2 2) v 0))) j (le-of-suc-le-suc h) ∙ sym (lt-ltb 0 (suc j) (omega arith))
+      known (λ c s. inBox t (posOf atTwo) (posOf (vertexOf (bySource (g .outline1) (g .outline2) (c .source)) (countFor 2 2 (c .source)) (viewOf c s) 0))) j (le-of-suc-le-suc h)
+      ∙ sym (lt-ltb 0 (suc j) (omega arith))
 
   -- all are of outline 1, so OrAnd selects the lowest
   class-one : (k : ℕ) → k < suc m → classOf (g .starts) k ≡ 0
@@ -177,7 +173,7 @@ module _ (m : ℕ) where
   sum-twos : (i : ℕ) → i ≤ suc m → sumBelow (weightAt (g .sliceAt)) i ≡ 2 * i
   unfolding needs
   sum-twos zero h = refl
-  sum-twos (suc i) h = omega (arith, sum-twos i (omega arith), code-at (suc m) i 3 h (omega arith))
+  sum-twos (suc i) h = omega (arith, sum-twos i (omega arith), ap (λ (c : Codes). c .offset) (codes-at (suc m) i h))
 
 -- ---- the theorem
 

@@ -1,5 +1,5 @@
 -- Document 01, "Stitching": the rules over the lists of a call, and what is reported.
-use Prim.Native.Nat.{ℕ, zero, suc, _+_, _*_}
+use Prim.Native.Nat.{ℕ, zero, suc, _+_}
 use mathlib.Core.Bool.{Bool, true, false, cond, _||_}
 use mathlib.Core.List.{List, [], _∷_, map, flatMap, reverse}
 use lib.Dec.{eqb, ltb}
@@ -9,9 +9,9 @@ use Rattle.basis.specs.declared.number.Tolerance.{Tolerance}
 use Rattle.outline.specs.declared.point.Point.{Point}
 use Rattle.outline.specs.declared.point.Vertex.{Vertex}
 use Rattle.outline.specs.Points.{posOf, vertexNumbers, inBox}
-use Rattle.outline.specs.Outline.{vertexAt}
-use Rattle.view.specs.declared.data.ViewData.{ViewData}
+use Rattle.basis.specs.Refuse.{bySource, countFor}
 use Rattle.view.specs.View.{vertexOf}
+use Rattle.slice.specs.Slice.{codesAt, sliceView, sliceOffset}
 use Rattle.select.specs.declared.class.Starts.{Starts}
 use Rattle.select.specs.Select.{selectOf}
 use Rattle.stitch_vertices.specs.Vertices.{addView, dropLast}
@@ -47,38 +47,15 @@ given o1 vc1 o2 vc2 at numbers n starts selector t =
       tolerance = t;
     }
 
--- ---- a slice: source, inverted, start, offset; updated start x, y, bulge, end bulge, end x, y
-
--- it is of outline 1
-unfoldable pub ofFirst : List ℕ → ℕ → Bool
-ofFirst at i = eqb (getD at (4 * i) 0) 1
-
--- its offset
-unfoldable pub sliceOffset : List ℕ → ℕ → ℕ
-sliceOffset at i = getD at (4 * i + 3) 0
-
--- its view's end point
-unfoldable pub sliceEnd : List Float → ℕ → Point
-sliceEnd numbers i = record { x = getD numbers (6 * i + 4) nan; y = getD numbers (6 * i + 5) nan }
-
-unfoldable pub sliceView : List ℕ → List Float → ℕ → ViewData
-sliceView at numbers i =
-    record {
-      «start_index» = getD at (4 * i + 2) 0;
-      «end_index_offset» = sliceOffset at i;
-      «updated_start» = vertexAt numbers (2 * i);
-      «updated_end_bulge» = getD numbers (6 * i + 3) nan;
-      «end_point» = sliceEnd numbers i;
-      «inverted_direction» = eqb (getD at (4 * i + 1) 0) 1;
-    }
+-- ---- a slice
 
 module _ (g : Given) where
   -- the outline that slice i is of, and its vertex count
   unfoldable pub sliceOutline : ℕ → List Float
-  sliceOutline i = cond (ofFirst (g .sliceAt) i) (g .outline1) (g .outline2)
+  sliceOutline i = bySource (g .outline1) (g .outline2) (codesAt (g .sliceAt) i .source)
 
   unfoldable pub sliceCount : ℕ → ℕ
-  sliceCount i = cond (ofFirst (g .sliceAt) i) (g .vc1) (g .vc2)
+  sliceCount i = countFor (g .vc1) (g .vc2) (codesAt (g .sliceAt) i .source)
 
   -- vertex k of slice i's view
   unfoldable pub sliceVertex : ℕ → ℕ → Vertex

@@ -14,7 +14,8 @@ use Rattle.select.specs.Select.{classOf, preferenceOf, suitsOf, firstThat, orEl
 use Rattle.stitch_vertices.specs.Vertices.{addVertex, addFirst, addView, dropLast}
 use Rattle.stitch_run.specs.Run.{passing, free, candidate, candidatesOf, taken, answered, asked, nextOf, roundOf, opened, onward, ended}
 use Rattle.stitch_run.specs.Run.{stopped, walk, chainFrom, added, begun, turn, turns, run, slicesOf, roundsOf, orderOf}
-use Rattle.stitch_run.specs.Stitch.{Given, given, ofFirst, sliceOffset, sliceEnd, sliceView, sliceOutline, sliceCount, sliceVertex, startPoint, addSlice}
+use Rattle.stitch_run.specs.Stitch.{Given, given, sliceOutline, sliceCount, sliceVertex, startPoint, addSlice}
+use Rattle.slice.specs.Slice.{codesAt, shapeAt, sliceView}
 use Rattle.stitch_run.specs.Stitch.{offersTo, rulesOf, runOf, loopOf, loopsOf, howOf, totals, roundCount, loopCount, chainCount, roomItems}
 use Rattle.stitch_run.specs.Stitch.{endItems, chainItems, chainEndItems, howItems, isSpent, anySpent, roundsFault, sumBelow, weightAt, needFor, needOf}
 
@@ -29,7 +30,7 @@ unfolding numbers vertexAt wrap outlineAt forwardAt turnedAt invertedAt vertexOf
 views = tt
 
 unfoldable pub slices : Unit {0}
-unfolding views ofFirst sliceOffset sliceEnd sliceView sliceOutline sliceCount sliceVertex startPoint addSlice offersTo
+unfolding views codesAt shapeAt sliceView sliceOutline sliceCount sliceVertex startPoint addSlice offersTo
 slices = tt
 
 selectors : Unit {0}
@@ -49,7 +50,7 @@ unfolding runs flatMap slicesOf roundsOf orderOf loopOf loopsOf howOf totals rou
 tells = tt
 
 unfoldable pub needs : Unit {0}
-unfolding sliceOffset sumBelow weightAt needFor needOf
+unfolding codesAt sumBelow weightAt needFor needOf
 needs = tt
 
 -- ---- the sheet: A is (0,0) (4,0) (4,4) (0,4); B is (2,2) (6,2) (6,6) (2,6); bulges 0, t = 1/1024

@@ -1,19 +1,13 @@
 use Rattle.stitch_round.specs.ScanLaws.{slicing}
 use borrow.Author.Needs.{needs}
-use Rattle.stitch_round.proofs.slice.add_slice.Statement.{statement}
-use Rattle.stitch_round.proofs.slice.add_slice.Tie as tie
+use Rattle.stitch_round.proofs.slices.add_slice.Statement.{statement}
+use Rattle.stitch_round.proofs.slices.add_slice.Tie as tie
 
 view-at-requires : tie.Need-view-at-requires
-view-at-requires c κs = search (needs, slicing)
+view-at-requires c κs = search needs
 
-mul-a : tie.Need-mul-a
-mul-a c = search needs
-
-mul-if1 : tie.Need-mul-if1
-mul-if1 c = search needs
-
-shared-slice-read-if1 : tie.Need-shared-slice-read-if1
-shared-slice-read-if1 c = search needs
+codes-at-requires : tie.Need-codes-at-requires
+codes-at-requires c κs = search needs
 
 extend-remove-repeat-requires : tie.Need-extend-remove-repeat-requires
 extend-remove-repeat-requires c κs = search (needs, slicing)
@@ -38,9 +32,7 @@ add-slice-spec =
     tie.close
     (tie.spec
     view-at-requires
-    mul-a
-    mul-if1
-    shared-slice-read-if1
+    codes-at-requires
     extend-remove-repeat-requires
     same-length
     returns

@@ -1,34 +1,13 @@
-// The slices: their views, their start points, their vertices in a chain.
+// The slices: their start points, their vertices in a chain.
 ghost use mathlib.Core.Path.{_≡_};
-ghost use Rattle.stitch_run.specs.Stitch.{sliceView, startPoint};
-ghost use Rattle.stitch_round.specs.Ready.{planned, SliceThere, SliceFit, SliceMore, SliceAdded, PointsFit, Points};
+ghost use Rattle.stitch_run.specs.Stitch.{startPoint};
+ghost use Rattle.stitch_round.specs.Ready.{planned, SliceFit, SliceMore, SliceAdded, PointsFit, Points};
 use crate::plan::Plan;
 use outline::point;
 use outline::point::Point;
-use outline::read;
+use slice::read;
 use stitch_vertices::grow;
-use view::data::ViewData;
 use view::vertex;
-
-// The view of slice number i.
-fn view_at(slice_at: &[usize], slice: &[f64], i: usize) -> ViewData
-    requires { ⌜ SliceThere (now «slice_at») (now slice) i ⌝ }
-    ensures { λ r. ⌜ r ≡ sliceView (now («slice_at» .entry)) (now (slice .entry)) i ⌝ }
-{
-    let a = 4 * i;
-    let b = 6 * i;
-    ViewData {
-        start_index: slice_at[a + 2],
-        end_index_offset: slice_at[a + 3],
-        updated_start: read::vertex_at(slice, 2 * i),
-        updated_end_bulge: slice[b + 3],
-        end_point: Point {
-            x: slice[b + 4],
-            y: slice[b + 5],
-        },
-        inverted_direction: slice_at[a + 1] == 1,
-    }
-}
 
 // The start point of slice number i.
 fn start_point(
@@ -42,9 +21,8 @@ fn start_point(
     requires { ⌜ SliceFit (planned (now outline1) (now outline2) (now «slice_at») (now slice) p) i ⌝ }
     ensures { λ r. ⌜ r ≡ startPoint (planned (now (outline1 .entry)) (now (outline2 .entry)) (now («slice_at» .entry)) (now (slice .entry)) p) i ⌝ }
 {
-    let v = view_at(slice_at, slice, i);
-    let a = 4 * i;
-    if slice_at[a] == 1 {
+    let v = read::view_at(slice_at, slice, i);
+    if read::codes_at(slice_at, i).source == 1 {
         return point::pos(vertex::vertex_of(outline1, p.vc1, v, 0));
     }
     point::pos(vertex::vertex_of(outline2, p.vc2, v, 0))
@@ -64,9 +42,8 @@ pub fn add_slice(
     requires { ⌜ SliceMore (planned (now outline1) (now outline2) (now «slice_at») (now slice) p) i (now room) n ⌝ }
     ensures { λ r. ⌜ SliceAdded (planned (now (outline1 .entry)) (now (outline2 .entry)) (now («slice_at» .entry)) (now (slice .entry)) p) i n (now (room .entry)) r (now (room .exit)) ⌝ }
 {
-    let v = view_at(slice_at, slice, i);
-    let a = 4 * i;
-    if slice_at[a] == 1 {
+    let v = read::view_at(slice_at, slice, i);
+    if read::codes_at(slice_at, i).source == 1 {
         return grow::extend_remove_repeat(room, n, outline1, p.vc1, v, p.t);
     }
     grow::extend_remove_repeat(room, n, outline2, p.vc2, v, p.t)

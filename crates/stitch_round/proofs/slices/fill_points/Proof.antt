@@ -4,8 +4,8 @@ use native.Mathlib.Omega.{arith}
 use lib.ListN.{length, length-set}
 use Rattle.stitch_round.specs.Ready.{planned}
 use Rattle.stitch_round.specs.ScanLaws.{Pointing, pointing}
-use Rattle.stitch_round.proofs.slice.fill_points.Statement.{statement}
-use Rattle.stitch_round.proofs.slice.fill_points.Tie as tie
+use Rattle.stitch_round.proofs.slices.fill_points.Statement.{statement}
+use Rattle.stitch_round.proofs.slices.fill_points.Tie as tie
 
 abbrev Inv-loop : tie.InvT-loop
 Inv-loop points₀ outline1 outline2 slice-at slice p i₀ points i = Pointing (planned outline1 outline2 slice-at slice p) (length points₀) points i
