@@ -43,22 +43,55 @@ module _ (n : ℕ) (few : n ≤ mostSlices) where
   pub tight-shape : firstOf (shapeRows (toAndFro n)) ≡ 0
   unfolding lengthFault sizeFault sourceFault sourceKnown startsFault tolerable allOf within absF ofBits lt le
   tight-shape =
-      none-clear (shapeRows (toAndFro n))
-      (refl,
-      (refl,
-      (ok-length codeWidth _ n codes-whole,
-      (ok-length shapeWidth _ n (numbers-length n),
-      (le-ltb mostSlices n few,
-      (refl,
-      (refl,
-      (refl,
-      (ap not (at-slice (copies codes n) n codes-whole sourceKnown (λ i h. rw (codes-at n i h))),
-      (ap not (at-turned (copies codes n) n codes-whole (λ i h. rw (codes-at n i h) (omega arith))),
-      (refl,
-      (refl,
-      (refl,
-      (ap not (numbers-within n),
-      (ap not (at-start (copies codes n) n codes-whole 2 2 (λ i h. rw (codes-at n i h) (omega arith))),
-      (ap not (at-offset (copies codes n) n codes-whole 2 2 (λ i h. rw (codes-at n i h) (omega arith))),
-      (rw (le-ltb n n (omega arith)),
-      tt)))))))))))))))))
+      none-clear (shapeRows (toAndFro n)) (
+        refl,
+        (
+          refl,
+          (
+            ok-length codeWidth _ n codes-whole,
+            (
+              ok-length shapeWidth _ n (numbers-length n),
+              (
+                le-ltb mostSlices n few,
+                (
+                  refl,
+                  (
+                    refl,
+                    (
+                      refl,
+                      (
+                        ap not (at-slice (copies codes n) n codes-whole sourceKnown (λ i h. rw (codes-at n i h))),
+                        (
+                          ap not (at-turned (copies codes n) n codes-whole (λ i h. rw (codes-at n i h) (omega arith))),
+                          (
+                            refl,
+                            (
+                              refl,
+                              (
+                                refl,
+                                (
+                                  ap not (numbers-within n),
+                                  (
+                                    ap not (at-start (copies codes n) n codes-whole 2 2 (λ i h. rw (codes-at n i h) (omega arith))),
+                                    (
+                                      ap not (at-offset (copies codes n) n codes-whole 2 2 (λ i h. rw (codes-at n i h) (omega arith))),
+                                      (
+                                        rw (le-ltb n n (omega arith)),
+                                        tt,
+                                      ),
+                                    ),
+                                  ),
+                                ),
+                              ),
+                            ),
+                          ),
+                        ),
+                      ),
+                    ),
+                  ),
+                ),
+              ),
+            ),
+          ),
+        ),
+      )
