@@ -1,8 +1,8 @@
 use mathlib.Core.Path.{refl}
-use Rattle.prune.specs.Prune.{candHead}
+use Rattle.prune.specs.Prune.{candCodes}
 use borrow.Author.Needs.{needs}
-use Rattle.prune.proofs.put.cand_head.Statement.{statement}
-use Rattle.prune.proofs.put.cand_head.Tie as tie
+use Rattle.prune.proofs.codes.cand_codes.Statement.{statement}
+use Rattle.prune.proofs.codes.cand_codes.Tie as tie
 
 mul-t4 : tie.Need-mul-t4
 mul-t4 c = search needs
@@ -26,11 +26,11 @@ shared-slice-read-t12 : tie.Need-shared-slice-read-t12
 shared-slice-read-t12 c = search needs
 
 returns : tie.Need-returns
-unfolding candHead
+unfolding candCodes
 returns c = refl
 
-pub cand-head-spec : {M : Type 1} → statement M
-cand-head-spec =
+pub cand-codes-spec : {M : Type 1} → statement M
+cand-codes-spec =
     tie.close
     (tie.spec
     mul-t4

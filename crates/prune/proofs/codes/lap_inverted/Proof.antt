@@ -1,8 +1,8 @@
 use Rattle.basis.specs.Choice.{cases}
 use Rattle.prune.specs.Prune.{lapInverted}
 use borrow.Author.Needs.{needs}
-use Rattle.prune.proofs.put.lap_inverted.Statement.{statement}
-use Rattle.prune.proofs.put.lap_inverted.Tie as tie
+use Rattle.prune.proofs.codes.lap_inverted.Statement.{statement}
+use Rattle.prune.proofs.codes.lap_inverted.Tie as tie
 
 mul-result : tie.Need-mul-result
 mul-result c = search needs

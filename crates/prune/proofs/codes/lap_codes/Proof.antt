@@ -1,7 +1,7 @@
-use Rattle.prune.specs.Prune.{lapHead}
+use Rattle.prune.specs.Prune.{lapCodes}
 use borrow.Author.Needs.{needs}
-use Rattle.prune.proofs.put.lap_head.Statement.{statement}
-use Rattle.prune.proofs.put.lap_head.Tie as tie
+use Rattle.prune.proofs.codes.lap_codes.Statement.{statement}
+use Rattle.prune.proofs.codes.lap_codes.Tie as tie
 
 lap-inverted-requires : tie.Need-lap-inverted-requires
 lap-inverted-requires c κs = search needs
@@ -31,11 +31,11 @@ shared-slice-read-t14 : tie.Need-shared-slice-read-t14
 shared-slice-read-t14 c = search needs
 
 returns : tie.Need-returns
-unfolding lapHead
+unfolding lapCodes
 returns c = cc
 
-pub lap-head-spec : {M : Type 1} → statement M
-lap-head-spec =
+pub lap-codes-spec : {M : Type 1} → statement M
+lap-codes-spec =
     tie.close
     (tie.spec
     lap-inverted-requires

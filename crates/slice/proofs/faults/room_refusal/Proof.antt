@@ -1,17 +1,17 @@
 use Rattle.basis.specs.Refuse.{firstFrom}
 use Rattle.basis.specs.RefuseLaws.{rows}
 use borrow.Author.Needs.{needs}
-use Rattle.prune_entries.proofs.faults.room_refusal.Statement.{statement}
-use Rattle.prune_entries.proofs.faults.room_refusal.Tie as tie
+use Rattle.slice.proofs.faults.room_refusal.Statement.{statement}
+use Rattle.slice.proofs.faults.room_refusal.Tie as tie
 
-bad-room-requires : tie.Need-bad-room-requires
-bad-room-requires c κs = search needs
+mul-or-else : tie.Need-mul-or-else
+mul-or-else c = search needs
 
 or-else-requires : tie.Need-or-else-requires
 or-else-requires c κs = search needs
 
-bad-room-requires-2 : tie.Need-bad-room-requires-2
-bad-room-requires-2 c κs = search needs
+mul-or-else-2 : tie.Need-mul-or-else-2
+mul-or-else-2 c = search needs
 
 or-else-requires-2 : tie.Need-or-else-requires-2
 or-else-requires-2 c κs = search needs
@@ -22,5 +22,4 @@ returns c = search rows depth 24
 
 pub room-refusal-spec : {M : Type 1} → statement M
 room-refusal-spec =
-    tie.close
-    (tie.spec bad-room-requires or-else-requires bad-room-requires-2 or-else-requires-2 returns)
+    tie.close (tie.spec mul-or-else or-else-requires mul-or-else-2 or-else-requires-2 returns)
