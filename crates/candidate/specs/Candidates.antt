@@ -14,6 +14,7 @@ use Rattle.view.specs.declared.create.OneSegment.{OneSegment}
 use Rattle.view.specs.declared.create.OneSegment.the-variants as one
 use Rattle.view.specs.View.{viewNumbers}
 use Rattle.view.specs.Create.{createView, singleView}
+use Rattle.cut.specs.declared.arrival.Case.{Case}
 use Rattle.candidate.specs.declared.at_cut.Candidate.{Candidate}
 use Rattle.candidate.specs.declared.at_cut.Candidate.the-variants.{Nothing, Slice}
 
@@ -27,9 +28,10 @@ pub record Given : Type 0 where
   pub splits : List Float
   pub tolerance : Tolerance
 
-abbrev pub given : List Float → ℕ → List ℕ → List Float → ℕ → List Float → Tolerance → Given
-given outline vc cutAt cut count splits t =
-    record { outline = outline; vc = vc; cutAt = cutAt; cut = cut; count = count; splits = splits; tolerance = t }
+-- the lists, with what stands beside them: one cut of each intersection, two of each overlap
+abbrev pub given : List Float → List ℕ → List Float → List Float → Case → Given
+given outline cutAt cut splits s =
+    record { outline = outline; vc = s .vc; cutAt = cutAt; cut = cut; count = s .hits + 2 * s .laps; splits = splits; tolerance = s .tolerance }
 
 -- ---- a cut, by its place in the order
 

@@ -21,8 +21,8 @@ use Rattle.candidate.specs.declared.at_cut.Candidate.{Candidate}
 use Rattle.candidate.specs.declared.at_cut.Candidate.the-variants.{Nothing, Slice}
 use Rattle.candidate.specs.Candidates.{Given, segmentAt, markedAt, sameNext, firstFrom, firstCut, hasCut, traverseFrom, traverseOf, sliceOf, pieceOf, walkOf, walked, walkAt, candidateAt, kept, candidatesTo, candidatesOf, candCount, numbersOf, candNumbers, walkLost, lostTo, anyWalkLost}
 use Rattle.candidate.specs.Ready.{Sound}
-use Rattle.candidate.specs.TableLaws.{segment-first, traverse-hit, traverse-miss, not-yet, first-here, first-later}
-use Rattle.candidate.specs.CandidateLaws.{apart, piece-once}
+use Rattle.candidate.specs.SearchLaws.{segment-first, traverse-hit, traverse-miss, not-yet, first-here, first-later}
+use Rattle.candidate.specs.PieceLaws.{apart, piece-once}
 use Rattle.candidate_write.specs.ItemLaws.{kept-few}
 
 -- ---- the search
@@ -170,18 +170,14 @@ offsets-most g sound k h = numbers-fit (g .vc) (candidatesOf g) (candidates-fit 
 
 -- ---- the order of places is that of segments
 
--- cuts go by segment
-pub record Ascending (g : Given) : Type 0 where
-  pub ascends : (p q : ℕ) → p ≤ q → q < g .count → segmentAt (g .cutAt) p ≤ segmentAt (g .cutAt) q
-
--- so a cut whose next is on another segment is its segment's last: the walk begins there
-pub last-of-segment : (g : Given) → Ascending g → (p : ℕ) → sameNext (g .cutAt) (g .count) p ≡ false
+-- cuts go by segment, so a cut whose next is on another segment is its segment's last: the walk begins there
+pub last-of-segment : (g : Given) → Sound g → (p : ℕ) → sameNext (g .cutAt) (g .count) p ≡ false
     → (q : ℕ) → p < q → q < g .count → segmentAt (g .cutAt) q ≡ segmentAt (g .cutAt) p → ⊥
 unfolding sameNext
 last-of-segment g a p e q h k same =
     let n : p + 1 < g .count = omega arith in
     let x : segmentAt (g .cutAt) (p + 1) ≡ segmentAt (g .cutAt) p =
-    omega (arith, a .ascends p (p + 1) (omega arith) n, a .ascends (p + 1) q (omega arith) k) in
+    omega (arith, a .ascend p (p + 1) (omega arith) n, a .ascend (p + 1) q (omega arith) k) in
     true≢false (sym (rw (lt-ltb (p + 1) (g .count) n, eq-eqb (segmentAt (g .cutAt) (p + 1)) (segmentAt (g .cutAt) p) x)) ∙ e)
 
 first-none : (cutAt : List ℕ) (i p : ℕ) → firstFrom 0 cutAt i p < p + 0 → ⊥

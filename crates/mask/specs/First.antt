@@ -18,8 +18,10 @@ use Rattle.view_entries.specs.SingleEntry.{singleRows, singleRefusal}
 use Rattle.view_entries.specs.EntireEntry.{entireRows, entireRefusal}
 use Rattle.verdict_entries.specs.ValidateEntry.{validateRows, validateRefusal}
 use Rattle.cut.specs.Cuts as cuts
-use Rattle.cut_entries.specs.CutOrder.{cutOrderRows, cutOrderRefusal}
-use Rattle.candidate_entries.specs.Candidates.{candOpenRows, guardRows, candidatesRefusal}
+use Rattle.cut_entries.specs.CutRows.{listRows, valueRows, indexRows}
+use Rattle.cut_entries.specs.CutOrder.{cutInputRows, cutOrderRows, cutOrderRefusal}
+use Rattle.candidate_entries.specs.declared.slicing.Lengths as candidate
+use Rattle.candidate_entries.specs.Candidates.{laterRows, candidatesRows, candidatesRefusal}
 use Rattle.prune.specs.Prune as Prune
 use Rattle.prune_entries.specs.PruneEntry.{inputRows, lentRows, pruneRefusal}
 use Rattle.stitch_run.specs.Stitch as stitch
@@ -51,14 +53,13 @@ pub validate-first : (o : List Float) (vc : ℕ) (v : View) (startOn endOn : ℕ
 unfolding validateRefusal before refusalOrder
 validate-first o vc v startOn endOn = first-of (validateRows o vc v startOn endOn) tt
 
-pub order-first : (g : cuts.Given) (source numbers points : ℕ) → First (cutOrderRows g source numbers points) (cutOrderRefusal g source numbers points)
-unfolding cutOrderRefusal before refusalOrder
-order-first g source numbers points = first-of (cutOrderRows g source numbers points) tt
+pub order-first : (g : cuts.Given) (numbers points : ℕ) → First (cutOrderRows g numbers points) (cutOrderRefusal g numbers points)
+unfolding cutOrderRefusal cutInputRows listRows valueRows indexRows before refusalOrder
+order-first g numbers points = first-of (cutOrderRows g numbers points) tt
 
-pub candidates-first : (g : cuts.Given) (source : ℕ) (splits : List Float) (at cand probe : ℕ)
-    → First (candOpenRows g source splits at cand probe ++ guardRows g splits) (candidatesRefusal g source splits at cand probe)
-unfolding candidatesRefusal before refusalOrder
-candidates-first g source splits at cand probe = first-of (candOpenRows g source splits at cand probe ++ guardRows g splits) tt
+pub candidates-first : (g : cuts.Given) (splits : List Float) (lent : candidate.Lengths) → First (candidatesRows g splits lent) (candidatesRefusal g splits lent)
+unfolding candidatesRefusal listRows laterRows valueRows indexRows before refusalOrder
+candidates-first g splits lent = first-of (candidatesRows g splits lent) tt
 
 pub prune-first : (g : Prune.Given) (at slice : ℕ) → First (inputRows g ++ lentRows g at slice) (pruneRefusal g at slice)
 unfolding pruneRefusal inputRows before refusalOrder

@@ -55,14 +55,14 @@ entire-one o vc closed r s e f = one-answer r s (entireAnswer o vc closed) e f
 pub validate-one : (o : List Float) (vc : ℕ) (v : View) (startOn endOn : ℕ) (r s : VerdictAnswer) → r ≡ validateAnswer o vc v startOn endOn → s ≡ validateAnswer o vc v startOn endOn → r ≡ s
 validate-one o vc v startOn endOn r s e f = one-answer r s (validateAnswer o vc v startOn endOn) e f
 
-pub order-one : (g : cuts.Given) (source : ℕ) (cutAt : List ℕ) (cut : List Float) (r s : CountAnswer) (a b : List ℕ) (p q : List Float)
-    → CutOrdered g source cutAt cut r a p → CutOrdered g source cutAt cut s b q → (r ≡ s) × (a ≡ b) × (p ≡ q)
-order-one g source cutAt cut r s a b p q x y =
+pub order-one : (g : cuts.Given) (cutAt : List ℕ) (cut : List Float) (r s : CountAnswer) (a b : List ℕ) (p q : List Float)
+    → CutOrdered g cutAt cut r a p → CutOrdered g cutAt cut s b q → (r ≡ s) × (a ≡ b) × (p ≡ q)
+order-one g cutAt cut r s a b p q x y =
     (one-answer r s _ (x .answers) (y .answers), one-answer a b _ (x .numbers) (y .numbers), one-answer p q _ (x .points) (y .points))
 
-pub candidates-one : (g : cuts.Given) (source : ℕ) (splits : List Float) (l : slices.Rooms) (r s : CountAnswer) (a b : slices.Rooms)
-    → Sliced g source splits l r a → Sliced g source splits l s b → (r ≡ s) × (a .at ≡ b .at) × (a .cand ≡ b .cand) × (a .probe ≡ b .probe)
-candidates-one g source splits l r s a b x y =
+pub candidates-one : (g : cuts.Given) (splits : List Float) (l : slices.Rooms) (r s : CountAnswer) (a b : slices.Rooms)
+    → Sliced g splits l r a → Sliced g splits l s b → (r ≡ s) × (a .at ≡ b .at) × (a .cand ≡ b .cand) × (a .probe ≡ b .probe)
+candidates-one g splits l r s a b x y =
     (one-answer r s _ (x .answers) (y .answers), one-answer (a .at) (b .at) _ (x .at) (y .at), one-answer (a .cand) (b .cand) _ (x .cand) (y .cand), one-answer (a .probe) (b .probe) _ (x .probe) (y .probe))
 
 pub prune-one : (c : Given) (l : slice.Rooms) (r s : PruneAnswer) (a b : slice.Rooms)
