@@ -9,6 +9,7 @@ use lib.Dec.{eqb}
 use lib.ListN.{length, getD, set, take, drop, length-append, length-drop, length-map, length-reverse}
 use lib.Seq.{take-add, drop-drop, length-take-le}
 use lib.Ieee.{Float}
+use Rattle.basis.specs.Sizes.{mostVertices}
 use Rattle.outline.specs.declared.point.Vertex.{Vertex}
 use Rattle.outline.specs.Points.{vertexNumbers}
 use Rattle.stitch_vertices.specs.Vertices.{dropLast}
@@ -38,8 +39,8 @@ unfolding needOf needFor
 need-some at zero i h = absurd (omega arith)
 need-some at (suc n) i h = refl
 
--- each weight is at most 1025
-pub sum-most : (g : Given) → Sound g → (n : ℕ) → n ≤ g .slices → sumBelow (weightAt (g .sliceAt)) n ≤ 1025 * n
+-- each weight is at most that of the greatest offset
+pub sum-most : (g : Given) → Sound g → (n : ℕ) → n ≤ g .slices → sumBelow (weightAt (g .sliceAt)) n ≤ (mostVertices + 1) * n
 unfolding sumBelow weightAt sliceView
 sum-most g s zero h = omega arith
 sum-most g s (suc n) h = let v = s .views n (omega arith) in omega (arith, sum-most g s n (omega arith), v .reaches, v .whole .most)

@@ -1,21 +1,21 @@
 -- What the entry `mask_stitch` is proved by: acceptance, the dead guard, and the two ways out.
-use Prim.Native.Nat.{ℕ, zero, suc, _*_, _≤_, _<_}
+use Prim.Native.Nat.{ℕ, zero, suc, _*_, _/_, _≤_, _<_}
 use mathlib.Core.Bool.{Bool, true, false, cond}
-use mathlib.Core.Path.{_≡_, refl, sym, ap, subst, _∙_}
+use mathlib.Core.Path.{_≡_, refl, sym, subst, _∙_}
 use mathlib.Core.List.{List, _++_}
 use native.Mathlib.Nat.{le-of-eq, le-trans}
 use native.Mathlib.Omega.{arith}
 use lib.ListN.{length}
-use lib.Dec.{eqb}
+use lib.Dec.{eqb, ltb}
 use lib.Ieee.{Float}
-use borrow.Author.Tests.{ltb-false, not-false}
-use Rattle.basis.specs.declared.number.Tolerance.{Tolerance}
+use borrow.Author.Tests.{ltb-true, ltb-false, lt-ltb, le-ltb, not-false}
+use Rattle.basis.specs.Choice.{by-test}
 use Rattle.basis.specs.Sizes.{mostSlices}
 use Rattle.basis.specs.Refuse.{Row, firstFrom, orElse, countFor}
 use Rattle.basis.specs.RefuseLaws.{Clear, clear, clear-left, clear-right, first-from, found-stays, then-rows, length-ok, size-ok, choice-ok, answer-no, answer-yes}
 use Rattle.outline.specs.Outline.{Whole}
 use Rattle.view.specs.View.{Fit}
-use Rattle.select.specs.declared.class.Starts.{Starts}
+use Rattle.stitch_run.specs.declared.plan.Plan.{Plan}
 use Rattle.stitch_run.specs.Stitch.{Given, given, sliceOutline, sliceCount, roundCount, loopCount, chainCount}
 use Rattle.slice.specs.Slice.{codeWidth, shapeWidth, codesAt, sliceView, sliceOffset}
 use Rattle.slice.specs.SliceLaws.{start-at, offset-at}
@@ -24,25 +24,13 @@ use Rattle.stitch_round.specs.Ready.{Sound}
 use Rattle.stitch.specs.Lent.{Lists, NeedFit, StitchFit, Written}
 use Rattle.stitch.specs.declared.write.Stitched.{Stitched}
 use Rattle.stitch_entries.specs.declared.answer.StitchAnswer.{StitchAnswer}
+use Rattle.stitch_entries.specs.declared.faults.Lengths.{Lengths}
 use Rattle.stitch_entries.specs.Answers.{stitchRefused, stitchGiven}
-use Rattle.stitch_entries.specs.StitchRows.{listRows, codeRows, numberRows, indexRows, roomRows}
-use Rattle.stitch_entries.specs.StitchEntry.{shapeRows, guardRows, stitchRefusal, stitchNumber, StitchLeft}
+use Rattle.stitch_entries.specs.StitchEntry.{listsOf, codesOf, numbersOf, indexesOf, shapeRows, roomsOf, guardRows, stitchRefusal, lengthsOf, stitchNumber, StitchLeft}
 
 module _ (g : Given) where
-  abbrev lists : List Row
-  lists = listRows (length (g .outline1)) (g .vc1) (length (g .outline2)) (g .vc2) (length (g .sliceAt)) (length (g .slice)) (g .slices)
-
-  abbrev codes : List Row
-  codes = codeRows (g .vc1) (g .vc2) (g .selector) (g .sliceAt)
-
-  abbrev numbers : List Row
-  numbers = numberRows (g .tolerance) (g .outline1) (g .outline2) (g .slice)
-
-  abbrev indexes : List Row
-  indexes = indexRows (g .vc1) (g .vc2) (g .sliceAt) (g .starts) (g .slices)
-
   -- each slice's view fits its own outline
-  module _ (a : Clear lists) (b : Clear codes) (c : Clear indexes) where
+  module _ (a : Clear (listsOf g)) (b : Clear (codesOf g)) (c : Clear (indexesOf g)) where
     at-codes : length (g .sliceAt) ≡ codeWidth * g .slices
     at-codes = length-ok codeWidth (length (g .sliceAt)) (g .slices) (a .1 .1 .0)
 
@@ -82,53 +70,64 @@ module _ (g : Given) where
           offsets = λ i h. le-trans (offset-most i h) (whole-of (eqb (codesAt (g .sliceAt) i .source) 1) .most);
         }
 
-  sound : Clear (shapeRows g) → Sound g
-  sound ok =
-      let s : Clear (codes ++ (numbers ++ indexes)) = clear-right lists (codes ++ (numbers ++ indexes)) ok in
-      sound-of (clear-left lists (codes ++ (numbers ++ indexes)) ok) (clear-left codes (numbers ++ indexes) s) (clear-right numbers indexes (clear-right codes (numbers ++ indexes) s))
+  -- the three parts of a clear table that say so
+  module _ (ok : Clear (shapeRows g)) where
+    past-lists : Clear (codesOf g ++ (numbersOf g ++ indexesOf g))
+    past-lists = clear-right (listsOf g) (codesOf g ++ (numbersOf g ++ indexesOf g)) ok
+
+    first-part : Clear (listsOf g)
+    first-part = clear-left (listsOf g) (codesOf g ++ (numbersOf g ++ indexesOf g)) ok
+
+    second-part : Clear (codesOf g)
+    second-part = clear-left (codesOf g) (numbersOf g ++ indexesOf g) past-lists
+
+    last-part : Clear (indexesOf g)
+    last-part = clear-right (numbersOf g) (indexesOf g) (clear-right (codesOf g) (numbersOf g ++ indexesOf g) past-lists)
+
+    sound : Sound g
+    sound = sound-of first-part second-part last-part
+
+    need-there : NeedFit (g .sliceAt) (g .slices)
+    need-there = need-of first-part second-part last-part
 
   -- nothing found among 1 to 8: the need can be worked out
   need-fits : (r : ℕ) → r ≡ firstFrom 0 (shapeRows g) → r ≡ 0 → NeedFit (g .sliceAt) (g .slices)
-  need-fits r e z =
-      let ok = clear (shapeRows g) tt (sym (first-from (shapeRows g) r tt e) ∙ z) in
-      let s : Clear (codes ++ (numbers ++ indexes)) = clear-right lists (codes ++ (numbers ++ indexes)) ok in
-      need-of (clear-left lists (codes ++ (numbers ++ indexes)) ok) (clear-left codes (numbers ++ indexes) s) (clear-right numbers indexes (clear-right codes (numbers ++ indexes) s))
+  need-fits r e z = need-there (clear (shapeRows g) tt (sym (first-from (shapeRows g) r tt e) ∙ z))
 
-  module _ (room ends chain chainEnds chainHow : ℕ) where
+  -- a number above 0 stays
+  stays : (r : ℕ) (t : List Row) → (r ≡ 0 → ⊥) → r ≡ firstFrom r t
+  stays zero t h = absurd (h refl)
+  stays (suc r) t h = sym (found-stays r t)
+
+  -- the guard's row is never there
+  guard-none : (r : ℕ) → r ≡ firstFrom r (guardRows g)
+  unfolding firstFrom orElse
+  guard-none zero = rw (no-rounds-fault g)
+  guard-none (suc r) = refl
+
+  module _ (l : Lengths) where
     abbrev rest : List Row
-    rest = roomRows (g .sliceAt) (g .slices) room ends chain chainEnds chainHow
+    rest = roomsOf g l ++ guardRows g
 
-    -- a number above 0 stays
-    stays : (r : ℕ) (t : List Row) → (r ≡ 0 → ⊥) → r ≡ firstFrom r t
-    stays zero t h = absurd (h refl)
-    stays (suc r) t h = sym (found-stays r t)
-
-    -- the guard's row is never there
-    guard-none : (r : ℕ) → r ≡ firstFrom r (guardRows g)
-    unfolding firstFrom orElse
-    guard-none zero = rw (no-rounds-fault g)
-    guard-none (suc r) = refl
-
-    pub shape-found : (r : ℕ) → r ≡ firstFrom 0 (shapeRows g) → (r ≡ 0 → ⊥) → r ≡ stitchRefusal g room ends chain chainEnds chainHow
+    pub shape-found : (r : ℕ) → r ≡ firstFrom 0 (shapeRows g) → (r ≡ 0 → ⊥) → r ≡ stitchRefusal g l
     unfolding stitchRefusal
-    shape-found r e h = first-from (shapeRows g ++ (rest ++ guardRows g)) r tt (then-rows r r 0 (shapeRows g) (rest ++ guardRows g) (stays r (rest ++ guardRows g) h) e)
+    shape-found r e h = first-from (shapeRows g ++ rest) r tt (then-rows r r 0 (shapeRows g) rest (stays r rest h) e)
 
-    pub room-found : (r p : ℕ) → p ≡ firstFrom 0 (shapeRows g) → p ≡ 0 → r ≡ firstFrom 0 rest → r ≡ stitchRefusal g room ends chain chainEnds chainHow
+    pub room-found : (r p : ℕ) → p ≡ firstFrom 0 (shapeRows g) → p ≡ 0 → r ≡ firstFrom 0 (roomsOf g l) → r ≡ stitchRefusal g l
     unfolding stitchRefusal
     room-found r p e z q =
-        first-from (shapeRows g ++ (rest ++ guardRows g)) r tt
-        (then-rows r p 0 (shapeRows g) (rest ++ guardRows g) (then-rows r r p rest (guardRows g) (guard-none r) (subst (λ (n : ℕ). r ≡ firstFrom n rest) (sym z) q)) e)
+        first-from (shapeRows g ++ rest) r tt
+        (then-rows r p 0 (shapeRows g) rest (then-rows r r p (roomsOf g l) (guardRows g) (guard-none r) (subst (λ (n : ℕ). r ≡ firstFrom n (roomsOf g l)) (sym z) q)) e)
 
   module _ (x : Lists) where
     pub stitch-accepted : (number : ℕ) → number ≡ stitchNumber g x → number ≡ 0 → StitchFit g x
     unfolding stitchRefusal
     stitch-accepted number e z =
-        let room = rest (length (x .room)) (length (x .ends)) (length (x .chain)) (length (x .chainEnds)) (length (x .chainHow)) in
-        let ok = clear (shapeRows g ++ (room ++ guardRows g)) tt (sym e ∙ z) in
-        let c : Clear (room ++ guardRows g) = clear-right (shapeRows g) (room ++ guardRows g) ok in
-        let d : Clear room = clear-left room (guardRows g) c in
+        let rooms = roomsOf g (lengthsOf x) in
+        let ok = clear (shapeRows g ++ (rooms ++ guardRows g)) tt (sym e ∙ z) in
+        let d : Clear rooms = clear-left rooms (guardRows g) (clear-right (shapeRows g) (rooms ++ guardRows g) ok) in
         record {
-          sound = sound (clear-left (shapeRows g) (room ++ guardRows g) ok);
+          sound = sound (clear-left (shapeRows g) (rooms ++ guardRows g) ok);
           long =
               record {
                 room = ltb-false _ _ (d .0);
@@ -166,6 +165,15 @@ module _ (g : Given) where
         told a b c p q r = cc
 
 -- the same of the parameters of a function
-pub need-given : (o1 : List Float) (vc1 : ℕ) (o2 : List Float) (vc2 : ℕ) (at : List ℕ) (numbers : List Float) (n : ℕ) (starts : Starts) (selector : ℕ) (t : Tolerance) (r : ℕ)
-    → r ≡ firstFrom 0 (shapeRows (given o1 vc1 o2 vc2 at numbers n starts selector t)) → r ≡ 0 → NeedFit at n
-need-given o1 vc1 o2 vc2 at numbers n starts selector t r e z = need-fits (given o1 vc1 o2 vc2 at numbers n starts selector t) r e z
+pub need-given : (o1 o2 : List Float) (at : List ℕ) (numbers : List Float) (p : Plan) (r : ℕ) → r ≡ firstFrom 0 (shapeRows (given o1 o2 at numbers p)) → r ≡ 0 → NeedFit at (p .slices)
+need-given o1 o2 at numbers p r e z = need-fits (given o1 o2 at numbers p) r e z
+
+pub ruleset finding = (need-given, shape-found, room-found)
+
+pub ruleset ways = (stitch-accepted, stitch-refused, stitch-given)
+
+-- room by thirds, as the code asks
+pub third : (room need r : ℕ) → r ≡ need → ltb (room / 3) r ≡ ltb room (3 * need)
+third room need r e =
+    by-test (ltb room (3 * need)) (λ t. let h : room < 3 * need = ltb-true room (3 * need) t in lt-ltb (room / 3) r (omega arith) ∙ sym t)
+    (λ f. let h : 3 * need ≤ room = ltb-false room (3 * need) f in le-ltb (room / 3) r (omega arith) ∙ sym f)

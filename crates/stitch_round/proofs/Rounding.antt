@@ -1,9 +1,8 @@
 -- Laws of a round: the scan's candidates are the definition's, and so is what the round comes to.
-use Prim.Native.Nat.{ℕ, zero, suc, _-_, _<_}
+use Prim.Native.Nat.{ℕ, _-_, _<_}
 use mathlib.Core.Bool.{Bool, true, false, not, cond, _&&_, true≢false}
 use mathlib.Core.Path.{_≡_, refl, sym, ap, _∙_}
 use mathlib.Core.List.{List, [], _∷_}
-use native.Mathlib.Omega.{arith}
 use lib.Dec.{eqb, ltb}
 use lib.Ieee.{Float}
 use borrow.Author.Tests.{not-true, not-false}
@@ -18,23 +17,19 @@ use Rattle.select.specs.Select.{choicesOf, chosenOf}
 use Rattle.select.specs.SelectLaws as select
 use Rattle.stitch_vertices.specs.Held.{chainOf}
 use Rattle.stitch_vertices.specs.RestLaws.{chain-length, chain-last}
-use Rattle.stitch_round.specs.declared.plan.Plan.{Plan}
+use Rattle.stitch_run.specs.declared.plan.Plan.{Plan}
 use Rattle.stitch_round.specs.declared.scan.Seen.{Seen}
 use Rattle.stitch_round.specs.declared.step.Step.{Step}
 use Rattle.stitch_round.specs.declared.step.Step.the-variants.{Onto, Ends}
 use Rattle.stitch_run.specs.Run.{Rules, Next, onto, ends, closed, tooSmall, noCandidate, passing, free, candidate, candidatesOf, taken, answered, asked, nextOf}
-use Rattle.stitch_run.specs.Stitch.{Given, rulesOf, offersTo, howOf}
-use Rattle.stitch_round.specs.Ready.{planned, Points, nearEnd, hasAny, Met, toldOf, stepOf, standing, Rounded}
+use Rattle.stitch_run.specs.Stitch.{given, Given, rulesOf, offersTo, howOf}
+use Rattle.stitch_run.specs.TallyLaws.{passing-same}
+use Rattle.stitch_round.specs.Ready.{Points, nearEnd, hasAny, Met, toldOf, stepOf, standing, Rounded}
 
 -- what the callees answer, in place of their definitions
 pub met-as : (points : List Float) (visited : List Bool) (first : ℕ) (p : Plan) (v w : Vertex) (e : Point) (c d : Choices) (r : Seen) → v ≡ w → e ≡ posOf v → c ≡ d
-    → Met (nearEnd points visited first e (p .t)) (p .starts) c (p .count) r → Met (nearEnd points visited first (posOf w) (p .t)) (p .starts) d (p .count) r
+    → Met (nearEnd points visited first e (p .tolerance)) (p .starts) c (p .slices) r → Met (nearEnd points visited first (posOf w) (p .tolerance)) (p .starts) d (p .slices) r
 met-as points visited first p v w e c d r f h k m = rw (h, f, k) at m
-
-passing-same : (p q : ℕ → Bool) (n : ℕ) → ((j : ℕ) → j < n → p j ≡ q j) → passing p n ≡ passing q n
-unfolding passing
-passing-same p q zero h = refl
-passing-same p q (suc n) h = rw (passing-same p q n (λ j d. h j (omega arith)), h n (omega arith))
 
 -- no candidate; or some, and the selector is asked
 module _ {C : Type 0} (R : Rules C) (first current : ℕ) (b : C) where
@@ -49,21 +44,21 @@ module _ {C : Type 0} (R : Rules C) (first current : ℕ) (b : C) where
   asked-some (j ∷ l) e = refl
 
 module _ (points : List Float) (visited : List Bool) (room : List Float) (n first current : ℕ) (p : Plan) (some : 0 < n) (seen : Seen)
-    (m : Met (nearEnd points visited first (posOf (vertexAt room (n - 1))) (p .t)) (p .starts) (choicesOf (p .selector) (p .starts) current) (p .count) seen) where
+    (m : Met (nearEnd points visited first (posOf (vertexAt room (n - 1))) (p .tolerance)) (p .starts) (choicesOf (p .selector) (p .starts) current) (p .slices) seen) where
   abbrev met : List ℕ
-  met = passing (nearEnd points visited first (posOf (vertexAt room (n - 1))) (p .t)) (p .count)
+  met = passing (nearEnd points visited first (posOf (vertexAt room (n - 1))) (p .tolerance)) (p .slices)
 
-  module _ (o1 o2 : List Float) (at : List ℕ) (numbers : List Float) (t : Points (planned o1 o2 at numbers p) points) where
+  module _ (o1 o2 : List Float) (at : List ℕ) (numbers : List Float) (t : Points (given o1 o2 at numbers p) points) where
     abbrev g : Given
-    g = planned o1 o2 at numbers p
+    g = given o1 o2 at numbers p
 
     candidates-met : candidatesOf (rulesOf g) visited first (chainOf room n) ≡ met
     unfolding candidatesOf candidate rulesOf offersTo
     candidates-met =
         let e = chain-last room n (vertexAt room (n - 1)) some refl in
         rw e
-        (passing-same _ _ (p .count)
-        λ j h. ap (λ (q : Point). free visited first j && inBox (p .t) (posOf (vertexAt room (n - 1))) q) (sym (t .holds j h)))
+        (passing-same _ _ (p .slices)
+        λ j h. ap (λ (q : Point). free visited first j && inBox (p .tolerance) (posOf (vertexAt room (n - 1))) q) (sym (t .holds j h)))
 
     next-is : (x : Next) → asked (rulesOf g) first current (chainOf room n) met ≡ x → nextOf (rulesOf g) (standing first current (chainOf room n) visited) ≡ x
     unfolding nextOf
@@ -89,17 +84,17 @@ module _ (points : List Float) (visited : List Bool) (room : List Float) (n firs
   pub round-none : not (seen .any) ≡ true → Rounded points visited room n first current p (Ends 2)
   unfolding howOf
   round-none h =
-      record { is = λ o1 o2 at numbers t. sym (ap toldOf (next-is o1 o2 at numbers t _ (asked-none (rulesOf (planned o1 o2 at numbers p)) first current (chainOf room n) met (sym (m .any) ∙ not-true (seen .any) h)))) }
+      record { is = λ o1 o2 at numbers t. sym (ap toldOf (next-is o1 o2 at numbers t _ (asked-none (rulesOf (given o1 o2 at numbers p)) first current (chainOf room n) met (sym (m .any) ∙ not-true (seen .any) h)))) }
 
   pub round-unselected : (s : Selected) → not (seen .any) ≡ false → s ≡ chosenOf (seen .best) → s ≡ NoSlice → Rounded points visited room n first current p (Ends 3)
   unfolding answered howOf
   round-unselected s h e f =
-      record { is = λ o1 o2 at numbers t. sym (ap toldOf (answer-is o1 o2 at numbers t s (not-false (seen .any) h) e ∙ ap (λ (z : Selected). answered (rulesOf (planned o1 o2 at numbers p)) first (chainOf room n) z) f)) }
+      record { is = λ o1 o2 at numbers t. sym (ap toldOf (answer-is o1 o2 at numbers t s (not-false (seen .any) h) e ∙ ap (λ (z : Selected). answered (rulesOf (given o1 o2 at numbers p)) first (chainOf room n) z) f)) }
 
   pub round-taken : (s : Selected) (j : ℕ) (r : Step) → not (seen .any) ≡ false → s ≡ chosenOf (seen .best) → s ≡ Slice j → r ≡ stepOf n first j
       → Rounded points visited room n first current p r
   unfolding answered
   round-taken s j r h e f q =
-      record { is = λ o1 o2 at numbers t. q ∙ taken-is o1 o2 at numbers t j ∙ sym (ap toldOf (answer-is o1 o2 at numbers t s (not-false (seen .any) h) e ∙ ap (λ (z : Selected). answered (rulesOf (planned o1 o2 at numbers p)) first (chainOf room n) z) f)) }
+      record { is = λ o1 o2 at numbers t. q ∙ taken-is o1 o2 at numbers t j ∙ sym (ap toldOf (answer-is o1 o2 at numbers t s (not-false (seen .any) h) e ∙ ap (λ (z : Selected). answered (rulesOf (given o1 o2 at numbers p)) first (chainOf room n) z) f)) }
 
 pub ruleset rounding = (met-as, round-none, round-unselected, round-taken)

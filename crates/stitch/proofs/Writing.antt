@@ -10,6 +10,7 @@ use lib.ListN.{length, getD, take, replicate, length-replicate}
 use lib.Seq.{length-take-le}
 use lib.Ieee.{Float}
 use Rattle.basis.specs.Number.{+0}
+use Rattle.basis.specs.Sizes.{mostVertices, mostSlices}
 use Rattle.basis.specs.Room.{roomOf, cleared}
 use Rattle.stitch.specs.declared.turn.Tally.{Tally}
 use Rattle.stitch_run.specs.Run.{run, turns, orderOf}
@@ -111,9 +112,9 @@ pub ruleset turning = (turns-none, turns-turn, turns-more, turns-end)
 pub record Summing (at : List ℕ) (n sum i : ℕ) : Type 0 where
   pub upto : i ≤ n
   pub is : sum ≡ 1 + sumBelow (weightAt at) i
-  pub most : sum ≤ 1 + 1025 * i
+  pub most : sum ≤ 1 + (mostVertices + 1) * i
 
-pub sum-offset : (at : List ℕ) (n i : ℕ) → NeedFit at n → i < n → getD at (codeWidth * i + 3) 0 ≤ 1024
+pub sum-offset : (at : List ℕ) (n i : ℕ) → NeedFit at n → i < n → getD at (codeWidth * i + 3) 0 ≤ mostVertices
 unfolding codesAt
 sum-offset at n i f h = f .offsets i h
 
@@ -200,7 +201,7 @@ pub tabled-of : (most : ℕ) (g : Given) (x : Lists) → Few most g x → (point
 tabled-of most g x f points visited e m =
     record { fit = f .fit; size = omega (arith, f .few); marks = m ∙ take-marks (g .slices) most (f .few) }
 
-pub few-of : (g : Given) (x : Lists) → StitchFit g x → Few 1792 g x
+pub few-of : (g : Given) (x : Lists) → StitchFit g x → Few mostSlices g x
 few-of g x f = record { fit = f; few = f .sound .few }
 
 module _ (g : Given) (x : Lists) (f : StitchFit g x) where
