@@ -2,9 +2,10 @@
 ghost use Prim.Native.Nat.{_≤_};
 ghost use lib.ListN.{length};
 use crate::show;
+use record::form;
 
 // One byte more than a record has at most, so that a longer one is seen to be longer.
-const BYTES: usize = 4611;
+const BYTES: usize = form::RECORD1_MOST + 1;
 
 // How many bytes were read, and whether a read failed.
 struct Input {
