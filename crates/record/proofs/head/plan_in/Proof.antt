@@ -2,8 +2,8 @@ use borrow.Author.Needs.{needs}
 use native.Mathlib.Omega.{arith}
 use mathlib.Core.Path.{refl}
 use Rattle.record.proofs.Heading.{selector-fits, head-read}
-use Rattle.record.proofs.head.head_in.Statement.{statement}
-use Rattle.record.proofs.head.head_in.Tie as tie
+use Rattle.record.proofs.head.plan_in.Statement.{statement}
+use Rattle.record.proofs.head.plan_in.Tie as tie
 
 slice-aggregate-read-shape : tie.Need-slice-aggregate-read-shape
 slice-aggregate-read-shape c = search needs
@@ -65,8 +65,8 @@ array-read-slices c = search needs
 returns : tie.Need-returns
 returns c = search (needs, head-read)
 
-pub head-in-spec : {M : Type 1} → statement M
-head-in-spec =
+pub plan-in-spec : {M : Type 1} → statement M
+plan-in-spec =
     tie.close
     (tie.spec
     slice-aggregate-read-shape
