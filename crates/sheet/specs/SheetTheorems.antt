@@ -40,11 +40,11 @@ use Rattle.basis.specs.Answers.{countRefused, counted}
 use Rattle.candidate_entries.specs.Candidates.{alongCuts, candidatesRefusal, candNumber}
 use Rattle.select.specs.Select.{classOf, preferenceOf, suitsOf, firstThat, orElse, choose, choicesOf, pickOf, selectOf}
 use Rattle.prune.specs.declared.counts.Pruned.{Pruned}
-use Rattle.prune.specs.Prune.{candHead, lapHead, lapInverted, keptTo, lapsTo, wantedOf, turnedOf, firstPart, secondPart, partsOf, slicesOf, prunedAt, prunedOf}
-use Rattle.prune_entries.specs.PruneRows as pruneRows
-use Rattle.prune_entries.specs.PruneRows.{codesKnown, roomFault}
+use Rattle.prune.specs.Prune as prune
+use Rattle.prune.specs.Prune.{candCodes, lapCodes, lapInverted, keptTo, lapsTo, wantedOf, turnedOf, firstPart, secondPart, partsOf, slicesOf, prunedAt, prunedOf}
+use Rattle.slice.specs.Faults.{sourceKnown, startInside, offsetInside, eachSlice}
 use Rattle.prune_entries.specs.Answers.{pruneRefused, pruneGiven}
-use Rattle.prune_entries.specs.PruneEntry.{Called, inputRows, pruneRefusal, pruneNumber}
+use Rattle.prune_entries.specs.PruneEntry.{inputRows, pruneRefusal, pruneNumber}
 use Rattle.stitch_vertices.specs.Vertices.{addVertex, addFirst, addView, dropLast}
 use Rattle.stitch_run.specs.Run as run
 use Rattle.stitch_run.specs.Run.{passing, free, candidate, taken, answered, asked, nextOf, roundOf, opened, onward, ended}
@@ -55,7 +55,7 @@ use Rattle.slice.specs.Slice.{codesAt, shapeAt, sliceView}
 use Rattle.stitch_run.specs.Stitch.{offersTo, rulesOf, runOf, loopOf, loopsOf, howOf, totals, roundCount, loopCount, roomItems}
 use Rattle.stitch_run.specs.Stitch.{endItems, isSpent, anySpent, roundsFault, sumBelow, weightAt, needFor}
 use Rattle.stitch.specs.Lent.{Lists}
-use Rattle.stitch_entries.specs.StitchRows.{sourcesKnown, startsInside, offsetsInside, startsFault}
+use Rattle.stitch_entries.specs.StitchRows.{startsFault}
 use Rattle.stitch_entries.specs.declared.answer.StitchAnswer.{StitchAnswer}
 use Rattle.stitch_entries.specs.Answers.{stitchRefused, stitchGiven}
 use Rattle.stitch_entries.specs.StitchEntry.{stitchRefusal, stitchNumber}
@@ -80,7 +80,7 @@ unfolding cutting sameNext slices.firstFrom firstCut traverseFrom traverseOf sli
 slicing = tt
 
 pruning : Unit {0}
-unfolding numbers flatMap candHead lapHead lapInverted keptTo lapsTo wantedOf turnedOf firstPart secondPart partsOf slicesOf prunedAt prunedOf
+unfolding numbers flatMap candCodes lapCodes lapInverted keptTo lapsTo wantedOf turnedOf firstPart secondPart partsOf slicesOf prunedAt prunedOf
 pruning = tt
 
 rounds : Unit {0}
@@ -92,7 +92,7 @@ unfolding views pruning rounds addVertex addFirst addView dropLast codesAt shape
 stitching = tt
 
 refusals : Unit {0}
-unfolding firstOf lengthFault sizeFault sourceFault tooMany cutRoomFault cutLengthFault candidatesRefusal pruneRows.tooMany codesKnown roomFault inputRows pruneRefusal sourcesKnown startsInside offsetsInside startsFault stitchRefusal viewVertexRefusal singleRefusal
+unfolding firstOf lengthFault sizeFault sourceFault tooMany cutRoomFault cutLengthFault candidatesRefusal inputRows pruneRefusal eachSlice sourceKnown startInside offsetInside startsFault stitchRefusal viewVertexRefusal singleRefusal
 refusals = tt
 
 -- ---- the theorem of the definitions
@@ -160,7 +160,7 @@ vertices-answer o vc v n h =
         ap (λ (x : VertexAnswer). x .found)
         (answer-accepted vertexRefused (viewVertexRefusal o vc v) _ (viewVertexAnswer o vc v k) refl (h .1) ∙ ap vertexFound e)
 
-slices-answer : (c : Called) (p : Pruned) → Holds (slicesAre c p) → Answers (slicesAre c p)
+slices-answer : (c : prune.Given) (p : Pruned) → Holds (slicesAre c p) → Answers (slicesAre c p)
 slices-answer c p h l r left rooms holds =
     let none : pruneNumber c l ≡ 0 = rw (rooms .at, rooms .shape) (h .1) in
     answer-accepted pruneRefused (pruneNumber c l) _ r (holds .answers) none ∙ ap pruneGiven (h .0)

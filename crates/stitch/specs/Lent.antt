@@ -7,6 +7,7 @@ use lib.Dec.{eqb}
 use lib.ListN.{length, set, replicate}
 use lib.Ieee.{Float}
 use Rattle.basis.specs.Number.{+0}
+use Rattle.basis.specs.Sizes.{mostVertices, mostSlices}
 use Rattle.basis.specs.Room.{roomOf, cleared, Stretch}
 use Rattle.outline.specs.declared.point.Vertex.{Vertex}
 use Rattle.outline.specs.Points.{vertexNumbers}
@@ -83,11 +84,15 @@ tallyAfter w r =
 unfoldable pub endsAfter : Tally → ChainEnd → List ℕ → List ℕ
 endsAfter w r ends = cond (eqb (r .how) (howOf closed)) (set ends (w .loops) (loopEnd w r)) ends
 
+-- what the need comes to for the most slices, each of the greatest offset
+abbrev pub mostNeed : ℕ
+mostNeed = 1 + mostSlices * (mostVertices + 1)
+
 pub record LoopFit (ends : List ℕ) (w : Tally) (r : ChainEnd) : Type 0 where
   pub inside : w .loops < length ends
   pub some : 0 < r .verts
-  pub few : w .done + r .verts ≤ 1836801
-  pub chains : w .chains < 1792
+  pub few : w .done + r .verts ≤ mostNeed
+  pub chains : w .chains < mostSlices
 
 pub record LoopListed (w : Tally) (r : ChainEnd) (ends : List ℕ) (w′ : Tally) (ends′ : List ℕ) : Type 0 where
   pub tally : w′ ≡ tallyAfter w r
@@ -123,8 +128,8 @@ pub record AllTurned (g : Given) (x : Lists) (w : Tally) (x′ : Lists) : Type 0
 
 pub record NeedFit (at : List ℕ) (n : ℕ) : Type 0 where
   pub long : codeWidth * n ≤ length at
-  pub few : n ≤ 1792
-  pub offsets : (i : ℕ) → i < n → sliceOffset at i ≤ 1024
+  pub few : n ≤ mostSlices
+  pub offsets : (i : ℕ) → i < n → sliceOffset at i ≤ mostVertices
 
 pub record RestFit (x : Lists) (w : Tally) (need n : ℕ) : Type 0 where
   pub room : Stretch (x .room) (3 * w .done) (3 * need)

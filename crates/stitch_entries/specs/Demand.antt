@@ -5,7 +5,8 @@ use mathlib.Core.Logic.{_⊎_}
 use mathlib.Core.List.{List, [], _∷_, map, flatten}
 use lib.ListN.{length, getD, take, drop}
 use Rattle.basis.specs.All.{All}
-use Rattle.stitch_run.specs.Demand3.{times, LowestFirst, Ascending}
+use Rattle.stitch_run.specs.Demand3.{times, LowestFirst}
+use Rattle.select.specs.SelectTheorems.{Ascending}
 use Rattle.stitch_run.specs.Stitch.{Given, needOf}
 use Rattle.stitch.specs.Lent.{Lists}
 

@@ -26,8 +26,7 @@ use Rattle.stitch_run.specs.NeedIsTight.{toAndFro, Tight, need-is-tight}
 use Rattle.stitch.specs.Lent.{Lists, Long}
 use Rattle.stitch_entries.specs.declared.answer.StitchAnswer.{StitchAnswer}
 use Rattle.stitch_entries.specs.Answers.{stitchRefused, stitchGiven}
-use Rattle.stitch_entries.specs.StitchRows.{roomRows}
-use Rattle.stitch_entries.specs.StitchEntry.{shapeRows, guardRows, stitchRefusal, stitchNumber, StitchLeft}
+use Rattle.stitch_entries.specs.StitchEntry.{shapeRows, roomsOf, lengthsOf, guardRows, stitchRefusal, stitchNumber, StitchLeft}
 use Rattle.stitch_entries.specs.TightLaws.{tight-shape}
 use Rattle.stitch_entries.specs.Demand.{parted, chainsIn, Demanded, Shorter}
 
@@ -69,7 +68,7 @@ first-same n (row false m ∷ s) t h (inr a) = first-same n s t (T-right (eqb m 
 
 -- the rows of number 9
 abbrev rooms : Given → Lists → List Row
-rooms g x = roomRows (g .sliceAt) (g .slices) (length (x .room)) (length (x .ends)) (length (x .chain)) (length (x .chainEnds)) (length (x .chainHow))
+rooms g x = roomsOf g (lengthsOf x)
 
 -- ---- an accepted call
 

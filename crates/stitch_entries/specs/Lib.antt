@@ -1,7 +1,6 @@
 pub mod Answers
 pub mod StitchRows
 pub mod StitchEntry
-pub mod StitchEntryLaws
 pub mod StitchEntryExamples
 pub mod Demand
 pub mod TightLaws

@@ -10,13 +10,13 @@ use Rattle.stitch_run.specs.Stitch.{sumBelow, weightAt, needFor, needOf}
 use Rattle.slice.specs.Faults.{sourceKnown, startInside, offsetInside, eachSlice}
 use Rattle.slice.specs.Slice.{codesAt}
 use Rattle.stitch_run.specs.StitchExamples.{union}
-use Rattle.stitch_entries.specs.StitchRows.{startsFault}
+use Rattle.stitch_entries.specs.StitchRows.{startsFault, lengths}
 use Rattle.stitch_entries.specs.StitchEntry.{stitchRefusal}
 
-pub t3-accepted : stitchRefusal union 27 2 2 2 2 ≡ 0
+pub t3-accepted : stitchRefusal union (lengths 27 2 2 2 2) ≡ 0
 unfolding stitchRefusal firstOf lengthFault sizeFault sourceFault eachSlice sourceKnown startInside offsetInside eachTo placesAtMost tolerable allOf within absF ofBits lt le startsFault needOf needFor sumBelow weightAt codesAt
 t3-accepted = rw (no-rounds-fault union)
 
-pub t9 : stitchRefusal union 24 2 2 2 2 ≡ 9
+pub t9 : stitchRefusal union (lengths 24 2 2 2 2) ≡ 9
 unfolding stitchRefusal firstOf lengthFault sizeFault sourceFault eachSlice sourceKnown startInside offsetInside eachTo placesAtMost tolerable allOf within absF ofBits lt le startsFault needOf needFor sumBelow weightAt codesAt
 t9 = refl

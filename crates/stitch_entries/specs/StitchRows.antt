@@ -1,20 +1,17 @@
 -- The refusals of `mask_stitch`: a table in parts.
-use Prim.Native.Nat.{ℕ, _+_, _*_, _/_, _≤_, _<_}
+use Prim.Native.Nat.{ℕ, _+_, _*_}
 use mathlib.Core.Bool.{Bool, not, _||_}
-use mathlib.Core.Path.{_≡_, sym, _∙_}
 use mathlib.Core.List.{List, [], _∷_, _++_}
-use native.Mathlib.Omega.{arith}
 use lib.Dec.{ltb}
 use lib.Ieee.{Float}
 use Rattle.basis.specs.Number.{allWithin, tolerable}
 use Rattle.basis.specs.declared.number.Tolerance.{Tolerance}
-use borrow.Author.Tests.{ltb-true, ltb-false, lt-ltb, le-ltb}
-use Rattle.basis.specs.Choice.{by-test}
 use Rattle.basis.specs.Sizes.{mostSlices}
 use Rattle.basis.specs.Refuse.{Row, row, lengthFault, sizeFault, choiceFault}
 use Rattle.select.specs.declared.class.Starts.{Starts}
 use Rattle.slice.specs.Faults as slices
 use Rattle.stitch_run.specs.Stitch.{needOf}
+use Rattle.stitch_entries.specs.declared.faults.Lengths.{Lengths}
 
 -- 1: of the outlines, whose lists have 3 numbers a vertex, and of the slices; "slices in a stitch: 0 to 1,792"
 abbrev pub listRows : ℕ → ℕ → ℕ → ℕ → ℕ → ℕ → ℕ → List Row
@@ -50,18 +47,16 @@ abbrev pub indexRows : ℕ → ℕ → List ℕ → Starts → ℕ → List Row
 indexRows vc1 vc2 at starts count =
     slices.indexRows vc1 vc2 at ++ (row (startsFault starts count) 8 ∷ [])
 
--- 9: three numbers for each vertex of the need, and one entry per slice in the four other lists
-abbrev pub roomRows : List ℕ → ℕ → ℕ → ℕ → ℕ → ℕ → ℕ → List Row
-roomRows at count room ends chain chainEnds chainHow =
-    row (ltb room (3 * needOf at count)) 9
-    ∷ row (ltb ends count) 9
-    ∷ row (ltb chain count) 9
-    ∷ row (ltb chainEnds count) 9
-    ∷ row (ltb chainHow count) 9
-    ∷ []
+-- how long the lent lists are
+abbrev pub lengths : ℕ → ℕ → ℕ → ℕ → ℕ → Lengths
+lengths room ends chain chainEnds chainHow = record { room = room; ends = ends; chain = chain; «chain_ends» = chainEnds; «chain_how» = chainHow }
 
--- ---- room by thirds, as the code asks
-pub third : (room need r : ℕ) → r ≡ need → ltb (room / 3) r ≡ ltb room (3 * need)
-third room need r e =
-    by-test (ltb room (3 * need)) (λ t. let h : room < 3 * need = ltb-true room (3 * need) t in lt-ltb (room / 3) r (omega arith) ∙ sym t)
-    (λ f. let h : 3 * need ≤ room = ltb-false room (3 * need) f in le-ltb (room / 3) r (omega arith) ∙ sym f)
+-- 9: three numbers for each vertex of the need, and one entry per slice in the four other lists
+abbrev pub roomRows : List ℕ → ℕ → Lengths → List Row
+roomRows at count l =
+    row (ltb (l .room) (3 * needOf at count)) 9
+    ∷ row (ltb (l .ends) count) 9
+    ∷ row (ltb (l .chain) count) 9
+    ∷ row (ltb (l .«chain_ends») count) 9
+    ∷ row (ltb (l .«chain_how») count) 9
+    ∷ []

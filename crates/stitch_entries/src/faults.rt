@@ -1,5 +1,6 @@
 // The refusals of `mask_stitch`, part by part of their table. Each part goes on from what was found so far.
 ghost use mathlib.Core.Path.{_≡_};
+ghost use lib.ListN.{length};
 ghost use Rattle.basis.specs.Refuse.{firstFrom};
 ghost use Rattle.stitch.specs.Lent.{NeedFit};
 ghost use Rattle.stitch_entries.specs.StitchRows.{listRows, codeRows, numberRows, startsFault, indexRows, roomRows};
@@ -9,32 +10,40 @@ use basis::refuse;
 use basis::sizes::MOST_SLICES;
 use select::class::Starts;
 use stitch::write;
+use stitch_run::plan::Plan;
+
+// How long the lent lists are.
+pub struct Lengths {
+    pub room: usize,
+    pub ends: usize,
+    pub chain: usize,
+    pub chain_ends: usize,
+    pub chain_how: usize,
+}
 
 // Number 1.
 pub fn list_refusal(
-    len1: usize,
-    vc1: usize,
-    len2: usize,
-    vc2: usize,
-    at: usize,
-    numbers: usize,
-    count: usize,
+    outline1: &[f64],
+    outline2: &[f64],
+    slice_at: &[usize],
+    slice: &[f64],
+    p: Plan,
 ) -> u32
-    ensures { λ n. ⌜ n ≡ firstFrom 0 (listRows len1 vc1 len2 vc2 at numbers count) ⌝ }
+    ensures { λ n. ⌜ n ≡ firstFrom 0 (listRows (length (now (outline1 .entry))) (p .vc1) (length (now (outline2 .entry))) (p .vc2) (length (now («slice_at» .entry))) (length (now (slice .entry))) (p .slices)) ⌝ }
 {
-    let r = refuse::or_else(0, refuse::bad_length(len1, 3, vc1), 1);
-    let r = refuse::or_else(r, refuse::bad_length(len2, 3, vc2), 1);
-    let r = slice::faults::list_refusal(r, at, numbers, count);
-    refuse::or_else(r, MOST_SLICES < count, 1)
+    let r = refuse::or_else(0, refuse::bad_length(outline1.len(), 3, p.vc1), 1);
+    let r = refuse::or_else(r, refuse::bad_length(outline2.len(), 3, p.vc2), 1);
+    let r = slice::faults::list_refusal(r, slice_at.len(), slice.len(), p.slices);
+    refuse::or_else(r, MOST_SLICES < p.slices, 1)
 }
 
 // Numbers 2 and 3.
-pub fn code_refusal(r: u32, vc1: usize, vc2: usize, selector: u32, slice_at: &[usize]) -> u32
-    ensures { λ n. ⌜ n ≡ firstFrom r (codeRows vc1 vc2 selector (now («slice_at» .entry))) ⌝ }
+pub fn code_refusal(r: u32, slice_at: &[usize], p: Plan) -> u32
+    ensures { λ n. ⌜ n ≡ firstFrom r (codeRows (p .vc1) (p .vc2) (p .selector) (now («slice_at» .entry))) ⌝ }
 {
-    let r = refuse::or_else(r, refuse::bad_size(vc1), 2);
-    let r = refuse::or_else(r, refuse::bad_size(vc2), 2);
-    let r = refuse::or_else(r, refuse::bad_choice(selector), 3);
+    let r = refuse::or_else(r, refuse::bad_size(p.vc1), 2);
+    let r = refuse::or_else(r, refuse::bad_size(p.vc2), 2);
+    let r = refuse::or_else(r, refuse::bad_choice(p.selector), 3);
     slice::faults::code_refusal(r, slice_at)
 }
 
@@ -63,37 +72,23 @@ fn bad_starts(s: Starts, count: usize) -> bool
 }
 
 // Numbers 6, 7 and 8.
-pub fn index_refusal(
-    r: u32,
-    vc1: usize,
-    vc2: usize,
-    slice_at: &[usize],
-    starts: Starts,
-    count: usize,
-) -> u32
-    ensures { λ n. ⌜ n ≡ firstFrom r (indexRows vc1 vc2 (now («slice_at» .entry)) starts count) ⌝ }
+pub fn index_refusal(r: u32, slice_at: &[usize], p: Plan) -> u32
+    ensures { λ n. ⌜ n ≡ firstFrom r (indexRows (p .vc1) (p .vc2) (now («slice_at» .entry)) (p .starts) (p .slices)) ⌝ }
 {
-    let r = slice::faults::index_refusal(r, vc1, vc2, slice_at);
-    refuse::or_else(r, bad_starts(starts, count), 8)
+    let starts = p.starts;
+    let r = slice::faults::index_refusal(r, p.vc1, p.vc2, slice_at);
+    refuse::or_else(r, bad_starts(starts, p.slices), 8)
 }
 
 // Number 9.
-pub fn room_refusal(
-    slice_at: &[usize],
-    count: usize,
-    room: usize,
-    ends: usize,
-    chain: usize,
-    chain_ends: usize,
-    chain_how: usize,
-) -> u32
-    requires { ⌜ NeedFit (now «slice_at») count ⌝ }
-    ensures { λ n. ⌜ n ≡ firstFrom 0 (roomRows (now («slice_at» .entry)) count room ends chain «chain_ends» «chain_how») ⌝ }
+pub fn room_refusal(slice_at: &[usize], slices: usize, l: Lengths) -> u32
+    requires { ⌜ NeedFit (now «slice_at») slices ⌝ }
+    ensures { λ n. ⌜ n ≡ firstFrom 0 (roomRows (now («slice_at» .entry)) slices l) ⌝ }
 {
-    let need = write::room_need(slice_at, count);
-    let r = refuse::or_else(0, room / 3 < need, 9);
-    let r = refuse::or_else(r, ends < count, 9);
-    let r = refuse::or_else(r, chain < count, 9);
-    let r = refuse::or_else(r, chain_ends < count, 9);
-    refuse::or_else(r, chain_how < count, 9)
+    let need = write::room_need(slice_at, slices);
+    let r = refuse::or_else(0, l.room / 3 < need, 9);
+    let r = refuse::or_else(r, l.ends < slices, 9);
+    let r = refuse::or_else(r, l.chain < slices, 9);
+    let r = refuse::or_else(r, l.chain_ends < slices, 9);
+    refuse::or_else(r, l.chain_how < slices, 9)
 }

@@ -1,11 +1,12 @@
 // The slices: their start points, their vertices in a chain.
 ghost use mathlib.Core.Path.{_≡_};
-ghost use Rattle.stitch_run.specs.Stitch.{startPoint};
-ghost use Rattle.stitch_round.specs.Ready.{planned, SliceFit, SliceMore, SliceAdded, PointsFit, Points};
-use crate::plan::Plan;
+ghost use Rattle.stitch_run.specs.Stitch.{given, startPoint};
+ghost use Rattle.stitch_round.specs.Ready.{SliceFit, SliceMore, SliceAdded, PointsFit, Points};
 use outline::point;
 use outline::point::Point;
+use outline::write;
 use slice::read;
+use stitch_run::plan::Plan;
 use stitch_vertices::grow;
 use view::vertex;
 
@@ -18,8 +19,8 @@ fn start_point(
     p: Plan,
     i: usize,
 ) -> Point
-    requires { ⌜ SliceFit (planned (now outline1) (now outline2) (now «slice_at») (now slice) p) i ⌝ }
-    ensures { λ r. ⌜ r ≡ startPoint (planned (now (outline1 .entry)) (now (outline2 .entry)) (now («slice_at» .entry)) (now (slice .entry)) p) i ⌝ }
+    requires { ⌜ SliceFit (given (now outline1) (now outline2) (now «slice_at») (now slice) p) i ⌝ }
+    ensures { λ r. ⌜ r ≡ startPoint (given (now (outline1 .entry)) (now (outline2 .entry)) (now («slice_at» .entry)) (now (slice .entry)) p) i ⌝ }
 {
     let v = read::view_at(slice_at, slice, i);
     if read::codes_at(slice_at, i).source == 1 {
@@ -39,14 +40,14 @@ pub fn add_slice(
     p: Plan,
     i: usize,
 ) -> usize
-    requires { ⌜ SliceMore (planned (now outline1) (now outline2) (now «slice_at») (now slice) p) i (now room) n ⌝ }
-    ensures { λ r. ⌜ SliceAdded (planned (now (outline1 .entry)) (now (outline2 .entry)) (now («slice_at» .entry)) (now (slice .entry)) p) i n (now (room .entry)) r (now (room .exit)) ⌝ }
+    requires { ⌜ SliceMore (given (now outline1) (now outline2) (now «slice_at») (now slice) p) i (now room) n ⌝ }
+    ensures { λ r. ⌜ SliceAdded (given (now (outline1 .entry)) (now (outline2 .entry)) (now («slice_at» .entry)) (now (slice .entry)) p) i n (now (room .entry)) r (now (room .exit)) ⌝ }
 {
     let v = read::view_at(slice_at, slice, i);
     if read::codes_at(slice_at, i).source == 1 {
-        return grow::extend_remove_repeat(room, n, outline1, p.vc1, v, p.t);
+        return grow::extend_remove_repeat(room, n, outline1, p.vc1, v, p.tolerance);
     }
-    grow::extend_remove_repeat(room, n, outline2, p.vc2, v, p.t)
+    grow::extend_remove_repeat(room, n, outline2, p.vc2, v, p.tolerance)
 }
 
 // Writes each slice's start point, x and y.
@@ -58,15 +59,13 @@ pub fn fill_points(
     slice: &[f64],
     p: Plan,
 )
-    requires { ⌜ PointsFit (planned (now outline1) (now outline2) (now «slice_at») (now slice) p) (now points) ⌝ }
-    ensures { λ _. ⌜ Points (planned (now (outline1 .entry)) (now (outline2 .entry)) (now («slice_at» .entry)) (now (slice .entry)) p) (now (points .exit)) ⌝ }
+    requires { ⌜ PointsFit (given (now outline1) (now outline2) (now «slice_at») (now slice) p) (now points) ⌝ }
+    ensures { λ _. ⌜ Points (given (now (outline1 .entry)) (now (outline2 .entry)) (now («slice_at» .entry)) (now (slice .entry)) p) (now (points .exit)) ⌝ }
 {
     let mut i = 0;
-    while i < p.count {
+    while i < p.slices {
         let s = start_point(outline1, outline2, slice_at, slice, p, i);
-        let a = 2 * i;
-        points[a] = s.x;
-        points[a + 1] = s.y;
+        write::put_point(points, 2 * i, s);
         i += 1;
     }
 }

@@ -14,7 +14,7 @@ use Rattle.basis.specs.All.{all-mem}
 use Rattle.select.specs.declared.best.Selected.the-variants.{Slice}
 use Rattle.stitch_run.specs.Run.{Rules, Next, onto, ends, noCandidate, Underway, Finished, Stitched, free, candidate, candidatesOf, taken, answered, asked, nextOf}
 use Rattle.stitch_run.specs.Run.{opened, onward, ended, walk, chainFrom, added, begun, turn, turns, run, passing}
-use Rattle.stitch_run.specs.Demand3.{Ascending}
+use Rattle.select.specs.SelectTheorems.{Ascending}
 use Rattle.stitch_run.specs.TallyLaws.{passing-mem, passing-all, passing-ascends, passing-same}
 
 -- m + 1 slices, and what a chain has built once slice i is joined

@@ -22,7 +22,7 @@ use Rattle.select.specs.declared.best.Selected.the-variants.{Slice, NoSlice}
 use Rattle.select.specs.Select.{classOf, preferenceOf, suitsOf, firstThat, orElse, choose, choicesOf, pickOf, selectOf}
 use Rattle.stitch_vertices.specs.Vertices.{addView, dropLast}
 use Rattle.stitch_run.specs.Run.{Chain}
-use Rattle.stitch_run.specs.Stitch.{Given, given, addSlice, offersTo, rulesOf, runOf, sumBelow, weightAt, needFor, needOf}
+use Rattle.stitch_run.specs.Stitch.{Given, given, planOf, addSlice, offersTo, rulesOf, runOf, sumBelow, weightAt, needFor, needOf}
 use Rattle.stitch_run.specs.LineLaws.{InLine, whole, whole-built, alone}
 use Rattle.stitch_run.specs.StitchExamples.{n2, n4, t, at, from, slices, needs}
 
@@ -46,7 +46,7 @@ numbersOf (suc m) = from +0 +0 n2 +0 ++ copies (from n2 +0 n2 +0) m
 abbrev pub toAndFro : ℕ → Given
 toAndFro n =
     let outline = at +0 +0 ++ at n4 +0 in
-    given outline 2 outline 2 (copies codes n) (numbersOf n) n (record { pline2 = n; «pline1_overlapping» = n; «pline2_overlapping» = n }) 0 t
+    given outline outline (copies codes n) (numbersOf n) (planOf 2 2 n (record { pline2 = n; «pline1_overlapping» = n; «pline2_overlapping» = n }) 0 t)
 
 -- ---- its lists
 

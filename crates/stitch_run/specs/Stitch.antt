@@ -15,9 +15,10 @@ use Rattle.slice.specs.Slice.{codesAt, sliceView, sliceOffset}
 use Rattle.select.specs.declared.class.Starts.{Starts}
 use Rattle.select.specs.Select.{selectOf}
 use Rattle.stitch_vertices.specs.Vertices.{addView, dropLast}
+use Rattle.stitch_run.specs.declared.plan.Plan.{Plan}
 use Rattle.stitch_run.specs.Run.{Rules, Chain, Ending, closed, tooSmall, noCandidate, noSelection, run, slicesOf, roundsOf, orderOf}
 
--- What a call has: both outlines with their counts; the slices, as a list of indexes, a list of numbers and a count; where their classes start;
+-- What a call has: both outlines with their counts; the slices, as a list of codes, a list of numbers and a count; where their classes start;
 -- the selector, 0 for OrAnd and 1 for NotXor; the tolerance.
 pub record Given : Type 0 where
   pub outline1 : List Float
@@ -31,21 +32,25 @@ pub record Given : Type 0 where
   pub selector : ℕ
   pub tolerance : Tolerance
 
--- the same of the parameters of a function, in their order
-abbrev pub given : List Float → ℕ → List Float → ℕ → List ℕ → List Float → ℕ → Starts → ℕ → Tolerance → Given
-given o1 vc1 o2 vc2 at numbers n starts selector t =
+-- the same of a function's parameters: the four lists, and the plan that holds all else
+abbrev pub given : List Float → List Float → List ℕ → List Float → Plan → Given
+given o1 o2 at numbers p =
     record {
       outline1 = o1;
-      vc1 = vc1;
+      vc1 = p .vc1;
       outline2 = o2;
-      vc2 = vc2;
+      vc2 = p .vc2;
       sliceAt = at;
       slice = numbers;
-      slices = n;
-      starts = starts;
-      selector = selector;
-      tolerance = t;
+      slices = p .slices;
+      starts = p .starts;
+      selector = p .selector;
+      tolerance = p .tolerance;
     }
+
+-- a plan of its numbers, in the order in which an entry has them
+abbrev pub planOf : ℕ → ℕ → ℕ → Starts → ℕ → Tolerance → Plan
+planOf vc1 vc2 n starts selector t = record { vc1 = vc1; vc2 = vc2; slices = n; starts = starts; selector = selector; tolerance = t }
 
 -- ---- a slice
 

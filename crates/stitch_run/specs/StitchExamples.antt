@@ -14,7 +14,7 @@ use Rattle.select.specs.Select.{classOf, preferenceOf, suitsOf, firstThat, orEl
 use Rattle.stitch_vertices.specs.Vertices.{addVertex, addFirst, addView, dropLast}
 use Rattle.stitch_run.specs.Run.{passing, free, candidate, candidatesOf, taken, answered, asked, nextOf, roundOf, opened, onward, ended}
 use Rattle.stitch_run.specs.Run.{walk, chainFrom, added, begun, turn, turns, run, slicesOf, roundsOf, orderOf}
-use Rattle.stitch_run.specs.Stitch.{Given, given, sliceOutline, sliceCount, sliceVertex, startPoint, addSlice}
+use Rattle.stitch_run.specs.Stitch.{Given, given, planOf, sliceOutline, sliceCount, sliceVertex, startPoint, addSlice}
 use Rattle.slice.specs.Slice.{codesAt, shapeAt, sliceView}
 use Rattle.stitch_run.specs.Stitch.{offersTo, rulesOf, runOf, loopOf, loopsOf, howOf, totals, roundCount, loopCount, chainCount, roomItems}
 use Rattle.stitch_run.specs.Stitch.{endItems, chainItems, chainEndItems, howItems, sumBelow, weightAt, needFor, needOf}
@@ -90,7 +90,7 @@ from sx sy ex ey = at sx sy ++ (+0 ∷ ex ∷ ey ∷ [])
 -- a stitch on the sheet, with n slices, their starts a, b and c, and a selector
 abbrev sheet : List ℕ → List Float → ℕ → ℕ → ℕ → ℕ → ℕ → Given
 sheet sliceAt slice n a b c selector =
-    given squareA 4 squareB 4 sliceAt slice n (record { pline2 = a; «pline1_overlapping» = b; «pline2_overlapping» = c }) selector t
+    given squareA squareB sliceAt slice (planOf 4 4 n (record { pline2 = a; «pline1_overlapping» = b; «pline2_overlapping» = c }) selector t)
 
 abbrev needed : Given → ℕ
 needed g = needOf (g .sliceAt) (g .slices)

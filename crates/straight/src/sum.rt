@@ -7,7 +7,8 @@ ghost use mathlib.Core.Path.{_≡_};
 ghost use Prim.Native.Nat.{_<_};
 ghost use lib.IntN.{pos, _-ℤ_};
 ghost use Rattle.whole.specs.Two.{value};
-ghost use Rattle.straight.specs.Plane.{spots, one, winding, area};
+ghost use Rattle.basis.specs.Choice.{codeOf};
+ghost use Rattle.straight.specs.Plane.{spots, winding, area};
 ghost use Rattle.straight.specs.Ready.{Outline, Probed, Few, next};
 ghost use Rattle.straight.specs.Words.{areaWords};
 
@@ -20,8 +21,8 @@ fn after(i: usize, n: usize) -> usize
 }
 
 // 1 for yes.
-fn one_of(t: bool) -> u64
-    ensures { λ r. ⌜ r ≡ one t ⌝ }
+fn code_of(t: bool) -> u64
+    ensures { λ r. ⌜ r ≡ codeOf t ⌝ }
 {
     if t { 1 } else { 0 }
 }
@@ -44,8 +45,8 @@ pub fn winding_of(l: &[i64], n: usize, x: i64, y: i64) -> i64
     let mut i: usize = 0;
     while i < n {
         let j = after(i, n);
-        up += one_of(edge::rises_at(l, i, j, x, y));
-        down += one_of(edge::rises_at(l, j, i, x, y));
+        up += code_of(edge::rises_at(l, i, j, x, y));
+        down += code_of(edge::rises_at(l, j, i, x, y));
         i += 1;
     }
     balance(up, down)

@@ -1,4 +1,4 @@
-use Rattle.stitch_round.specs.ScanLaws.{slicing}
+use Rattle.stitch_round.proofs.Slicing.{slicing}
 use borrow.Author.Needs.{needs}
 use Rattle.stitch_round.proofs.slices.add_slice.Statement.{statement}
 use Rattle.stitch_round.proofs.slices.add_slice.Tie as tie
