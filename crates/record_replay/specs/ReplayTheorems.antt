@@ -12,12 +12,11 @@ use Rattle.basis.specs.Choice.{by-test}
 use Rattle.basis.specs.EachLaws.{each-at}
 use Rattle.basis.specs.Refuse.{Row, firstOf, answer, countFor}
 use Rattle.basis.specs.RefuseLaws.{Clear, clear, clear-left, clear-right, none-clear, length-ok, one-answer, first-found, first-later}
-use Rattle.stitch_run.specs.Demand3Theorems.{no-rounds-fault}
 use Rattle.stitch_run.specs.Stitch.{Given, sumBelow, weightAt, needFor, needOf}
 use Rattle.slice.specs.Slice.{codesAt}
 use Rattle.stitch.specs.Lent.{Lists}
 use Rattle.stitch_entries.specs.StitchRows.{listRows, codeRows, numberRows, offsetsInside, indexRows, roomRows}
-use Rattle.stitch_entries.specs.StitchEntry.{shapeRows, guardRows, stitchRefusal, stitchNumber}
+use Rattle.stitch_entries.specs.StitchEntry.{shapeRows, stitchRefusal, stitchNumber}
 use Rattle.fields.specs.Fields.{size}
 use Rattle.record.specs.Form.{form1}
 use Rattle.record.specs.Record.{headIn, stitchOf, stitchIn, frameRows, lengthIn, takenRows, countRows, readRefusal}
@@ -117,7 +116,7 @@ module _ (b : List ℕ) (z : formNumber b ≡ 0) where
       unfolding needOf
       need = need-small (weightAt (g .sliceAt)) (g .slices) few weight-small
 
-      rooms-clear : Clear (rooms ++ guardRows g)
+      rooms-clear : Clear rooms
       rooms-clear = (
         le-ltb (length (x .room)) (3 * needOf (g .sliceAt) (g .slices)) (omega (arith, need, roomy .room)),
         (
@@ -128,7 +127,7 @@ module _ (b : List ℕ) (z : formNumber b ≡ 0) where
               le-ltb (length (x .chainEnds)) (g .slices) (omega (arith, few, roomy .chainEnds)),
               (
                 le-ltb (length (x .chainHow)) (g .slices) (omega (arith, few, roomy .chainHow)),
-                (no-rounds-fault g, tt),
+                tt,
               ),
             ),
           ),
@@ -137,7 +136,7 @@ module _ (b : List ℕ) (z : formNumber b ≡ 0) where
 
       clear-number : stitchNumber g x ≡ firstOf (shapeRows g)
       unfolding stitchRefusal
-      clear-number = first-later (shapeRows g) (rooms ++ guardRows g) ok ∙ none-clear (rooms ++ guardRows g) rooms-clear ∙ sym (none-clear (shapeRows g) ok)
+      clear-number = first-later (shapeRows g) rooms ok ∙ none-clear rooms rooms-clear ∙ sym (none-clear (shapeRows g) ok)
 
     -- then the stitch's number is one of 1 to 8, or none
     shape-number : stitchNumber g x ≡ firstOf (shapeRows g)
@@ -146,7 +145,7 @@ module _ (b : List ℕ) (z : formNumber b ≡ 0) where
         (λ f. found (eqb-false (firstOf (shapeRows g)) 0 f))
       where
         found : (firstOf (shapeRows g) ≡ 0 → ⊥) → stitchNumber g x ≡ firstOf (shapeRows g)
-        found h = unfold stitchRefusal in first-found (shapeRows g) (rooms ++ guardRows g) h
+        found h = unfold stitchRefusal in first-found (shapeRows g) rooms h
 
 -- with the program's lists a replay's number is 11, 12, 13, 1 or 2 of the reader, or one of 1 to 8 of the stitch that the bytes hold
 pub never-9 : (b : List ℕ) (x : Lists) → Roomy x → replayNumber b x ≡ answer (λ (n : ℕ). n) (formNumber b) (firstOf (shapeRows (heldIn b)))
