@@ -42,8 +42,7 @@ use Rattle.prune_entries.specs.PruneEntryLaws.{prune-accepted, prune-sound}
 use Rattle.stitch_run.specs.Stitch as stitch
 use Rattle.stitch.specs.Lent.{Lists, Long}
 use Rattle.stitch_run.specs.Demand3Theorems.{no-rounds-fault}
-use Rattle.stitch_entries.specs.StitchRows as rows
-use Rattle.stitch_entries.specs.StitchRows.{codeRows, numberRows, startsFault, roomRows}
+use Rattle.stitch_entries.specs.StitchRows.{startsFault}
 use Rattle.stitch_entries.specs.StitchEntry as stitched
 use Rattle.stitch_entries.specs.StitchEntry.{shapeRows, stitchRefusal, stitchNumber}
 
@@ -247,11 +246,11 @@ pub record StitchPass (g : stitch.Given) (x : Lists) : Type 0 where
 pub stitch-passes : (g : stitch.Given) (x : Lists) → StitchPass g x → stitchNumber g x ≡ 0
 unfolding stitchRefusal
 stitch-passes g x p =
-    let listed = rows.listRows (length (g .outline1)) (g .vc1) (length (g .outline2)) (g .vc2) (length (g .sliceAt)) (length (g .slice)) (g .slices) in
-    let coded = codeRows (g .vc1) (g .vc2) (g .selector) (g .sliceAt) in
-    let numbered = numberRows (g .tolerance) (g .outline1) (g .outline2) (g .slice) in
-    let indexed = rows.indexRows (g .vc1) (g .vc2) (g .sliceAt) (g .starts) (g .slices) in
-    let lent = roomRows (g .sliceAt) (g .slices) (length (x .room)) (length (x .ends)) (length (x .chain)) (length (x .chainEnds)) (length (x .chainHow)) in
+    let listed = stitched.listPart g in
+    let coded = stitched.codePart g in
+    let numbered = stitched.numberPart g in
+    let indexed = stitched.indexPart g in
+    let lent = stitched.roomPart g (stitched.lengthsOf x) in
     let s = p .slices in
     let a = p .slices .fit in
     let lists : Clear listed = (

@@ -23,9 +23,9 @@ use Rattle.candidate_entries.specs.Candidates.{candOpenRows, guardRows, candida
 use Rattle.prune.specs.Prune as Prune
 use Rattle.prune_entries.specs.PruneEntry.{inputRows, lentRows, pruneRefusal}
 use Rattle.stitch_run.specs.Stitch as stitch
-use Rattle.stitch_entries.specs.StitchRows.{roomRows}
+use Rattle.stitch_entries.specs.declared.faults.Lengths.{Lengths}
 use Rattle.stitch_entries.specs.StitchEntry as stitched
-use Rattle.stitch_entries.specs.StitchEntry.{shapeRows, stitchRefusal}
+use Rattle.stitch_entries.specs.StitchEntry.{shapeRows, roomPart, stitchRefusal}
 use Rattle.area_entries.specs.AreaEntry.{areaRows, areaRefusal}
 use Rattle.straight_entries.specs.WindingEntry.{windingRows, windingRefusal}
 use Rattle.straight_entries.specs.AreaEntry as straight
@@ -64,10 +64,9 @@ pub prune-first : (g : Prune.Given) (at slice : ℕ) → First (inputRows g ++ l
 unfolding pruneRefusal inputRows before refusalOrder
 prune-first g at slice = first-of (inputRows g ++ lentRows g at slice) tt
 
-pub stitch-first : (g : stitch.Given) (room ends chain chainEnds chainHow : ℕ)
-    → First (shapeRows g ++ (roomRows (g .sliceAt) (g .slices) room ends chain chainEnds chainHow ++ stitched.guardRows g)) (stitchRefusal g room ends chain chainEnds chainHow)
+pub stitch-first : (g : stitch.Given) (l : Lengths) → First (shapeRows g ++ (roomPart g l ++ stitched.guardRows g)) (stitchRefusal g l)
 unfolding stitchRefusal before refusalOrder
-stitch-first g room ends chain chainEnds chainHow = first-of (shapeRows g ++ (roomRows (g .sliceAt) (g .slices) room ends chain chainEnds chainHow ++ stitched.guardRows g)) tt
+stitch-first g l = first-of (shapeRows g ++ (roomPart g l ++ stitched.guardRows g)) tt
 
 pub area-first : (areas : List Float) (loops : ℕ) (limit : Float) (kept : ℕ) → First (areaRows areas loops limit kept) (areaRefusal areas loops limit kept)
 unfolding areaRefusal before refusalOrder

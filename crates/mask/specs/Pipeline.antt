@@ -131,8 +131,8 @@ module _ (one : Made 1) (two : Made 2) (laps : Laps one two) where
       -- what the host hands on: the outlines, as many slices as were counted, their starts
       abbrev pub stitchCall : ℕ → stitch.Given
       stitchCall selector =
-          stitch.given (one .handed .outline) (one .handed .vc) (two .handed .outline) (two .handed .vc) (take (codeWidth * r .slices) (left .at)) (take (shapeWidth * r .slices) (left .shape)) (r .slices) (r .starts)
-          selector (one .handed .tolerance)
+          stitch.given (one .handed .outline) (two .handed .outline) (take (codeWidth * r .slices) (left .at)) (take (shapeWidth * r .slices) (left .shape))
+          (stitch.planOf (one .handed .vc) (two .handed .vc) (r .slices) (r .starts) selector (one .handed .tolerance))
 
       pub pruned : r .refusal ≡ 0
       pruned = ap (λ (a : PruneAnswer). a .refusal) (answer-accepted pruneRefused (pruneNumber call l) _ r (holds .answers) (prune-accepts l roomy))

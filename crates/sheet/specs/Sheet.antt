@@ -34,6 +34,7 @@ use Rattle.stitch_run.specs.Stitch.{roundCount, roomItems, endItems}
 use Rattle.stitch.specs.Lent.{Lists}
 use Rattle.stitch_entries.specs.declared.answer.StitchAnswer.{StitchAnswer}
 use Rattle.stitch_entries.specs.Answers.{stitchRefused}
+use Rattle.stitch_entries.specs.StitchRows.{lengths}
 use Rattle.stitch_entries.specs.StitchEntry.{stitchRefusal, StitchLeft}
 
 -- ---- what a case says
@@ -73,8 +74,8 @@ Holds (loopsAre g rounds ends loops room) =
     × ((stitch.loopCount g ≡ length ends) × (endItems g ≡ ends))
     × (roomItems g ≡ loops)
     × (stitch.needOf (g .sliceAt) (g .slices) ≡ room)
-    × (stitchRefusal g (3 * room) (g .slices) (g .slices) (g .slices) (g .slices) ≡ 0)
-Holds (refusedWith g room number) = (stitchRefusal g (3 * room) (g .slices) (g .slices) (g .slices) (g .slices) ≡ number) × (0 < number)
+    × (stitchRefusal g (lengths (3 * room) (g .slices) (g .slices) (g .slices) (g .slices)) ≡ 0)
+Holds (refusedWith g room number) = (stitchRefusal g (lengths (3 * room) (g .slices) (g .slices) (g .slices) (g .slices)) ≡ number) × (0 < number)
 Holds (apartInBox o vc i a b t) =
     (pointsAgree t (posOf a) (posOf b) ≡ false) × (pointsAgree t (posOf b) (posOf a) ≡ false) × (inBox t (posOf a) (posOf b) ≡ true) × (inBox t (posOf b) (posOf a) ≡ true)
     × (singleRefusal o vc i a (posOf b) t ≡ 0)
@@ -164,10 +165,10 @@ twoFrom i j k = record { slices = 2; starts = starts i j k }
 
 -- the stitch of what pruning gives
 abbrev pub stitchOf : ℕ → ℕ → stitch.Given
-stitchOf mode selector = stitch.given a 4 b 4 (sliceCodes (prunedBy mode)) (sliceShapes (prunedBy mode)) 2 (starts 1 2 2) selector t
+stitchOf mode selector = stitch.given a b (sliceCodes (prunedBy mode)) (sliceShapes (prunedBy mode)) (stitch.planOf 4 4 2 (starts 1 2 2) selector t)
 
 abbrev pub nothing : stitch.Given
-nothing = stitch.given a 4 b 4 [] [] 0 (starts 0 0 0) 0 t
+nothing = stitch.given a b [] [] (stitch.planOf 4 4 0 (starts 0 0 0) 0 t)
 
 -- a corner of a loop, and one from an inverted slice, whose bulge is −0
 abbrev at : ℕ → ℕ → List Float
@@ -210,7 +211,7 @@ on x = record { x = x; y = +0; bulge = +0 }
 
 abbrev pub overTheGap : stitch.Given
 overTheGap =
-    stitch.given a 4 b 4 (1 ∷ 0 ∷ 0 ∷ 4 ∷ []) (oneHalf ∷ +0 ∷ +0 ∷ +0 ∷ ofInt binary64 (pos 1) ∷ +0 ∷ []) 1 (starts 1 1 1) 0 half
+    stitch.given a b (1 ∷ 0 ∷ 0 ∷ 4 ∷ []) (oneHalf ∷ +0 ∷ +0 ∷ +0 ∷ ofInt binary64 (pos 1) ∷ +0 ∷ []) (stitch.planOf 4 4 1 (starts 1 1 1) 0 half)
 
 -- ---- the list
 abbrev pub sheet : List Case

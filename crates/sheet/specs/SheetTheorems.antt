@@ -55,7 +55,7 @@ use Rattle.slice.specs.Slice.{codesAt, shapeAt, sliceView}
 use Rattle.stitch_run.specs.Stitch.{offersTo, rulesOf, runOf, loopOf, loopsOf, howOf, totals, roundCount, loopCount, roomItems}
 use Rattle.stitch_run.specs.Stitch.{endItems, sumBelow, weightAt, needFor}
 use Rattle.stitch.specs.Lent.{Lists}
-use Rattle.stitch_entries.specs.StitchRows.{startsFault}
+use Rattle.stitch_entries.specs.StitchRows.{startsFault, lengths}
 use Rattle.stitch_entries.specs.declared.answer.StitchAnswer.{StitchAnswer}
 use Rattle.stitch_entries.specs.Answers.{stitchRefused, stitchGiven}
 use Rattle.stitch_entries.specs.StitchEntry.{stitchRefusal, stitchNumber}
@@ -166,7 +166,7 @@ slices-answer c p h l r left rooms holds =
     answer-accepted pruneRefused (pruneNumber c l) _ r (holds .answers) none ∙ ap pruneGiven (h .0)
 
 module _ (g : stitch.Given) (room : ℕ) (x : Lists) (rooms : LoopRooms g room x) where
-  number-is : (n : ℕ) → stitchRefusal g (3 * room) (g .slices) (g .slices) (g .slices) (g .slices) ≡ n → stitchNumber g x ≡ n
+  number-is : (n : ℕ) → stitchRefusal g (lengths (3 * room) (g .slices) (g .slices) (g .slices) (g .slices)) ≡ n → stitchNumber g x ≡ n
   number-is n h = rw (rooms .room, rooms .ends, rooms .chain, rooms .chainEnds, rooms .chainHow) h
 
 loops-answer : (g : stitch.Given) (n : ℕ) (ends : List ℕ) (loops : List Float) (room : ℕ) → Holds (loopsAre g n ends loops room) → Answers (loopsAre g n ends loops room)

@@ -25,11 +25,11 @@ use Rattle.stitch.specs.declared.write.Stitched.{Stitched}
 use Rattle.stitch_entries.specs.declared.answer.StitchAnswer.{StitchAnswer}
 use Rattle.stitch_entries.specs.declared.faults.Lengths.{Lengths}
 use Rattle.stitch_entries.specs.Answers.{stitchRefused, stitchGiven}
-use Rattle.stitch_entries.specs.StitchEntry.{listsOf, codesOf, numbersOf, indexesOf, shapeRows, roomsOf, stitchRefusal, lengthsOf, stitchNumber, StitchLeft}
+use Rattle.stitch_entries.specs.StitchEntry.{listPart, codePart, numberPart, indexPart, shapeRows, roomPart, stitchRefusal, lengthsOf, stitchNumber, StitchLeft}
 
 module _ (g : Given) where
   -- each slice's view fits its own outline
-  module _ (a : Clear (listsOf g)) (b : Clear (codesOf g)) (c : Clear (indexesOf g)) where
+  module _ (a : Clear (listPart g)) (b : Clear (codePart g)) (c : Clear (indexPart g)) where
     at-codes : length (g .sliceAt) ≡ codeWidth * g .slices
     at-codes = length-ok codeWidth (length (g .sliceAt)) (g .slices) (a .1 .1 .0)
 
@@ -71,17 +71,17 @@ module _ (g : Given) where
 
   -- the three parts of a clear table that say so
   module _ (ok : Clear (shapeRows g)) where
-    past-lists : Clear (codesOf g ++ (numbersOf g ++ indexesOf g))
-    past-lists = clear-right (listsOf g) (codesOf g ++ (numbersOf g ++ indexesOf g)) ok
+    past-lists : Clear (codePart g ++ (numberPart g ++ indexPart g))
+    past-lists = clear-right (listPart g) (codePart g ++ (numberPart g ++ indexPart g)) ok
 
-    first-part : Clear (listsOf g)
-    first-part = clear-left (listsOf g) (codesOf g ++ (numbersOf g ++ indexesOf g)) ok
+    first-part : Clear (listPart g)
+    first-part = clear-left (listPart g) (codePart g ++ (numberPart g ++ indexPart g)) ok
 
-    second-part : Clear (codesOf g)
-    second-part = clear-left (codesOf g) (numbersOf g ++ indexesOf g) past-lists
+    second-part : Clear (codePart g)
+    second-part = clear-left (codePart g) (numberPart g ++ indexPart g) past-lists
 
-    last-part : Clear (indexesOf g)
-    last-part = clear-right (numbersOf g) (indexesOf g) (clear-right (codesOf g) (numbersOf g ++ indexesOf g) past-lists)
+    last-part : Clear (indexPart g)
+    last-part = clear-right (numberPart g) (indexPart g) (clear-right (codePart g) (numberPart g ++ indexPart g) past-lists)
 
     sound : Sound g
     sound = sound-of first-part second-part last-part
@@ -100,23 +100,23 @@ module _ (g : Given) where
 
   module _ (l : Lengths) where
     abbrev rest : List Row
-    rest = roomsOf g l
+    rest = roomPart g l
 
     pub shape-found : (r : ℕ) → r ≡ firstFrom 0 (shapeRows g) → (r ≡ 0 → ⊥) → r ≡ stitchRefusal g l
     unfolding stitchRefusal
     shape-found r e h = first-from (shapeRows g ++ rest) r tt (then-rows r r 0 (shapeRows g) rest (stays r rest h) e)
 
-    pub room-found : (r p : ℕ) → p ≡ firstFrom 0 (shapeRows g) → p ≡ 0 → r ≡ firstFrom 0 (roomsOf g l) → r ≡ stitchRefusal g l
+    pub room-found : (r p : ℕ) → p ≡ firstFrom 0 (shapeRows g) → p ≡ 0 → r ≡ firstFrom 0 (roomPart g l) → r ≡ stitchRefusal g l
     unfolding stitchRefusal
     room-found r p e z q =
         first-from (shapeRows g ++ rest) r tt
-        (then-rows r p 0 (shapeRows g) rest (subst (λ (n : ℕ). r ≡ firstFrom n (roomsOf g l)) (sym z) q) e)
+        (then-rows r p 0 (shapeRows g) rest (subst (λ (n : ℕ). r ≡ firstFrom n (roomPart g l)) (sym z) q) e)
 
   module _ (x : Lists) where
     pub stitch-accepted : (number : ℕ) → number ≡ stitchNumber g x → number ≡ 0 → StitchFit g x
     unfolding stitchRefusal
     stitch-accepted number e z =
-        let rooms = roomsOf g (lengthsOf x) in
+        let rooms = roomPart g (lengthsOf x) in
         let ok = clear (shapeRows g ++ rooms) tt (sym e ∙ z) in
         let d : Clear rooms = clear-right (shapeRows g) rooms ok in
         record {

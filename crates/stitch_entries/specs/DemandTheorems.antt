@@ -26,7 +26,7 @@ use Rattle.stitch_run.specs.NeedIsTight.{toAndFro, Tight, need-is-tight}
 use Rattle.stitch.specs.Lent.{Lists, Long}
 use Rattle.stitch_entries.specs.declared.answer.StitchAnswer.{StitchAnswer}
 use Rattle.stitch_entries.specs.Answers.{stitchRefused, stitchGiven}
-use Rattle.stitch_entries.specs.StitchEntry.{shapeRows, roomsOf, lengthsOf, stitchRefusal, stitchNumber, StitchLeft}
+use Rattle.stitch_entries.specs.StitchEntry.{shapeRows, roomPart, lengthsOf, stitchRefusal, stitchNumber, StitchLeft}
 use Rattle.stitch_entries.specs.TightLaws.{tight-shape}
 use Rattle.stitch_entries.specs.Demand.{parted, chainsIn, Demanded, Shorter}
 
@@ -68,7 +68,7 @@ first-same n (row false m ∷ s) h (inr a) = first-same n s (T-right (eqb m n) (
 
 -- the rows of number 9
 abbrev rooms : Given → Lists → List Row
-rooms g x = roomsOf g (lengthsOf x)
+rooms g x = roomPart g (lengthsOf x)
 
 -- ---- an accepted call
 

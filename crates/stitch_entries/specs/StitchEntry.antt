@@ -14,28 +14,28 @@ use Rattle.stitch_entries.specs.Answers.{stitchRefused, stitchGiven}
 use Rattle.stitch_entries.specs.StitchRows.{listRows, codeRows, numberRows, indexRows, lengths, roomRows}
 
 -- a call's table, part by part
-abbrev pub listsOf : Given → List Row
-listsOf g = listRows (length (g .outline1)) (g .vc1) (length (g .outline2)) (g .vc2) (length (g .sliceAt)) (length (g .slice)) (g .slices)
+abbrev pub listPart : Given → List Row
+listPart g = listRows (length (g .outline1)) (g .vc1) (length (g .outline2)) (g .vc2) (length (g .sliceAt)) (length (g .slice)) (g .slices)
 
-abbrev pub codesOf : Given → List Row
-codesOf g = codeRows (g .vc1) (g .vc2) (g .selector) (g .sliceAt)
+abbrev pub codePart : Given → List Row
+codePart g = codeRows (g .vc1) (g .vc2) (g .selector) (g .sliceAt)
 
-abbrev pub numbersOf : Given → List Row
-numbersOf g = numberRows (g .tolerance) (g .outline1) (g .outline2) (g .slice)
+abbrev pub numberPart : Given → List Row
+numberPart g = numberRows (g .tolerance) (g .outline1) (g .outline2) (g .slice)
 
-abbrev pub indexesOf : Given → List Row
-indexesOf g = indexRows (g .vc1) (g .vc2) (g .sliceAt) (g .starts) (g .slices)
+abbrev pub indexPart : Given → List Row
+indexPart g = indexRows (g .vc1) (g .vc2) (g .sliceAt) (g .starts) (g .slices)
 
 -- 1 to 8
 abbrev pub shapeRows : Given → List Row
-shapeRows g = listsOf g ++ (codesOf g ++ (numbersOf g ++ indexesOf g))
+shapeRows g = listPart g ++ (codePart g ++ (numberPart g ++ indexPart g))
 
 -- 9
-abbrev pub roomsOf : Given → Lengths → List Row
-roomsOf g l = roomRows (g .sliceAt) (g .slices) l
+abbrev pub roomPart : Given → Lengths → List Row
+roomPart g l = roomRows (g .sliceAt) (g .slices) l
 
 unfoldable pub stitchRefusal : Given → Lengths → ℕ
-stitchRefusal g l = firstOf (shapeRows g ++ roomsOf g l)
+stitchRefusal g l = firstOf (shapeRows g ++ roomPart g l)
 
 -- how long the lists of a call are
 abbrev pub lengthsOf : Lists → Lengths
