@@ -1,5 +1,5 @@
 -- What holds of the candidates, for every outline and every order of cuts: no walk goes further than once round, and start and offset are what the next entry accepts.
-use Prim.Native.Nat.{ℕ, zero, suc, _+_, _*_, _≤_, _<_, zero-le}
+use Prim.Native.Nat.{ℕ, zero, suc, _+_, _-_, _*_, _≤_, _<_, zero-le}
 use mathlib.Core.Bool.{Bool, true, false, not, _&&_, true≢false}
 use mathlib.Core.Path.{_≡_, refl, sym, ap, _∙_}
 use mathlib.Core.List.{List, [], _∷_, _++_, flatMap}
@@ -23,7 +23,7 @@ use Rattle.candidate.specs.declared.at_cut.Candidate.the-variants.{Nothing, Sli
 use Rattle.candidate.specs.Candidates.{Given, segmentAt, markedAt, sameNext, firstFrom, firstCut, hasCut, traverseFrom, traverseOf, sliceOf, pieceOf, walkOf, walked, walkAt, candidateAt, kept, candidatesTo, candidatesOf, candCount, numbersOf, candNumbers}
 use Rattle.candidate.specs.Ready.{Sound}
 use Rattle.candidate.specs.SearchLaws.{segment-first, traverse-hit, traverse-miss, not-yet, first-here, first-later}
-use Rattle.candidate.specs.PieceLaws.{apart, piece-once}
+use Rattle.candidate.specs.PieceLaws.{together, apart, piece-once}
 use Rattle.candidate_write.specs.ItemLaws.{kept-few}
 
 -- ---- the search
@@ -107,8 +107,8 @@ piece-fits : (vc s : ℕ) (a b : Vertex) (t : Tolerance) → s < vc → EachFits
 unfolding pieceOf
 piece-fits vc s a b t h =
     by-test (pointsAgree t (posOf a) (posOf b))
-    (λ e. rw e tt)
-    (λ e. rw (e, apart s a b t e) (unfold sliceOf in (record { starts = h; reaches = zero-le }, tt)))
+    (λ e. rw (together s a b t e) (unfold sliceOf in tt))
+    (λ e. rw (apart s a b t e) (unfold sliceOf in (record { starts = h; reaches = zero-le }, tt)))
 
 module _ (g : Given) (sound : Sound g) (p : ℕ) (here : p < g .count) where
   walk-fits : EachFits (g .vc) (kept (walkAt g p))
