@@ -101,8 +101,9 @@ no-place cutAt count i h = le-ltb (firstFrom count cutAt i 0) count (omega (arit
 
 -- the search ends where the first segment passes
 traverse-to : (has : ℕ → Bool) (vc s r : ℕ) → ((k : ℕ) → 1 ≤ k → k < r → has (wrap vc (s + k)) ≡ false) → has (wrap vc (s + r)) ≡ true
-    → (left k : ℕ) → 1 ≤ k → k ≤ r → r < k + left → traverseFrom left has vc s k ≡ r
-traverse-to has vc s r none there zero k o h b = absurd (omega arith)
+    → (left k : ℕ) → 1 ≤ k → k ≤ r → r ≤ k + left → traverseFrom left has vc s k ≡ r
+unfolding traverseFrom
+traverse-to has vc s r none there zero k o h b = omega arith
 traverse-to has vc s r none there (suc left) k o h b =
     by-test (eqb k r) (λ x. let z = eqb-true k r x in traverse-hit has vc s left k (ap (λ (j : ℕ). has (wrap vc (s + j))) z ∙ there) ∙ z)
     (λ x. let z = eqb-false k r x in
@@ -173,7 +174,7 @@ module _ (vc : ℕ) (cutAt : List ℕ) (count p : ℕ) (given : LastCut vc cutAt
       let there = on-there vc s to d in
       let has : hasCut cutAt count (wrap vc (s + segmentsOn vc s to)) ≡ true = rw there (lt-ltb (firstCut cutAt count to) count (omega (arith, first-next, next .below))) in
       record {
-        traverses = e ∙ sym (traverse-to (hasCut cutAt count) vc s (segmentsOn vc s to) none-between has (vc + 1) 1 (omega arith) least (omega arith));
+        traverses = e ∙ sym (traverse-to (hasCut cutAt count) vc s (segmentsOn vc s to) none-between has (vc - 1) 1 (omega arith) least (omega arith));
         wraps = sym (ap (λ (j : ℕ). wrap vc (s + j)) e ∙ there);
         firstThere = sym first-next;
         least = omega arith;

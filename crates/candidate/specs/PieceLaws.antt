@@ -1,8 +1,7 @@
 -- A piece and the constructor's own test of its ends.
 use Prim.Native.Nat.{ℕ}
 use mathlib.Core.Bool.{true, false}
-use mathlib.Core.Path.{_≡_}
-use Rattle.basis.specs.Choice.{by-test}
+use mathlib.Core.Path.{_≡_, refl}
 use Rattle.basis.specs.declared.number.Tolerance.{Tolerance}
 use Rattle.outline.specs.declared.point.Vertex.{Vertex}
 use Rattle.outline.specs.Points.{posOf, pointsAgree}
@@ -12,7 +11,7 @@ use Rattle.candidate.specs.Candidates.{sliceOf, pieceOf}
 
 module _ (s : ℕ) (a b : Vertex) (t : Tolerance) where
   -- ends that agree have no view
-  together : pointsAgree t (posOf a) (posOf b) ≡ true → singleView s a (posOf b) t ≡ one.Collapsed
+  pub together : pointsAgree t (posOf a) (posOf b) ≡ true → singleView s a (posOf b) t ≡ one.Collapsed
   unfolding singleView
   together e = rw e
 
@@ -21,7 +20,7 @@ module _ (s : ℕ) (a b : Vertex) (t : Tolerance) where
   unfolding singleView
   apart e = rw e
 
-  -- so the constructor's own test is enough
+  -- a piece is what the constructor makes of it
   pub piece-once : pieceOf s a b t ≡ sliceOf (singleView s a (posOf b) t) a b
-  unfolding pieceOf sliceOf
-  piece-once = by-test (pointsAgree t (posOf a) (posOf b)) (λ e. rw (e, together e)) (λ e. rw e)
+  unfolding pieceOf
+  piece-once = refl

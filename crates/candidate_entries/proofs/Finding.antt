@@ -1,4 +1,4 @@
--- What the entry `mask_candidates` is proved by: the parts of its table and the dead guard, the two ways out, the cuts in lists of their own.
+-- What the entry `mask_candidates` is proved by: the parts of its table, the two ways out, the cuts in lists of their own.
 use Prim.Native.Nat.{ℕ, zero, suc, _*_, _≤_}
 use mathlib.Core.Bool.{Bool, false}
 use mathlib.Core.Path.{_≡_, refl, sym, ap, subst, _∙_}
@@ -21,36 +21,21 @@ use Rattle.cut_order.specs.CutsLaws.{numbers-length, points-length, written-len
 use Rattle.cut_order.specs.Write.{WriteRoom}
 use Rattle.candidate.specs.Candidates as slices
 use Rattle.candidate.specs.Ready.{Rooms, Ready, Written}
-use Rattle.candidate_write.specs.CandidateTheorems.{guard-dead}
 use Rattle.cut_entries.specs.CutRows.{listRows, valueRows, indexRows}
 use Rattle.candidate_entries.specs.declared.slicing.Lengths.{Lengths}
-use Rattle.candidate_entries.specs.Candidates.{alongCuts, laterRows, guardRows, candidatesRefusal, candNumber, Sliced, Accepted, frontsOf, InFront, FoundRoom, Few}
+use Rattle.candidate_entries.specs.Candidates.{alongCuts, laterRows, candidatesRefusal, candNumber, Sliced, Accepted, frontsOf, InFront, FoundRoom, Few}
 use Rattle.candidate_entries.specs.CandidatesLaws.{splits-pass, along, along-sound, cand-accepted}
 
 -- ---- the table in parts
 
--- a row that is never there where nothing was found before it
-dead-row : (r n : ℕ) (b : Bool) → (r ≡ 0 → b ≡ false) → r ≡ orElse r b n
-unfolding orElse
-dead-row zero n b h = rw (h refl)
-dead-row (suc r) n b h = refl
-
 module _ (g : Given) (splits : List Float) (lent : Lengths) (p : ℕ) (found : p ≡ firstFrom 0 (listRows g)) where
   pub cand-stops : (p ≡ 0 → ⊥) → p ≡ candidatesRefusal g splits lent
   unfolding candidatesRefusal
-  cand-stops h = stop-rows (listRows g) (laterRows g splits lent ++ guardRows g splits) p (unfold listRows in tt) found h
+  cand-stops h = stop-rows (listRows g) (laterRows g splits lent) p (unfold listRows in tt) found h
 
-  -- number 10 is never given
   pub cand-goes : (r : ℕ) → p ≡ 0 → r ≡ firstFrom 0 (laterRows g splits lent) → r ≡ candidatesRefusal g splits lent
-  unfolding candidatesRefusal firstFrom
-  cand-goes r z e =
-      let later = laterRows g splits lent in
-      let listed = clear-from (listRows g) p (unfold listRows in tt) found z in
-      let dead : r ≡ 0 → slices.anyWalkLost (alongCuts g splits) ≡ false =
-      λ y. guard-dead (alongCuts g splits)
-      (along-sound g splits (along g splits lent (splits-pass g splits lent listed (clear-from later r (unfold laterRows valueRows indexRows in tt) e y)))) in
-      go-rows (listRows g) (later ++ guardRows g splits) p r (unfold listRows in tt) (unfold laterRows valueRows indexRows in tt) found z
-      (then-rows r r 0 later (guardRows g splits) (dead-row r 10 (slices.anyWalkLost (alongCuts g splits)) dead) e)
+  unfolding candidatesRefusal
+  cand-goes r z e = go-rows (listRows g) (laterRows g splits lent) p r (unfold listRows in tt) (unfold laterRows valueRows indexRows in tt) found z e
 
 pub ruleset parts = (cand-stops, cand-goes)
 

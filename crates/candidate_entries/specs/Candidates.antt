@@ -47,12 +47,8 @@ unfoldable pub laterRows : Given → List Float → Lengths → List Row
 laterRows g splits lent =
     splitLengthRows (cutCount g) (length splits) ++ (valueRows g ++ (splitRows splits ++ (indexRows g ++ candRoomRows (cutCount g) lent)))
 
--- 10: "a walk took more than vc + 1 steps"
-abbrev pub guardRows : Given → List Float → List Row
-guardRows g splits = row (slices.anyWalkLost (alongCuts g splits)) 10 ∷ []
-
 abbrev pub candidatesRows : Given → List Float → Lengths → List Row
-candidatesRows g splits lent = listRows g ++ (laterRows g splits lent ++ guardRows g splits)
+candidatesRows g splits lent = listRows g ++ laterRows g splits lent
 
 unfoldable pub candidatesRefusal : Given → List Float → Lengths → ℕ
 candidatesRefusal g splits lent = firstOf (candidatesRows g splits lent)

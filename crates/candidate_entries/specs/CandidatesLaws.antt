@@ -16,7 +16,7 @@ use Rattle.candidate.specs.Ready.{Sound, Rooms}
 use Rattle.cut_entries.specs.CutRows.{listRows, valueRows, indexRows}
 use Rattle.cut_entries.specs.CutRowsLaws.{CutsPass, cuts-pass, cuts-accepted}
 use Rattle.candidate_entries.specs.declared.slicing.Lengths.{Lengths}
-use Rattle.candidate_entries.specs.Candidates.{alongCuts, lengths, splitLengthRows, splitRows, candRoomRows, laterRows, guardRows, candidatesRows, candidatesRefusal, candNumber, Along, Accepted}
+use Rattle.candidate_entries.specs.Candidates.{alongCuts, lengths, splitLengthRows, splitRows, candRoomRows, laterRows, candidatesRows, candidatesRefusal, candNumber, Along, Accepted}
 
 -- the rows without a fault, one by one
 pub record SplitsPass (g : Given) (splits : List Float) (lent : Lengths) : Type 0 where
@@ -42,9 +42,9 @@ splits-pass g splits lent listed ok =
 pub cand-pass : (g : Given) (splits : List Float) (lent : Lengths) → candidatesRefusal g splits lent ≡ 0 → SplitsPass g splits lent
 unfolding candidatesRefusal
 cand-pass g splits lent z =
-    let later = laterRows g splits lent ++ guardRows g splits in
+    let later = laterRows g splits lent in
     let ok : Clear (candidatesRows g splits lent) = clear (candidatesRows g splits lent) (unfold listRows valueRows indexRows laterRows in tt) z in
-    splits-pass g splits lent (clear-left (listRows g) later ok) (clear-left (laterRows g splits lent) (guardRows g splits) (clear-right (listRows g) later ok))
+    splits-pass g splits lent (clear-left (listRows g) later ok) (clear-right (listRows g) later ok)
 
 pub along : (g : Given) (splits : List Float) (lent : Lengths) → SplitsPass g splits lent → Along g splits
 along g splits lent p = record { accepted = cuts-accepted g (p .cuts); nine = p .nine }

@@ -40,7 +40,6 @@ use Rattle.prune_entries.specs.PruneEntry.{candsRows, lapsRows, codesRows, numb
 use Rattle.prune_entries.specs.PruneEntryLaws.{prune-accepted, prune-sound}
 use Rattle.stitch_run.specs.Stitch as stitch
 use Rattle.stitch.specs.Lent.{Lists, Long}
-use Rattle.stitch_run.specs.Demand3Theorems.{no-rounds-fault}
 use Rattle.stitch_entries.specs.StitchRows.{startsFault}
 use Rattle.stitch_entries.specs.StitchEntry as stitched
 use Rattle.stitch_entries.specs.StitchEntry.{shapeRows, stitchRefusal, stitchNumber}
@@ -245,8 +244,7 @@ stitch-passes g x p =
     let indexes : Clear indexed = (told-no (a .starts), (told-no (a .reaches), (s .ascend, tt))) in
     let rooms : Clear lent =
     (le-ltb _ _ (p .long .room), (le-ltb _ _ (p .long .ends), (le-ltb _ _ (p .long .chain), (le-ltb _ _ (p .long .chainEnds), (le-ltb _ _ (p .long .chainHow), tt))))) in
-    let guard : Clear (stitched.guardRows g) = (no-rounds-fault g, tt) in
-    none-clear (shapeRows g ++ (lent ++ stitched.guardRows g))
-    (clear-both (shapeRows g) (lent ++ stitched.guardRows g)
+    none-clear (shapeRows g ++ lent)
+    (clear-both (shapeRows g) lent
     (clear-both listed (coded ++ (numbered ++ indexed)) lists (clear-both coded (numbered ++ indexed) codes (clear-both numbered indexed numbers indexes)))
-    (clear-both lent (stitched.guardRows g) rooms guard))
+    rooms)

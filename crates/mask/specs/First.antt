@@ -65,9 +65,9 @@ pub prune-first : (g : Prune.Given) (at slice : ℕ) → First (inputRows g ++ l
 unfolding pruneRefusal inputRows before refusalOrder
 prune-first g at slice = first-of (inputRows g ++ lentRows g at slice) tt
 
-pub stitch-first : (g : stitch.Given) (l : Lengths) → First (shapeRows g ++ (roomPart g l ++ stitched.guardRows g)) (stitchRefusal g l)
+pub stitch-first : (g : stitch.Given) (l : Lengths) → First (shapeRows g ++ roomPart g l) (stitchRefusal g l)
 unfolding stitchRefusal before refusalOrder
-stitch-first g l = first-of (shapeRows g ++ (roomPart g l ++ stitched.guardRows g)) tt
+stitch-first g l = first-of (shapeRows g ++ roomPart g l) tt
 
 pub area-first : (areas : List Float) (loops : ℕ) (limit : Float) (kept : ℕ) → First (areaRows areas loops limit kept) (areaRefusal areas loops limit kept)
 unfolding areaRefusal before refusalOrder

@@ -1,4 +1,4 @@
--- Theorems about a replay: its contract leaves one answer, its number is the first that applies, and with the program's own lists it never gives 9 or 10.
+-- Theorems about a replay: its contract leaves one answer, its number is the first that applies, and with the program's own lists it never gives 9.
 use Prim.Native.Nat.{ℕ, zero, suc, _+_, _*_, _≤_, _<_}
 use mathlib.Core.Bool.{not, cond}
 use mathlib.Core.Path.{_≡_, refl, sym, ap, _∙_}
@@ -15,10 +15,9 @@ use Rattle.basis.specs.RefusalOrder.{refusalOrder, before, First}
 use Rattle.basis.specs.RefusalOrderLaws.{first-of}
 use Rattle.slice.specs.Slice.{codeWidth, shapeWidth, codesAt}
 use Rattle.slice.specs.SliceLaws.{offset-at}
-use Rattle.stitch_run.specs.Demand3Theorems.{no-rounds-fault}
 use Rattle.stitch_run.specs.Stitch.{Given, sumBelow, weightAt, needFor, needOf}
 use Rattle.stitch.specs.Lent.{Lists}
-use Rattle.stitch_entries.specs.StitchEntry.{listsOf, codesOf, numbersOf, indexesOf, shapeRows, roomsOf, guardRows, lengthsOf, stitchRefusal, stitchNumber}
+use Rattle.stitch_entries.specs.StitchEntry.{listPart, codePart, numberPart, indexPart, shapeRows, roomPart, lengthsOf, stitchRefusal, stitchNumber}
 use Rattle.fields.specs.Fields.{size}
 use Rattle.record.specs.Form.{form1, takenVertices, takenSlices}
 use Rattle.record.specs.Record.{planIn, headIn, stitchIn, frameRows, lengthIn, takenRows, countRows, roomRows, takenLengths, readRows}
@@ -41,16 +40,16 @@ replay-one b l r s x y p q = (
 -- ---- the table of a replay, in the order of the numbers: the frame, the length by the counts, then the stitch's own rows and among them those of what the
 -- program takes
 abbrev pub afterTaken : Given → List Row
-afterTaken g = codesOf g ++ (numbersOf g ++ indexesOf g)
+afterTaken g = codePart g ++ (numberPart g ++ indexPart g)
 
 abbrev pub stitchRows : Given → Lists → List Row
-stitchRows g x = afterTaken g ++ (roomsOf g (lengthsOf x) ++ guardRows g)
+stitchRows g x = afterTaken g ++ roomPart g (lengthsOf x)
 
 abbrev pub lengthRow : List ℕ → Row
 lengthRow b = row (not (eqb (length b) (lengthIn form1 (headIn form1 b)))) 13
 
 abbrev pub replayRows : List ℕ → Lists → List Row
-replayRows b x = frameRows 1 (size (form1 .head)) (form1 .most) b ++ (lengthRow b ∷ (listsOf (heldIn b) ++ (takenRows (planIn (heldIn b)) ++ stitchRows (heldIn b) x)))
+replayRows b x = frameRows 1 (size (form1 .head)) (form1 .most) b ++ (lengthRow b ∷ (listPart (heldIn b) ++ (takenRows (planIn (heldIn b)) ++ stitchRows (heldIn b) x)))
 
 module _ (b : List ℕ) where
   abbrev g : Given
@@ -75,7 +74,7 @@ module _ (b : List ℕ) where
   same-plan = refl
 
   -- so number 1 of the stitch is there only where the program's own is
-  lists-idle : (t : List Row) → firstOf (listsOf g ++ (takenRows (planIn g) ++ t)) ≡ firstOf (takenRows (planIn g) ++ t)
+  lists-idle : (t : List Row) → firstOf (listPart g ++ (takenRows (planIn g) ++ t)) ≡ firstOf (takenRows (planIn g) ++ t)
   unfolding firstOf
   lists-idle t =
       rw (
@@ -112,7 +111,7 @@ module _ (b : List ℕ) where
     rest = stitchRows g x
 
     -- the table without the rows that are idle
-    idle : (s : List Row) → firstOf (s ++ (lengthRow b ∷ (listsOf g ++ (takenRows (planIn g) ++ rest)))) ≡ firstOf (s ++ (counted ++ rest))
+    idle : (s : List Row) → firstOf (s ++ (lengthRow b ∷ (listPart g ++ (takenRows (planIn g) ++ rest)))) ≡ firstOf (s ++ (counted ++ rest))
     unfolding firstOf
     idle [] = rw (lists-idle rest, same-plan)
     idle (row c n ∷ s) = ap (cond c n) (idle s)
@@ -135,7 +134,7 @@ module _ (b : List ℕ) where
         let d : Clear counted = clear-right framed counted c in
         let few : g .slices ≤ takenSlices = rw same-plan at (ltb-false takenSlices (headIn form1 b .slices) (d .1 .0)) in
         let n : formNumber b ≡ 0 = read-number ∙ first-later (framed ++ counted) lent c ∙ none-clear lent (lent-clear d) in
-        let lists : Clear (listsOf g) = (
+        let lists : Clear (listPart g) = (
           ok-length 3 (length (g .outline1)) (g .vc1) (long .first),
           (
             ok-length 3 (length (g .outline2)) (g .vc2) (long .second),
@@ -146,7 +145,7 @@ module _ (b : List ℕ) where
           ),
         ) in
         sym (answer-yes (λ (k : ℕ). k) (formNumber b) (formNumber b) (stitchNumber g x) (stitchNumber g x) refl n refl)
-        ∙ first-later (listsOf g) rest lists ∙ sym (first-later (framed ++ counted) rest c) ∙ sym table-number
+        ∙ first-later (listPart g) rest lists ∙ sym (first-later (framed ++ counted) rest c) ∙ sym table-number
 
     replay-number : replayNumber b x ≡ firstOf (replayRows b x)
     replay-number =
@@ -189,14 +188,14 @@ module _ (b : List ℕ) (z : formNumber b ≡ 0) where
 
   module _ (x : Lists) (roomy : ProgramLists x) where
     abbrev rooms : List Row
-    rooms = roomsOf (g b) (lengthsOf x)
+    rooms = roomPart (g b) (lengthsOf x)
 
     module _ (ok : Clear (shapeRows (g b))) where
-      after : Clear (codesOf (g b) ++ (numbersOf (g b) ++ indexesOf (g b)))
-      after = clear-right (listsOf (g b)) (codesOf (g b) ++ (numbersOf (g b) ++ indexesOf (g b))) ok
+      after : Clear (codePart (g b) ++ (numberPart (g b) ++ indexPart (g b)))
+      after = clear-right (listPart (g b)) (codePart (g b) ++ (numberPart (g b) ++ indexPart (g b))) ok
 
-      indexed : Clear (indexesOf (g b))
-      indexed = clear-right (numbersOf (g b)) (indexesOf (g b)) (clear-right (codesOf (g b)) (numbersOf (g b) ++ indexesOf (g b)) after)
+      indexed : Clear (indexPart (g b))
+      indexed = clear-right (numberPart (g b)) (indexPart (g b)) (clear-right (codePart (g b)) (numberPart (g b) ++ indexPart (g b)) after)
 
       weight-small : (i : ℕ) → i < g b .slices → weightAt (g b .sliceAt) i ≤ takenVertices + 1
       unfolding weightAt
@@ -211,7 +210,7 @@ module _ (b : List ℕ) (z : formNumber b ≡ 0) where
       unfolding needOf
       need = need-small (weightAt (g b .sliceAt)) (g b .slices) few weight-small
 
-      rooms-clear : Clear (rooms ++ guardRows (g b))
+      rooms-clear : Clear rooms
       rooms-clear = (
         le-ltb (length (x .room)) (3 * needOf (g b .sliceAt) (g b .slices)) (omega (arith, need, roomy .room)),
         (
@@ -220,7 +219,7 @@ module _ (b : List ℕ) (z : formNumber b ≡ 0) where
             le-ltb (length (x .chain)) (g b .slices) (omega (arith, few, roomy .chain)),
             (
               le-ltb (length (x .chainEnds)) (g b .slices) (omega (arith, few, roomy .chainEnds)),
-              (le-ltb (length (x .chainHow)) (g b .slices) (omega (arith, few, roomy .chainHow)), (no-rounds-fault (g b), tt)),
+              (le-ltb (length (x .chainHow)) (g b .slices) (omega (arith, few, roomy .chainHow)), tt),
             ),
           ),
         ),
@@ -228,7 +227,7 @@ module _ (b : List ℕ) (z : formNumber b ≡ 0) where
 
       clear-number : stitchNumber (g b) x ≡ firstOf (shapeRows (g b))
       unfolding stitchRefusal
-      clear-number = first-later (shapeRows (g b)) (rooms ++ guardRows (g b)) ok ∙ none-clear (rooms ++ guardRows (g b)) rooms-clear ∙ sym (none-clear (shapeRows (g b)) ok)
+      clear-number = first-later (shapeRows (g b)) rooms ok ∙ none-clear rooms rooms-clear ∙ sym (none-clear (shapeRows (g b)) ok)
 
     -- then the stitch's number is one of 1 to 8, or none
     shape-number : stitchNumber (g b) x ≡ firstOf (shapeRows (g b))
@@ -237,7 +236,7 @@ module _ (b : List ℕ) (z : formNumber b ≡ 0) where
         (λ f. found (eqb-false (firstOf (shapeRows (g b))) 0 f))
       where
         found : (firstOf (shapeRows (g b)) ≡ 0 → ⊥) → stitchNumber (g b) x ≡ firstOf (shapeRows (g b))
-        found h = unfold stitchRefusal in first-found (shapeRows (g b)) (rooms ++ guardRows (g b)) h
+        found h = unfold stitchRefusal in first-found (shapeRows (g b)) rooms h
 
 -- with the program's lists a replay's number is 11, 12, 13, 1 or 2 of the reader, or one of 1 to 8 of the stitch that the bytes hold
 pub never-9 : (b : List ℕ) (x : Lists) → ProgramLists x → replayNumber b x ≡ answer (λ (n : ℕ). n) (formNumber b) (firstOf (shapeRows (heldIn b)))

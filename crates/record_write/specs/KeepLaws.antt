@@ -17,7 +17,7 @@ use Rattle.fields.specs.FieldLaws.{length-pack}
 use Rattle.fields.specs.Ready.{NoNan}
 use Rattle.slice.specs.Slice.{codeWidth, shapeWidth}
 use Rattle.stitch_run.specs.Stitch.{Given}
-use Rattle.stitch_entries.specs.StitchEntry.{listsOf, codesOf, numbersOf, indexesOf}
+use Rattle.stitch_entries.specs.StitchEntry.{listPart, codePart, numberPart, indexPart}
 use Rattle.record.specs.Form.{form1, takenVertices, takenSlices, commonWidth, bodyOf, mix}
 use Rattle.record.specs.Record.{listsIn, planIn, lengthOf, takenRows, headOf, valuesOf, recordOf}
 use Rattle.record.specs.RecordLaws.{length-body, size-body}
@@ -47,13 +47,13 @@ module _ (g : Given) (ok : Clear (keepRows g)) where
   taken = takenRows (planIn g)
 
   abbrev after : List Row
-  after = codesOf g ++ (numbersOf g ++ indexesOf g)
+  after = codePart g ++ (numberPart g ++ indexPart g)
 
-  pub lists-clear : Clear (listsOf g)
-  lists-clear = clear-left (listsOf g) (taken ++ after) ok
+  pub lists-clear : Clear (listPart g)
+  lists-clear = clear-left (listPart g) (taken ++ after) ok
 
   after-lists : Clear (taken ++ after)
-  after-lists = clear-right (listsOf g) (taken ++ after) ok
+  after-lists = clear-right (listPart g) (taken ++ after) ok
 
   pub taken-clear : Clear taken
   taken-clear = clear-left taken after after-lists
@@ -61,17 +61,17 @@ module _ (g : Given) (ok : Clear (keepRows g)) where
   after-taken : Clear after
   after-taken = clear-right taken after after-lists
 
-  pub codes-clear : Clear (codesOf g)
-  codes-clear = clear-left (codesOf g) (numbersOf g ++ indexesOf g) after-taken
+  pub codes-clear : Clear (codePart g)
+  codes-clear = clear-left (codePart g) (numberPart g ++ indexPart g) after-taken
 
-  after-codes : Clear (numbersOf g ++ indexesOf g)
-  after-codes = clear-right (codesOf g) (numbersOf g ++ indexesOf g) after-taken
+  after-codes : Clear (numberPart g ++ indexPart g)
+  after-codes = clear-right (codePart g) (numberPart g ++ indexPart g) after-taken
 
-  pub numbers-clear : Clear (numbersOf g)
-  numbers-clear = clear-left (numbersOf g) (indexesOf g) after-codes
+  pub numbers-clear : Clear (numberPart g)
+  numbers-clear = clear-left (numberPart g) (indexPart g) after-codes
 
-  pub indexes-clear : Clear (indexesOf g)
-  indexes-clear = clear-right (numbersOf g) (indexesOf g) after-codes
+  pub indexes-clear : Clear (indexPart g)
+  indexes-clear = clear-right (numberPart g) (indexPart g) after-codes
 
   pub keeps-in : KeepsIn (planIn g)
   keeps-in =

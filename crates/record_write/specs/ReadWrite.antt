@@ -15,7 +15,7 @@ use Rattle.basis.specs.RefuseLaws.{Clear, clear, clear-left, clear-right, clear
 use Rattle.slice.specs.Slice.{codeWidth, shapeWidth}
 use Rattle.stitch_run.specs.declared.plan.Plan.{Plan}
 use Rattle.stitch_run.specs.Stitch.{Given}
-use Rattle.stitch_entries.specs.StitchEntry.{listsOf, codesOf, numbersOf, indexesOf, shapeRows}
+use Rattle.stitch_entries.specs.StitchEntry.{listPart, codePart, numberPart, indexPart, shapeRows}
 use Rattle.fields.specs.Fields.{size, valueOf, pack, unpack, bitsOf}
 use Rattle.fields.specs.FieldLaws.{Octets, octets-drop, length-unpack, unpack-fitted, pack-unpack}
 use Rattle.record.specs.declared.head.Lengths.{Lengths}
@@ -65,11 +65,11 @@ module _ (b : List ℕ) (octets : Octets b) (l : Lengths) (z : readRefusal form1
   long = eqb-true (length b) (lengthIn form1 H) (not-false _ (counted .0))
 
   -- the parts of the stitch's table
-  after-lists : Clear (codesOf g ++ (numbersOf g ++ indexesOf g))
-  after-lists = clear-right (listsOf g) (codesOf g ++ (numbersOf g ++ indexesOf g)) ok
+  after-lists : Clear (codePart g ++ (numberPart g ++ indexPart g))
+  after-lists = clear-right (listPart g) (codePart g ++ (numberPart g ++ indexPart g)) ok
 
-  numbers-clear : Clear (numbersOf g)
-  numbers-clear = clear-left (numbersOf g) (indexesOf g) (clear-right (codesOf g) (numbersOf g ++ indexesOf g) after-lists)
+  numbers-clear : Clear (numberPart g)
+  numbers-clear = clear-left (numberPart g) (indexPart g) (clear-right (codePart g) (numberPart g ++ indexPart g) after-lists)
 
   -- ---- the head
   marked : markOk b ≡ true
@@ -177,9 +177,9 @@ module _ (b : List ℕ) (octets : Octets b) (l : Lengths) (z : readRefusal form1
   pub written-again : (room : ℕ) → length b ≤ room → writeRefusal form1 g room ≡ 0
   unfolding writeRefusal
   written-again room h =
-      let after = codesOf g ++ (numbersOf g ++ indexesOf g) in
+      let after = codePart g ++ (numberPart g ++ indexPart g) in
       let all : Clear (keepRows g) =
-      clear-both (listsOf g) (takenRows (planIn g) ++ after) (clear-left (listsOf g) after ok) (clear-both (takenRows (planIn g)) after taken after-lists) in
+      clear-both (listPart g) (takenRows (planIn g) ++ after) (clear-left (listPart g) after ok) (clear-both (takenRows (planIn g)) after taken after-lists) in
       let last : Clear (row (ltb room (lengthGiven form1 g)) 9 ∷ []) = (le-ltb room (lengthGiven form1 g) (omega (arith, long, same-length, h)), tt) in
       none-clear (writeRows form1 g room) (clear-both (keepRows g) (row (ltb room (lengthGiven form1 g)) 9 ∷ []) all last)
 

@@ -7,7 +7,7 @@ use lib.ListN.{length}
 use Rattle.basis.specs.Refuse.{Row, row, firstOf, answer}
 use Rattle.basis.specs.Room.{roomOf}
 use Rattle.stitch_run.specs.Stitch.{Given}
-use Rattle.stitch_entries.specs.StitchEntry.{listsOf, codesOf, numbersOf, indexesOf}
+use Rattle.stitch_entries.specs.StitchEntry.{listPart, codePart, numberPart, indexPart}
 use Rattle.record.specs.Form.{Form}
 use Rattle.record.specs.Record.{planIn, lengthIn, takenRows, recordOf}
 use Rattle.record_write.specs.declared.write.Written.{Written}
@@ -15,7 +15,7 @@ use Rattle.record_write.specs.declared.write.Written.{Written}
 -- 1 to 8: the refusals of the stitch, and among them, each in its number's place, those of what the program takes.
 -- So every record that is written can be replayed
 abbrev pub keepRows : Given → List Row
-keepRows g = listsOf g ++ (takenRows (planIn g) ++ (codesOf g ++ (numbersOf g ++ indexesOf g)))
+keepRows g = listPart g ++ (takenRows (planIn g) ++ (codePart g ++ (numberPart g ++ indexPart g)))
 
 -- the bytes that a stitch takes
 abbrev pub lengthGiven : Form → Given → ℕ

@@ -48,12 +48,12 @@ use Rattle.prune_entries.specs.PruneEntry.{inputRows, pruneRefusal, pruneNumber
 use Rattle.stitch_vertices.specs.Vertices.{addVertex, addFirst, addView, dropLast}
 use Rattle.stitch_run.specs.Run as run
 use Rattle.stitch_run.specs.Run.{passing, free, candidate, taken, answered, asked, nextOf, roundOf, opened, onward, ended}
-use Rattle.stitch_run.specs.Run.{stopped, walk, chainFrom, added, begun, turn, turns, roundsOf}
+use Rattle.stitch_run.specs.Run.{walk, chainFrom, added, begun, turn, turns, roundsOf}
 use Rattle.stitch_run.specs.Stitch as stitch
 use Rattle.stitch_run.specs.Stitch.{sliceOutline, sliceCount, sliceVertex, startPoint, addSlice}
 use Rattle.slice.specs.Slice.{codesAt, shapeAt, sliceView}
 use Rattle.stitch_run.specs.Stitch.{offersTo, rulesOf, runOf, loopOf, loopsOf, howOf, totals, roundCount, loopCount, roomItems}
-use Rattle.stitch_run.specs.Stitch.{endItems, isSpent, anySpent, roundsFault, sumBelow, weightAt, needFor}
+use Rattle.stitch_run.specs.Stitch.{endItems, sumBelow, weightAt, needFor}
 use Rattle.stitch.specs.Lent.{Lists}
 use Rattle.stitch_entries.specs.StitchRows.{startsFault, lengths}
 use Rattle.stitch_entries.specs.declared.answer.StitchAnswer.{StitchAnswer}
@@ -84,11 +84,11 @@ unfolding numbers flatMap candCodes lapCodes lapInverted keptTo lapsTo wantedOf 
 pruning = tt
 
 rounds : Unit {0}
-unfolding passing free candidate run.candidatesOf taken answered asked nextOf roundOf opened onward ended stopped walk chainFrom added begun turn turns run.run classOf preferenceOf suitsOf firstThat orElse choose choicesOf pickOf selectOf
+unfolding passing free candidate run.candidatesOf taken answered asked nextOf roundOf opened onward ended walk chainFrom added begun turn turns run.run classOf preferenceOf suitsOf firstThat orElse choose choicesOf pickOf selectOf
 rounds = tt
 
 stitching : Unit {0}
-unfolding views pruning rounds addVertex addFirst addView dropLast codesAt shapeAt sliceView sliceOutline sliceCount sliceVertex startPoint addSlice offersTo rulesOf runOf loopOf loopsOf howOf totals roundCount loopCount roomItems endItems roundsOf isSpent anySpent roundsFault sumBelow weightAt needFor stitch.needOf run.slicesOf run.orderOf
+unfolding views pruning rounds addVertex addFirst addView dropLast codesAt shapeAt sliceView sliceOutline sliceCount sliceVertex startPoint addSlice offersTo rulesOf runOf loopOf loopsOf howOf totals roundCount loopCount roomItems endItems roundsOf sumBelow weightAt needFor stitch.needOf run.slicesOf run.orderOf
 stitching = tt
 
 refusals : Unit {0}
