@@ -15,7 +15,7 @@ use Rattle.basis.specs.Room.{roomOf}
 use Rattle.fields.specs.Fields.{size, unpack, rows}
 use Rattle.fields.specs.FieldLaws.{thin-narrow, length-unpack, unpack-append, size-rows, length-rows}
 use Rattle.fields.specs.Ready.{Narrow, RowsAt}
-use Rattle.fields.specs.StoreLaws.{sets-after, sets-front}
+use Rattle.basis.specs.StoreLaws.{sets-after, sets-front}
 use Rattle.record.specs.declared.form.Version.{Version}
 use Rattle.record.specs.declared.head.Head.{Head}
 use Rattle.record.specs.declared.head.Seen.{Seen}

@@ -13,7 +13,7 @@ use Rattle.basis.specs.Refuse.{Row, row, firstOf, firstFrom}
 use Rattle.basis.specs.RefuseLaws.{Clear, clear, first-from, answer-no, answer-yes, first-found, first-later}
 use Rattle.fields.specs.Fields.{size, pack, bitsOf}
 use Rattle.fields.specs.FieldLaws.{length-pack}
-use Rattle.fields.specs.StoreLaws.{sets-front}
+use Rattle.basis.specs.StoreLaws.{sets-front}
 use Rattle.select.specs.declared.class.Starts.{Starts}
 use Rattle.stitch_run.specs.Stitch.{Given, given}
 use Rattle.record.specs.declared.form.Version.{Version}
