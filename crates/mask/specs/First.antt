@@ -13,6 +13,7 @@ use Rattle.view.specs.declared.create.Walk.{Walk}
 use Rattle.view_entries.specs.declared.input.View.{View}
 use Rattle.view_entries.specs.declared.input.Split.{Split}
 use Rattle.view_entries.specs.ViewVertex.{viewVertexRows, viewVertexRefusal}
+use Rattle.view_entries.specs.ViewVertices.{viewVerticesRows, viewVerticesRefusal}
 use Rattle.view_entries.specs.CreateEntry.{createRows, createRefusal}
 use Rattle.view_entries.specs.SingleEntry.{singleRows, singleRefusal}
 use Rattle.view_entries.specs.EntireEntry.{entireRows, entireRefusal}
@@ -36,6 +37,10 @@ use Rattle.straight_entries.specs.ReportEntry.{reportRows, reportRefusal}
 pub vertex-first : (o : List Float) (vc : ℕ) (v : View) → First (viewVertexRows o vc v) (viewVertexRefusal o vc v)
 unfolding viewVertexRefusal before refusalOrder
 vertex-first o vc v = first-of (viewVertexRows o vc v) tt
+
+pub vertices-first : (o : List Float) (vc : ℕ) (v : View) (len : ℕ) → First (viewVerticesRows o vc v len) (viewVerticesRefusal o vc v len)
+unfolding viewVerticesRefusal before refusalOrder
+vertices-first o vc v len = first-of (viewVerticesRows o vc v len) tt
 
 pub create-first : (o : List Float) (vc : ℕ) (w : Walk) (t : Tolerance) (split : Split) → First (createRows o vc w t split) (createRefusal o vc w t split)
 unfolding createRefusal before refusalOrder

@@ -15,6 +15,7 @@ use Rattle.view_entries.specs.declared.answer.VertexAnswer.{VertexAnswer}
 use Rattle.view_entries.specs.declared.answer.ViewAnswer.{ViewAnswer}
 use Rattle.verdict_entries.specs.declared.answer.VerdictAnswer.{VerdictAnswer}
 use Rattle.view_entries.specs.ViewVertex.{viewVertexAnswer}
+use Rattle.view_entries.specs.ViewVertices.{VerticesLeft}
 use Rattle.view_entries.specs.CreateEntry.{createAnswer}
 use Rattle.view_entries.specs.SingleEntry.{singleAnswer}
 use Rattle.view_entries.specs.EntireEntry.{entireAnswer}
@@ -42,6 +43,10 @@ use Rattle.straight_entries.specs.ReportEntry.{reportAnswer}
 
 pub vertex-one : (o : List Float) (vc : ℕ) (v : View) (k : ℕ) (r s : VertexAnswer) → r ≡ viewVertexAnswer o vc v k → s ≡ viewVertexAnswer o vc v k → r ≡ s
 vertex-one o vc v k r s e f = one-answer r s (viewVertexAnswer o vc v k) e f
+
+pub vertices-one : (o : List Float) (vc : ℕ) (v : View) (room : List Float) (r s : CountAnswer) (a b : List Float)
+    → VerticesLeft o vc v room r a → VerticesLeft o vc v room s b → (r ≡ s) × (a ≡ b)
+vertices-one o vc v room r s a b x y = (one-answer r s _ (x .answers) (y .answers), one-answer a b _ (x .vertices) (y .vertices))
 
 pub create-one : (o : List Float) (vc : ℕ) (w : Walk) (t : Tolerance) (split : Split) (r s : ViewAnswer) → r ≡ createAnswer o vc w t split → s ≡ createAnswer o vc w t split → r ≡ s
 create-one o vc w t split r s e f = one-answer r s (createAnswer o vc w t split) e f

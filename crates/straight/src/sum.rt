@@ -1,5 +1,6 @@
 // Sums round one outline.
 use crate::edge;
+use outline::read;
 use whole::signed;
 use whole::two;
 use whole::two::Two;
@@ -17,7 +18,7 @@ fn after(i: usize, n: usize) -> usize
     requires { ⌜ i < n ⌝ }
     ensures { λ r. ⌜ r ≡ next i n ⌝ }
 {
-    if i + 1 < n { i + 1 } else { 0 }
+    read::wrapped(i + 1, n)
 }
 
 // 1 for yes.
