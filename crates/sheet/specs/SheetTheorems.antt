@@ -33,7 +33,7 @@ use Rattle.cut.specs.Cuts.{whichOf, hitCut, moved, markedEnd, lapCut, cutOf}
 use Rattle.cut.specs.Order.{distSquared, distance, sooner, earlier, insert, ordered, orderOf, cutNumbers, cutPoints}
 use Rattle.candidate.specs.Candidates as slices
 use Rattle.candidate_write.specs.ItemLaws.{flat-length, wide-numbers}
-use Rattle.candidate.specs.Candidates.{sameNext, firstCut, traverseFrom, traverseOf, sliceOf, pieceOf, walkOf, walked, walkAt, candidateAt, candidatesTo, walkLost, lostTo, anyWalkLost}
+use Rattle.candidate.specs.Candidates.{sameNext, firstCut, traverseFrom, traverseOf, sliceOf, pieceOf, walkOf, walked, walkAt, candidateAt, candidatesTo}
 use Rattle.cut_entries.specs.CutRows.{listRows, valueRows, viewStartFault, viewOffsetFault, indexRows}
 use Rattle.basis.specs.declared.answer.CountAnswer.{CountAnswer}
 use Rattle.basis.specs.Answers.{countRefused, counted}
@@ -76,7 +76,7 @@ unfolding views pointAt whichOf hitCut moved markedEnd lapCut cutOf distSquared 
 cutting = tt
 
 slicing : Unit {0}
-unfolding cutting sameNext slices.firstFrom firstCut traverseFrom traverseOf sliceOf pieceOf walkOf walked walkAt candidateAt candidatesTo slices.candidatesOf walkLost lostTo anyWalkLost
+unfolding cutting sameNext slices.firstFrom firstCut traverseFrom traverseOf sliceOf pieceOf walkOf walked walkAt candidateAt candidatesTo slices.candidatesOf
 slicing = tt
 
 pruning : Unit {0}
