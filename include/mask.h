@@ -99,8 +99,9 @@ extern "C" {
 #define MASK_STACK_STRAIGHT_REPORT 512
 
 /*
- * Why a call is refused: the first that applies, in this order. For 1 to 10 that is the
- * lowest number.
+ * Why a call is refused: the first that applies, in this order. For 1 to 9 that is the
+ * lowest number. 10 is not used, and will not be: it stood for a walk or a chain that took
+ * too many steps, and none can.
  */
 enum mask_refusal {
     MASK_ACCEPTED = 0,
@@ -114,8 +115,7 @@ enum mask_refusal {
     MASK_REFUSED_INDEX = 6,     /* an index is not below the vertex count */
     MASK_REFUSED_COUNT = 7,     /* an offset or a traverse count is out of range */
     MASK_REFUSED_STARTS = 8,    /* the starts of the classes fall back, or lie past the slices */
-    MASK_REFUSED_ROOM = 9,      /* a list lent to be written is shorter than the need */
-    MASK_REFUSED_STEPS = 10     /* a walk or a chain took too many steps: proved never to happen */
+    MASK_REFUSED_ROOM = 9       /* a list lent to be written is shorter than the need */
 };
 
 /* What `mask_validate_for_source` found. 0 stands only beside a refusal. */
@@ -293,7 +293,7 @@ mask_count_answer mask_cut_order(const double *outline, size_t outline_len, size
  *   cand_at  2: start, offset
  *   cand     6: updated start x, y, bulge, end bulge, end x, y
  *   probe    6: the two vertices whose midpoint the host tests, x, y, bulge each
- * Refusals 1, 2, 3, 4, 5, 6, 7, 9. Number 10 is proved never to be given.
+ * Refusals 1, 2, 3, 4, 5, 6, 7, 9.
  */
 mask_count_answer mask_candidates(const double *outline, size_t outline_len, size_t vc,
                                   uint32_t source, const size_t *hit_at, size_t hit_at_len,
@@ -357,8 +357,7 @@ typedef struct mask_stitch_answer {
  *   chain       1 to a slice: its number; chain after chain
  *   chain_ends  1 to a chain: how many slices all chains up to and with it have
  *   chain_how   1 to a chain: how it ended, of `mask_chain_end`
- * The need of each of the last four is one entry per slice. Refusals 1 to 9. Number
- * 10 is proved never to be given.
+ * The need of each of the last four is one entry per slice. Refusals 1 to 9.
  */
 mask_stitch_answer mask_stitch(const double *outline1, size_t outline1_len, size_t vc1,
                                const double *outline2, size_t outline2_len, size_t vc2,

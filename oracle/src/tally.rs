@@ -41,7 +41,7 @@ pub fn quiet_caught_panics() {
 #[derive(Default)]
 pub struct Tally {
     compared: [[u64; 10]; 4],
-    refused: [[u64; 11]; 10],
+    refused: [[u64; 10]; 10],
     ended: [u64; 4],
     extra: BTreeMap<&'static str, u64>,
     explained: BTreeMap<&'static str, u64>,
