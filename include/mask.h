@@ -47,7 +47,7 @@ extern "C" {
 #define MASK_VERSION_PATCH 0
 
 /* Widths: how many elements an item of a list has. */
-#define MASK_WIDTH_OUTLINE 3  /* a vertex: x, y, bulge; also in `room` */
+#define MASK_WIDTH_OUTLINE 3  /* a vertex: x, y, bulge; also in `vertices` and `room` */
 #define MASK_WIDTH_HIT_AT 2   /* a basic intersection */
 #define MASK_WIDTH_HIT 2      /* its point */
 #define MASK_WIDTH_LAP_AT 7   /* a joined overlap */
@@ -85,6 +85,7 @@ extern "C" {
  * memset itself and a dynamic linker that looks for it at its first call.
  */
 #define MASK_STACK_VIEW_VERTEX 512
+#define MASK_STACK_VIEW_VERTICES 512
 #define MASK_STACK_CREATE 512
 #define MASK_STACK_CREATE_ON_SINGLE_SEGMENT 512
 #define MASK_STACK_FROM_ENTIRE_PLINE 512
@@ -214,6 +215,16 @@ typedef struct mask_count_answer {
  */
 mask_vertex_answer mask_view_vertex(const double *outline, size_t outline_len, size_t vc,
                                     mask_view view, size_t index);
+
+/*
+ * All vertices of the view in one call, which looks at the outline once; a call of
+ * `mask_view_vertex` looks at all of it for one vertex. `count` is offset + 2. Written for
+ * each vertex, which is also the need:
+ *   vertices  3: x, y, bulge; vertex k is what `mask_view_vertex` answers for k
+ * Refusals 1, 2, 3, 5, 6, 7, 9.
+ */
+mask_count_answer mask_view_vertices(const double *outline, size_t outline_len, size_t vc,
+                                     mask_view view, double *vertices, size_t vertices_len);
 
 /*
  * The view that walks `traverse_count` segments on from `start_index`, to
