@@ -1,6 +1,6 @@
 // The report on outlines in whole microdegrees: a vertex a line, an empty line between outlines, from the file that the argument names or from standard input.
 // What cannot be read, and a second name, is said on standard error, and then there is no report.
-mod outline;
+mod gathered;
 mod print;
 mod read;
 
