@@ -48,6 +48,7 @@ piece-has-its-view = piece-view
 -- ---- a chain: "every round but a chain's last visits a new slice"
 
 each-within : (n : ℕ) (l : List (List ℕ)) → length (flatten l) ≤ n → All (λ c. length c ≤ n) l
+unfolding flatten
 each-within n [] h = tt
 each-within n (c ∷ l) h = let e = length-append c (flatten l) in (omega (arith, e), each-within n l (omega (arith, e)))
 
