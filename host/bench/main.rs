@@ -423,14 +423,17 @@ impl WholeView {
 }
 
 fn view_vertices() {
-    for size in SLICE_SIZES.into_iter().filter(|size| *size <= MOST_CORNERS) {
+    let sizes = || SLICE_SIZES.into_iter().filter(|size| *size <= MOST_CORNERS);
+    for size in sizes() {
         let star = WholeView::new(size, false);
         let times = measure(&mut [
             &mut || done(ours::view_vertex(black_box(&star.outline), star.flat, 2)),
             &mut || done(star.data.view(black_box(&star.pline)).get(black_box(2))),
         ]);
         tables::tell(tables::VERTEX, "star", size, times.ratio(0, 1));
-        for (name, inverted) in [("star, forward", false), ("star, inverted", true)] {
+    }
+    for (name, inverted) in [("star, forward", false), ("star, inverted", true)] {
+        for size in sizes() {
             let star = WholeView::new(size, inverted);
             let mut rooms = [0; 2].map(|_| vec![0.0; 3 * star.count()]);
             let [all, singles] = &mut rooms;
