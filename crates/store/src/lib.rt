@@ -1,0 +1,2 @@
+// Slices kept between runs.
+pub mod marks;
