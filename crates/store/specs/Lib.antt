@@ -10,3 +10,4 @@ pub mod MarksLaws
 pub mod Lists
 pub mod ListsLaws
 pub mod Refines
+pub mod Ready
