@@ -68,9 +68,9 @@ pub record Gathering {A : Type 0} (items : List A) (w n : ℕ) (dst₀ dst : Lis
   pub len : length dst ≡ length dst₀
   pub is : dst ≡ items ++ drop (w * k) dst₀
 
-pub gather-none : {A : Type 0} (w : ℕ) (src : List A) (order : List ℕ) (n : ℕ) (dst₀ : List A) → Gathering (blocksAt w src (take 0 order)) w n dst₀ dst₀ 0
+pub gather-none : {A : Type 0} (w : ℕ) (src : List A) (n : ℕ) (dst₀ : List A) → Gathering (blocksAt w src []) w n dst₀ dst₀ 0
 unfolding blocksAt flatMap
-gather-none w src order n dst₀ = record { ahead = omega arith; len = refl; is = rw (mul-zero w) }
+gather-none w src n dst₀ = record { ahead = omega arith; len = refl; is = rw (mul-zero w) }
 
 module _ {A : Type 0} (w : ℕ) (src : List A) (order : List ℕ) (n : ℕ) (dst₀ : List A) (fit : GatherFits w src order n dst₀) where
   abbrev pub GatheringOf : List A → ℕ → Type 0

@@ -206,7 +206,7 @@ module _ (cap : ℕ) (l z : List ℕ) (p : Proper cap l) where
       let s : length l + suc n ≡ suc (length l + n) = omega arith in
       ap (livesTo cap (l ++ z)) s ∙ past-more (length l + n) (lives-past e n) (e (length l + n) (omega arith))
 
-zeros-at : (n k : ℕ) → _≡_ {A = ℕ} (getD (replicate n 0) k 0) 0
+pub zeros-at : (n k : ℕ) → _≡_ {A = ℕ} (getD (replicate n 0) k 0) 0
 zeros-at zero k = refl
 zeros-at (suc n) zero = refl
 zeros-at (suc n) (suc k) = zeros-at n k

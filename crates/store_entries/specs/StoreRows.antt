@@ -1,0 +1,33 @@
+-- Documents 01 and 02: what the store's entries refuse, before the store itself is asked.
+use Prim.Native.Nat.{ℕ}
+use mathlib.Core.Bool.{not}
+use mathlib.Core.List.{List, [], _∷_}
+use lib.ListN.{length, getD}
+use lib.Dec.{ltb}
+use lib.Ieee.{Float}
+use Rattle.basis.specs.Number.{allWithin}
+use Rattle.basis.specs.Refuse.{Row, row, lengthFault, sourceFault, choiceFault}
+
+-- "a store of 1,792 slices"
+abbrev pub places : ℕ
+places = 1792
+
+-- 1: the lengths of the four lists: a mark, four codes, six numbers and an edition of each place
+abbrev pub storeRows : ℕ → ℕ → ℕ → ℕ → List Row
+storeRows held at shape edition =
+    row (lengthFault 1 held places) 1 ∷ row (lengthFault 4 at places) 1 ∷ row (lengthFault 6 shape places) 1 ∷ row (lengthFault 1 edition places) 1 ∷ []
+
+-- 1, 3 and 5 of the slice that is put: four codes, of which the first is its source and the second says whether it is inverted, and six numbers
+abbrev pub sliceRows : List ℕ → List Float → List Row
+sliceRows at shape =
+    row (lengthFault 4 (length at) 1) 1
+    ∷ row (lengthFault 6 (length shape) 1) 1
+    ∷ row (sourceFault (getD at 0 0)) 3
+    ∷ row (choiceFault (getD at 1 0)) 3
+    ∷ row (not (allWithin shape)) 5
+    ∷ []
+
+-- 9: room for every place, so that the need does not tell how many slices are live
+abbrev pub roomRows : ℕ → ℕ → ℕ → ℕ → List Row
+roomRows handles at shape edition =
+    row (ltb handles 1792) 9 ∷ row (ltb at 7168) 9 ∷ row (ltb shape 10752) 9 ∷ row (ltb edition 1792) 9 ∷ []
