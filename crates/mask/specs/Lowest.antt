@@ -1,6 +1,6 @@
 -- "The lowest number that applies is given, and none otherwise", entry by entry: the number given applies, and no lower one does.
 use Prim.Native.Nat.{ℕ, _≤_}
-use mathlib.Core.Path.{_≡_}
+use mathlib.Core.Path.{_≡_, sym}
 use mathlib.Core.List.{List, _++_}
 use lib.Dec.{T}
 use lib.IntN.{ℤ}
@@ -30,6 +30,9 @@ use Rattle.area_entries.specs.AreaEntry.{areaRows, areaRefusal}
 use Rattle.straight_entries.specs.WindingEntry.{windingRows, windingRefusal}
 use Rattle.straight_entries.specs.AreaEntry as straight
 use Rattle.straight_entries.specs.ReportEntry.{reportRows, reportRefusal}
+use Rattle.store.specs.Lists as store
+use Rattle.store_entries.specs.StoreEntry.{Asked, toPut, toRelease, toList, toCompact, ownRows, callRows, storeTurn, lastRows, wholeRows, refusalIn}
+use Rattle.store_entries.specs.StoreTheorems.{whole-table}
 
 -- a number and the table that it was looked up in
 pub record Lowest (rows : List Row) (number : ℕ) : Type 0 where
@@ -92,3 +95,13 @@ straight-area-lowest o vc = lowest (straight.areaRows o vc) tt
 pub report-lowest : (points : List ℤ) (ends : List ℕ) (loops : ℕ) → Lowest (reportRows points ends loops) (reportRefusal points ends loops)
 unfolding reportRefusal
 report-lowest points ends loops = lowest (reportRows points ends loops) tt
+
+store-rising : (w : store.Lists) (a : Asked) → T (ascendingFrom 0 (wholeRows w a))
+unfolding wholeRows callRows ownRows lastRows
+store-rising w (toPut x) = tt
+store-rising w (toRelease h) = tt
+store-rising w (toList h a s e) = tt
+store-rising w toCompact = tt
+
+pub store-lowest : (w : store.Lists) (a : Asked) → Lowest (wholeRows w a) (refusalIn (storeTurn w a .answer))
+store-lowest w a = rw (whole-table w a) (lowest (wholeRows w a) (store-rising w a))

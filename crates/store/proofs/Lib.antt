@@ -1,3 +1,2 @@
 pub mod Looking
 pub mod Copying
-pub mod Calling

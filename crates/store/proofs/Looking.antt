@@ -17,20 +17,13 @@ use Rattle.store.specs.KeysLaws.{keyed-snoc}
 use Rattle.store.specs.Marks.{markOf, handleOf, placeOf, named, fresh, thenLive, livesTo, filled}
 use Rattle.store.specs.MarksLaws.{named-handle, named-place, fresh-yes, fresh-unnamed, fresh-handle, fresh-place}
 use Rattle.store.specs.Ready.{Low, told, Told, Looked, LookFits, Blank, MarksFit, Front, OtherPut, numberFrom}
+use Rattle.store.specs.ReadyLaws.{told-none, told-some, front-none, front-more, front-filled}
 
 -- ---- flags
 
 told-one : told 1 ≡ true
 unfolding told
 told-one = refl
-
-pub told-none : (x : ℕ) → x ≡ 0 → told x ≡ false
-unfolding told
-told-none x e = rw e
-
-pub told-some : (x : ℕ) → (x ≡ 0 → ⊥) → told x ≡ true
-unfolding told
-told-some x n = rw (ne-eqb x 0 n)
 
 or-none : (b : Bool) → (b || false) ≡ b
 or-none true = refl
@@ -187,30 +180,6 @@ module _ (used : ℕ → Bool) (cap : ℕ) where
   pub lowest-end : (left : ℕ) → left ≤ 0 → Lowest left → cap ≡ lowestFrom used 0 cap
   unfolding lowestFrom
   lowest-end left h i = let e : left ≡ 0 = omega arith in let f : cap - 0 ≡ cap = omega arith in sym (i ∙ rw (e, f))
-
--- ---- items put down in front, one a turn
-
-module _ {A : Type 0} (entry : List A) where
-  pub front-none : Front [] entry entry 0
-  front-none = record { count = refl; is = refl }
-
-  pub front-more : (items l : List A) (k : ℕ) (v : A) → Front items entry l k → k < length entry → Front (items ++ (v ∷ [])) entry (set l k v) (k + 1)
-  front-more items l k v f h =
-      let d : drop k entry ≡ getD entry k v ∷ drop (suc k) entry = drop-cons entry k v h in
-      record {
-        count = length-append items (v ∷ []) ∙ rw (f .count);
-        is = rw (f .is, d, add-one k) (set-at items (getD entry k v) (drop (suc k) entry) v k (f .count) ∙ sym (append-assoc items (v ∷ []) (drop (suc k) entry)));
-      }
-
-  -- and zeros behind them
-  pub front-filled : (none : A) (items l l′ : List A) (k b : ℕ) → Front items entry l k → length l ≡ length entry → k ≤ length entry → b ≡ length l → l′ ≡ cleared none k b l
-      → l′ ≡ filled none (length entry) items
-  unfolding cleared filled
-  front-filled none items l l′ k b f n h c e =
-      let t : take k l ≡ items = rw (f .is) (take-at items (drop k entry) k (f .count)) in
-      let d : drop b l ≡ [] = drop-of-length-le l (let q : length l ≤ b = omega arith in q) in
-      let g : b ≡ length entry = omega arith in
-      e ∙ rw (t, d, append-nil (replicate (b - k) none), f .count, g)
 
 -- ---- the marks without one
 

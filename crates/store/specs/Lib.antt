@@ -11,3 +11,4 @@ pub mod Lists
 pub mod ListsLaws
 pub mod Refines
 pub mod Ready
+pub mod ReadyLaws

@@ -5,11 +5,11 @@ ghost use lib.ListN.{length, getD, take};
 ghost use Rattle.store.specs.Keys.{lowestFrom, without};
 ghost use Rattle.store.specs.Marks.{markOf, handleOf, named, filled};
 ghost use Rattle.store.specs.Ready.{Few, Low, PlaceIs, told, LookFits, Looked, Blank, LookedAll, MarksFit, OtherFits, OtherPut, numberFrom};
-use crate::moves;
+use crate::copies;
 use basis::room;
 
 // The handle that a mark names; of a number that names none, 0.
-pub(crate) fn handle_of(m: usize) -> usize
+pub fn handle_of(m: usize) -> usize
     ensures { λ r. ⌜ r ≡ handleOf m ⌝ }
 {
     let k = m % 2048;
@@ -17,14 +17,14 @@ pub(crate) fn handle_of(m: usize) -> usize
 }
 
 // The place that it names.
-pub(crate) fn place_of(m: usize) -> usize
+pub fn place_of(m: usize) -> usize
     ensures { λ r. ⌜ PlaceIs m r ⌝ }
 {
     m / 2048
 }
 
 // The mark of the slice with handle `h` at place `t`.
-pub(crate) fn mark_at(t: usize, h: usize) -> usize
+pub fn mark_at(t: usize, h: usize) -> usize
     requires { ⌜ Low t h ⌝ }
     ensures { λ r. ⌜ r ≡ markOf t h ⌝ }
 {
@@ -70,7 +70,7 @@ fn look(
 }
 
 // The live marks in the order put, and the handles and the places that are taken. How many are live.
-pub(crate) fn live_marks(
+pub fn live_marks(
     held: &[usize],
     order: &mut [usize; 1792],
     handles: &mut [u8; 1792],
@@ -89,7 +89,7 @@ pub(crate) fn live_marks(
 }
 
 // The lowest number below `cap` that is not told, `cap` where all are.
-pub(crate) fn lowest(flags: &[u8; 1792], cap: usize) -> usize
+pub fn lowest(flags: &[u8; 1792], cap: usize) -> usize
     requires { ⌜ Few cap ⌝ }
     ensures { λ r. ⌜ r ≡ lowestFrom (λ k. told (getD (now (flags .entry)) k 0)) 0 cap ⌝ }
 {
@@ -105,11 +105,11 @@ pub(crate) fn lowest(flags: &[u8; 1792], cap: usize) -> usize
 }
 
 // The first `n` of `order` are the marks, and zeros stand behind them.
-pub(crate) fn set_marks(held: &mut [usize], order: &[usize; 1792], n: usize)
+pub fn set_marks(held: &mut [usize], order: &[usize; 1792], n: usize)
     requires { ⌜ MarksFit (now held) (now order) n ⌝ }
     ensures { λ _. ⌜ now (held .exit) ≡ filled 0 (length (now (held .entry))) (take n (now (order .entry))) ⌝ }
 {
-    moves::copy_words(order, 0, held, 0, n);
+    copies::copy_words(order, 0, held, 0, n);
     let cap = held.len();
     room::clear_counts(held, n, cap);
 }
@@ -127,7 +127,7 @@ fn put_other(held: &mut [usize], k: usize, m: usize, h: usize) -> usize
 }
 
 // The first `n` of `order` are the marks, but for that of handle `h`, and zeros stand behind them.
-pub(crate) fn set_others(held: &mut [usize], order: &[usize; 1792], n: usize, h: usize)
+pub fn set_others(held: &mut [usize], order: &[usize; 1792], n: usize, h: usize)
     requires { ⌜ MarksFit (now held) (now order) n ⌝ }
     ensures { λ _. ⌜ now (held .exit) ≡ filled 0 (length (now (held .entry))) (without handleOf (take n (now (order .entry))) h) ⌝ }
 {
@@ -143,7 +143,7 @@ pub(crate) fn set_others(held: &mut [usize], order: &[usize; 1792], n: usize, h:
 }
 
 // The marks are those of slices at the first `n` places, in turn, with the handles of `order`, and zeros stand behind them.
-pub(crate) fn number_marks(held: &mut [usize], order: &[usize; 1792], n: usize)
+pub fn number_marks(held: &mut [usize], order: &[usize; 1792], n: usize)
     requires { ⌜ MarksFit (now held) (now order) n ⌝ }
     ensures { λ _. ⌜ now (held .exit) ≡ filled 0 (length (now (held .entry))) (numberFrom 0 (take n (now (order .entry)))) ⌝ }
 {

@@ -4,8 +4,8 @@ use mathlib.Core.Bool.{Bool, true, false}
 use lib.ListN.{length}
 use Rattle.basis.specs.declared.answer.CountAnswer.{CountAnswer}
 use Rattle.basis.specs.Answers.{countRefused, counted}
-use Rattle.store.specs.declared.keep.Handle.{Handle}
-use Rattle.store.specs.declared.keep.Handle.the-variants.{Given, Full}
+use Rattle.store_write.specs.declared.keep.Handle.{Handle}
+use Rattle.store_write.specs.declared.keep.Handle.the-variants.{Given, Full}
 use Rattle.store.specs.Slice.{Slice}
 use Rattle.store.specs.Plain.{Answer, refused, given, done, listed}
 use Rattle.store_entries.specs.declared.answer.HandleAnswer.{HandleAnswer}

@@ -8,7 +8,7 @@ use Rattle.store.specs.Plain.{Kept, kept, put, release, list, compact, refused,
 use Rattle.store.specs.Marks.{markOf, handleOf, placeOf, named, fresh, thenLive, livesTo}
 
 -- a store of two: the lowest free handle, full, released, a dead handle, a handle used again, and the order put
-pub few-calls : answers (plainStep 2) [] (put 7 ∷ put 8 ∷ put 9 ∷ release 0 ∷ release 0 ∷ compact ∷ put 9 ∷ list ∷ [])
+pub few-calls : answers (plainStep {A = ℕ} 2) [] (put 7 ∷ put 8 ∷ put 9 ∷ release 0 ∷ release 0 ∷ compact ∷ put 9 ∷ list ∷ [])
     ≡ given 0 ∷ given 1 ∷ refused 20 ∷ done ∷ refused 21 ∷ done ∷ given 0 ∷ listed (kept 1 8 ∷ kept 0 9 ∷ []) ∷ []
 unfolding answers plainStep keyed without lowestFrom
 few-calls = refl

@@ -13,7 +13,7 @@ use Rattle.store.specs.Slice.{Slice}
 use Rattle.store.specs.Plain.{Kept, Call, put, release, list, compact, Answer, refused, given, done, listed, plainStep}
 use Rattle.store.specs.Marks.{handleOf}
 use Rattle.store.specs.Lists.{Lists, livesIn, listStep}
-use Rattle.store.specs.Ready.{Rooms, shown}
+use Rattle.store_write.specs.Calls.{Rooms, shown}
 use Rattle.store_entries.specs.Answers.{countAnswer}
 use Rattle.store_entries.specs.StoreRows.{places, storeRows, sliceRows, roomRows}
 

@@ -13,21 +13,35 @@ use Rattle.basis.specs.Answers.{countRefused, counted}
 use Rattle.basis.specs.Choice.{by-test}
 use Rattle.basis.specs.Refuse.{Row, row, firstOf, firstFrom, answer}
 use Rattle.basis.specs.RefuseLaws.{Clear, clear, clear-left, clear-right, none-clear, first-from, then-rows, answer-no, answer-yes}
-use Rattle.store.specs.declared.keep.Handle.{Handle}
-use Rattle.store.specs.declared.keep.Handle.the-variants.{Given, Full}
+use Rattle.store_write.specs.declared.keep.Handle.{Handle}
+use Rattle.store_write.specs.declared.keep.Handle.the-variants.{Given, Full}
 use Rattle.store.specs.Keys.{keyed, without}
 use Rattle.store.specs.Machine.{Turn, turn}
 use Rattle.store.specs.Slice.{Slice, sliceOf}
 use Rattle.store.specs.Plain.{put, release, list, compact, Answer, refused, given, done, listed}
 use Rattle.store.specs.Marks.{handleOf, filled}
 use Rattle.store.specs.Lists.{Lists, lists, Sized, livesIn, plainOf, releasedIn, listStep}
-use Rattle.store.specs.Ready.{Fit, PutFits, Turned, handleAs, ReleaseFits, Released, Rooms, rooms, shown, ListFits, Listed}
+use Rattle.store_write.specs.Calls.{Fit, PutFits, Turned, handleAs, ReleaseFits, Released, Rooms, rooms, shown, ListFits, Listed}
 use Rattle.store_entries.specs.declared.answer.HandleAnswer.{HandleAnswer}
 use Rattle.store_entries.specs.declared.answer.DoneAnswer.{DoneAnswer}
-use Rattle.store_entries.specs.Answers.{handleRefused, handleFrom, handleAnswer, doneRefused, doneFrom, doneAnswer, countAnswer}
+use Rattle.store_entries.specs.Answers.{handleRefused, handleGiven, handleFrom, handleAnswer, doneRefused, doneFrom, doneAnswer, countAnswer}
 use Rattle.store_entries.specs.StoreRows.{places, sliceRows, roomRows}
 use Rattle.store_entries.specs.StoreEntry.{Asked, toPut, toRelease, toList, toCompact, callOf, ownRows, listsRows, callRows, callRefusal, storeTurn, StoreLeft, shownBy, listTurn, ListLeft}
 use Rattle.store_entries.specs.StoreTheorems.{clear-lists, slice-whole}
+
+-- ---- what the functions that make answers return
+
+pub handle-given : (p : Handle) (h : ℕ) → p ≡ Given h → handleGiven h ≡ handleFrom p
+handle-given p h e = rw e
+
+pub handle-full : (p : Handle) → p ≡ Full → handleRefused 20 ≡ handleFrom p
+handle-full p e = rw e
+
+pub done-yes : (b : Bool) → b ≡ true → doneRefused 0 ≡ doneFrom b
+done-yes b e = rw e
+
+pub done-no : (b : Bool) → b ≡ false → doneRefused 21 ≡ doneFrom b
+done-no b e = rw e
 
 -- ---- a call that is refused, and one that is not
 

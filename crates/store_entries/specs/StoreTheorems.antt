@@ -1,5 +1,5 @@
 -- K9 at the entries: "Whatever the sequence of calls, it answers as a plain list would", for every content of the lists, refused calls included.
-use Prim.Native.Nat.{ℕ, zero, suc, _≤_, _<_}
+use Prim.Native.Nat.{ℕ, zero, suc, _*_, _≤_, _<_}
 use mathlib.Core.Bool.{Bool, true, false, not}
 use mathlib.Core.Path.{_≡_, refl, sym, ap, _∙_}
 use mathlib.Core.List.{List, [], _∷_, _++_}
@@ -9,7 +9,7 @@ use lib.Dec.{T, eqb}
 use borrow.Author.Tests.{eqb-true, eqb-false, eq-eqb, ne-eqb}
 use Rattle.basis.specs.Choice.{by-test}
 use Rattle.basis.specs.Refuse.{Row, row, firstOf, answer, lengthFault}
-use Rattle.basis.specs.RefuseLaws.{Clear, clear, clear-both, clear-left, none-clear, length-ok, ok-length}
+use Rattle.basis.specs.RefuseLaws.{numbered, Clear, clear, clear-both, clear-left, none-clear, length-ok, ok-length}
 use Rattle.store.specs.Keys.{keyed}
 use Rattle.store.specs.Machine.{Turn, turn, answers, after, Alike, all-alike, all-mean}
 use Rattle.store.specs.Slice.{Slice, Whole}
@@ -112,7 +112,7 @@ last-number w (toRelease h) = by-test (keyed handleOf (livesIn places w) h) (λ 
 last-number w (toList h a s e) = refl
 last-number w toCompact = refl
 
-numbered-rows : (w : Lists) (a : Asked) → T (Rattle.basis.specs.RefuseLaws.numbered (callRows w a))
+numbered-rows : (w : Lists) (a : Asked) → T (numbered (callRows w a))
 unfolding callRows ownRows
 numbered-rows w (toPut x) = tt
 numbered-rows w (toRelease h) = tt
@@ -129,7 +129,7 @@ whole-table w a = go (firstOf (callRows w a)) refl
 
 -- ---- "A put that numbers 3 and 5 let through is refused exactly when 1,792 are live"
 pub full-exactly : (w : Lists) (x : Slice) → Sized places w → firstOf (sliceRows (x .code) (x .number)) ≡ 0
-    → refusalIn (storeTurn w (toPut x) .answer) ≡ Rattle.basis.specs.Refuse.firstOf (row (eqb (length (plainOf places w)) places) 20 ∷ [])
+    → refusalIn (storeTurn w (toPut x) .answer) ≡ firstOf (row (eqb (length (plainOf places w)) places) 20 ∷ [])
 full-exactly w x z e = whole-table w (toPut x) ∙ tableOf
   where
     tableOf : firstOf (wholeRows w (toPut x)) ≡ firstOf (row (eqb (length (plainOf places w)) places) 20 ∷ [])

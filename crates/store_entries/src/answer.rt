@@ -1,7 +1,7 @@
 // What the entries answer, by value: a handle, or only that it is done.
 ghost use mathlib.Core.Path.{_≡_};
 ghost use Rattle.store_entries.specs.Answers.{handleRefused, handleFrom, doneRefused, doneFrom};
-use store::keep::Handle;
+use store_write::keep::Handle;
 
 #[repr(C)]
 pub struct HandleAnswer {

@@ -6,8 +6,12 @@ ghost use Rattle.store_entries.specs.StoreRows.{storeRows, sliceRows, ro
 use basis::number;
 use basis::refuse;
 
-// How many places the store has.
+// How many places the store has, and how many codes and numbers they take.
 const PLACES: usize = 1792;
+
+const CODES: usize = 7168;
+
+const NUMBERS: usize = 10752;
 
 // Number 1: the four lists are not those of as many places.
 pub(crate) fn store_refusal(r: u32, held: usize, at: usize, shape: usize, edition: usize) -> u32
@@ -26,30 +30,35 @@ fn at_or_zero(list: &[usize], k: usize) -> usize
     if k < list.len() { list[k] } else { 0 }
 }
 
-// Number 3: a source that is neither 1 nor 2.
-fn bad_source(source: usize) -> bool
+// A source is neither 1 nor 2.
+fn bad_code(source: usize) -> bool
     ensures { λ r. ⌜ r ≡ sourceFault source ⌝ }
 {
     source != 1 && source != 2
 }
 
-// Number 3: a yes/no code that is neither 0 nor 1.
-fn bad_choice(code: usize) -> bool
-    ensures { λ r. ⌜ r ≡ choiceFault code ⌝ }
+// Number 3: the slice's source is unknown.
+fn bad_source(put_at: &[usize]) -> bool
+    ensures { λ r. ⌜ r ≡ sourceFault (getD (now («put_at» .entry)) 0 0) ⌝ }
 {
-    1 < code
+    bad_code(at_or_zero(put_at, 0))
+}
+
+// Number 3: whether the slice is inverted is neither yes nor no.
+fn bad_inverted(put_at: &[usize]) -> bool
+    ensures { λ r. ⌜ r ≡ choiceFault (getD (now («put_at» .entry)) 1 0) ⌝ }
+{
+    1 < at_or_zero(put_at, 1)
 }
 
 // Numbers 1, 3 and 5 of the slice that is put.
 pub(crate) fn slice_refusal(r: u32, put_at: &[usize], put_shape: &[f64]) -> u32
     ensures { λ n. ⌜ n ≡ firstFrom r (sliceRows (now («put_at» .entry)) (now («put_shape» .entry))) ⌝ }
 {
-    let source = at_or_zero(put_at, 0);
-    let inverted = at_or_zero(put_at, 1);
     let r = refuse::or_else(r, refuse::bad_length(put_at.len(), 4, 1), 1);
     let r = refuse::or_else(r, refuse::bad_length(put_shape.len(), 6, 1), 1);
-    let r = refuse::or_else(r, bad_source(source), 3);
-    let r = refuse::or_else(r, bad_choice(inverted), 3);
+    let r = refuse::or_else(r, bad_source(put_at), 3);
+    let r = refuse::or_else(r, bad_inverted(put_at), 3);
     refuse::or_else(r, !number::all_in_range(put_shape), 5)
 }
 
@@ -58,7 +67,7 @@ pub(crate) fn room_refusal(r: u32, handles: usize, at: usize, shape: usize, edit
     ensures { λ n. ⌜ n ≡ firstFrom r (roomRows handles at shape edition) ⌝ }
 {
     let r = refuse::or_else(r, handles < PLACES, 9);
-    let r = refuse::or_else(r, at < 4 * PLACES, 9);
-    let r = refuse::or_else(r, shape < 6 * PLACES, 9);
+    let r = refuse::or_else(r, at < CODES, 9);
+    let r = refuse::or_else(r, shape < NUMBERS, 9);
     refuse::or_else(r, edition < PLACES, 9)
 }

@@ -2,7 +2,7 @@ ghost use mathlib.Core.Path.{_≡_};
 ghost use lib.ListN.{length};
 ghost use Rattle.store.specs.Slice.{sliceOf};
 ghost use Rattle.store.specs.Lists.{lists};
-ghost use Rattle.store.specs.Ready.{rooms};
+ghost use Rattle.store_write.specs.Calls.{rooms};
 ghost use Rattle.store_entries.specs.Answers.{handleAnswer, doneAnswer};
 ghost use Rattle.store_entries.specs.StoreEntry.{toPut, toRelease, toList, toCompact, StoreLeft, ListLeft};
 use crate::answer;
@@ -10,7 +10,7 @@ use crate::answer::DoneAnswer;
 use crate::answer::HandleAnswer;
 use crate::faults;
 use basis::answer::CountAnswer;
-use store::keep;
+use store_write::keep;
 
 // A slice is put: the lowest handle that no live slice has.
 pub fn put(

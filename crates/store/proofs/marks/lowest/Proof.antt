@@ -1,7 +1,8 @@
 use Prim.Native.Nat.{_≤_}
 use lib.ListN.{getD}
 use Rattle.store.specs.Ready.{told}
-use Rattle.store.proofs.Looking.{Lowest, lowest-start, lowest-more, lowest-here, lowest-end, told-none, told-some}
+use Rattle.store.proofs.Looking.{Lowest, lowest-start, lowest-more, lowest-here, lowest-end}
+use Rattle.store.specs.ReadyLaws.{told-none, told-some}
 use borrow.Author.Needs.{needs}
 use Rattle.store.proofs.marks.lowest.Statement.{statement}
 use Rattle.store.proofs.marks.lowest.Tie as tie
