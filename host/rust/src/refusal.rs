@@ -45,6 +45,10 @@ pub enum Refusal {
     Range,
     /// 19: a report has more than 4,096 outlines.
     Loops,
+    /// 20: as many slices are live as the store has places.
+    Full,
+    /// 21: no live slice has the handle.
+    Handle,
     /// A number that this wrapper does not know: the archive is a later one.
     Other(u32),
 }
@@ -66,6 +70,8 @@ impl Refusal {
             10 => Refusal::Steps,
             18 => Refusal::Range,
             19 => Refusal::Loops,
+            20 => Refusal::Full,
+            21 => Refusal::Handle,
             other => Refusal::Other(other),
         })
     }
@@ -98,6 +104,8 @@ impl Refusal {
             Refusal::Steps => (10, "a walk or a chain took too many steps"),
             Refusal::Range => (18, "a whole coordinate is out of range"),
             Refusal::Loops => (19, "too many outlines in a report"),
+            Refusal::Full => (20, "the store is full"),
+            Refusal::Handle => (21, "no live slice has the handle"),
             Refusal::Other(number) => (number, "a reason that this wrapper does not know"),
         }
     }
@@ -130,7 +138,7 @@ mod tests {
         for number in 1..=40 {
             let refusal = Refusal::from_number(number).unwrap();
             assert_eq!(refusal.number(), number);
-            let known = number <= 10 || number == 18 || number == 19;
+            let known = number <= 10 || (18..=21).contains(&number);
             assert_eq!(matches!(refusal, Refusal::Other(_)), !known);
         }
     }
@@ -138,7 +146,7 @@ mod tests {
     #[test]
     fn every_refusal_has_a_sentence_of_its_own() {
         let mut sentences: Vec<String> = (1..=11)
-            .chain(18..=19)
+            .chain(18..=21)
             .map(|number| Refusal::from_number(number).unwrap().to_string())
             .collect();
         assert_eq!(
@@ -151,7 +159,7 @@ mod tests {
         );
         sentences.sort();
         sentences.dedup();
-        assert_eq!(sentences.len(), 13);
+        assert_eq!(sentences.len(), 15);
     }
 
     #[test]
