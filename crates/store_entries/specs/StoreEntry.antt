@@ -30,30 +30,35 @@ callOf (toRelease h) = release h
 callOf (toList h a s e) = list
 callOf toCompact = compact
 
--- what a call is refused by, whatever the store holds
-unfoldable pub ownRows : Asked → List Row
-ownRows (toPut x) = sliceRows (x .code) (x .number)
-ownRows (toRelease h) = []
-ownRows (toList h a s e) = roomRows h a s e
-ownRows toCompact = []
+-- what a call is refused by, whatever the store of cap places holds
+unfoldable pub ownRows : ℕ → Asked → List Row
+ownRows cap (toPut x) = sliceRows (x .code) (x .number)
+ownRows cap (toRelease h) = []
+ownRows cap (toList h a s e) = roomRows cap h a s e
+ownRows cap toCompact = []
+
+-- a call on lists of cap places: what it answers, and the lists that it leaves. A refusal leaves all as it was
+unfoldable pub askedTurn : ℕ → Lists → Asked → Turn Lists (Answer Slice)
+askedTurn cap s a = answer (λ n. turn (refused n) s) (firstOf (ownRows cap a)) (listStep cap s (callOf a))
+
+-- a plain list of at most cap slices that is called in the same way
+unfoldable pub plainTurn : ℕ → List (Kept Slice) → Asked → Turn (List (Kept Slice)) (Answer Slice)
+plainTurn cap l a = answer (λ n. turn (refused n) l) (firstOf (ownRows cap a)) (plainStep cap l (callOf a))
+
+-- ---- the entries: a store of 1,792 places
 
 abbrev pub listsRows : Lists → List Row
 listsRows w = storeRows (length (w .held)) (length (w .at)) (length (w .shape)) (length (w .edition))
 
 unfoldable pub callRows : Lists → Asked → List Row
-callRows w a = listsRows w ++ ownRows a
+callRows w a = listsRows w ++ ownRows places a
 
 unfoldable pub callRefusal : Lists → Asked → ℕ
 callRefusal w a = firstOf (callRows w a)
 
--- a call of an entry: what it answers, and the lists that it leaves. A refusal leaves all as it was
+-- what a call of an entry answers, and the lists that it leaves
 unfoldable pub storeTurn : Lists → Asked → Turn Lists (Answer Slice)
 storeTurn w a = answer (λ n. turn (refused n) w) (callRefusal w a) (listStep places w (callOf a))
-
--- ---- a plain list that is called in the same way
-
-unfoldable pub plainTurn : ℕ → List (Kept Slice) → Asked → Turn (List (Kept Slice)) (Answer Slice)
-plainTurn cap l a = answer (λ n. turn (refused n) l) (firstOf (ownRows a)) (plainStep cap l (callOf a))
 
 -- ---- what the entries promise
 

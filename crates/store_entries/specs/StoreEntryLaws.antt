@@ -75,9 +75,9 @@ module _ (w : Lists) where
   number-put x p n e f =
       first-from (listsRows w ++ sliceRows (x .code) (x .number)) n tt (then-rows n p 0 (listsRows w) (sliceRows (x .code) (x .number)) f e)
 
-  number-list : (h a s d p n : ℕ) → p ≡ firstFrom 0 (listsRows w) → n ≡ firstFrom p (roomRows h a s d) → n ≡ callRefusal w (toList h a s d)
+  number-list : (h a s d p n : ℕ) → p ≡ firstFrom 0 (listsRows w) → n ≡ firstFrom p (roomRows places h a s d) → n ≡ callRefusal w (toList h a s d)
   unfolding callRefusal callRows ownRows
-  number-list h a s d p n e f = first-from (listsRows w ++ roomRows h a s d) n tt (then-rows n p 0 (listsRows w) (roomRows h a s d) f e)
+  number-list h a s d p n e f = first-from (listsRows w ++ roomRows places h a s d) n tt (then-rows n p 0 (listsRows w) (roomRows places h a s d) f e)
 
   number-release : (h n : ℕ) → n ≡ firstFrom 0 (listsRows w) → n ≡ callRefusal w (toRelease h)
   unfolding callRefusal callRows ownRows
@@ -180,7 +180,7 @@ module _ (held at : List ℕ) (shape : List Float) (edition : List ℕ) where
 
   -- ---- the list
   module _ (rh ra : List ℕ) (rs : List Float) (rd : List ℕ) (p n : ℕ) (e : p ≡ firstFrom 0 (listsRows (lists held at shape edition)))
-      (f : n ≡ firstFrom p (roomRows (length rh) (length ra) (length rs) (length rd))) where
+      (f : n ≡ firstFrom p (roomRows places (length rh) (length ra) (length rs) (length rd))) where
     list-number : n ≡ callRefusal (lists held at shape edition) (toList (length rh) (length ra) (length rs) (length rd))
     list-number = number-list (lists held at shape edition) (length rh) (length ra) (length rs) (length rd) p n e f
 
@@ -191,18 +191,18 @@ module _ (held at : List ℕ) (shape : List Float) (edition : List ℕ) where
         record { answers = rw t q; room = rw t }
 
     module _ (z : n ≡ 0) where
-      list-clear : Clear (listsRows (lists held at shape edition) ++ roomRows (length rh) (length ra) (length rs) (length rd))
-      list-clear = clear (listsRows (lists held at shape edition) ++ roomRows (length rh) (length ra) (length rs) (length rd)) tt (whole ∙ z)
+      list-clear : Clear (listsRows (lists held at shape edition) ++ roomRows places (length rh) (length ra) (length rs) (length rd))
+      list-clear = clear (listsRows (lists held at shape edition) ++ roomRows places (length rh) (length ra) (length rs) (length rd)) tt (whole ∙ z)
         where
-          whole : firstOf (listsRows (lists held at shape edition) ++ roomRows (length rh) (length ra) (length rs) (length rd)) ≡ n
+          whole : firstOf (listsRows (lists held at shape edition) ++ roomRows places (length rh) (length ra) (length rs) (length rd)) ≡ n
           whole = unfold callRefusal callRows ownRows in sym list-number
 
       list-sized : Sized places (lists held at shape edition)
-      list-sized = clear-lists (lists held at shape edition) (clear-left (listsRows (lists held at shape edition)) (roomRows (length rh) (length ra) (length rs) (length rd)) list-clear)
+      list-sized = clear-lists (lists held at shape edition) (clear-left (listsRows (lists held at shape edition)) (roomRows places (length rh) (length ra) (length rs) (length rd)) list-clear)
 
       pub list-fits : ListFits (lists held at shape edition) (rooms rh ra rs rd)
       list-fits =
-          let ok = clear-right (listsRows (lists held at shape edition)) (roomRows (length rh) (length ra) (length rs) (length rd)) list-clear in
+          let ok = clear-right (listsRows (lists held at shape edition)) (roomRows places (length rh) (length ra) (length rs) (length rd)) list-clear in
           let a = ltb-false (length rh) 1792 (ok .0) in
           let b = ltb-false (length ra) 7168 (ok .1 .0) in
           let c = ltb-false (length rs) 10752 (ok .1 .1 .0) in

@@ -1,5 +1,5 @@
 -- Documents 01 and 02: what the store's entries refuse, before the store itself is asked.
-use Prim.Native.Nat.{ℕ}
+use Prim.Native.Nat.{ℕ, _*_}
 use mathlib.Core.Bool.{not}
 use mathlib.Core.List.{List, [], _∷_}
 use lib.ListN.{length, getD}
@@ -27,7 +27,7 @@ sliceRows at shape =
     ∷ row (not (allWithin shape)) 5
     ∷ []
 
--- 9: room for every place, so that the need does not tell how many slices are live
-abbrev pub roomRows : ℕ → ℕ → ℕ → ℕ → List Row
-roomRows handles at shape edition =
-    row (ltb handles 1792) 9 ∷ row (ltb at 7168) 9 ∷ row (ltb shape 10752) 9 ∷ row (ltb edition 1792) 9 ∷ []
+-- 9: room for a slice of every place, so that the need does not tell how many are live: a handle, four codes, six numbers and an edition of each
+abbrev pub roomRows : ℕ → ℕ → ℕ → ℕ → ℕ → List Row
+roomRows cap handles at shape edition =
+    row (ltb handles cap) 9 ∷ row (ltb at (4 * cap)) 9 ∷ row (ltb shape (6 * cap)) 9 ∷ row (ltb edition cap) 9 ∷ []

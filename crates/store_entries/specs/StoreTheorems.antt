@@ -19,7 +19,7 @@ use Rattle.store.specs.Lists.{Lists, Sized, livesIn, plainOf, listStep}
 use Rattle.store.specs.ListsLaws.{plain-length, plain-has, empty-plain}
 use Rattle.store.specs.Refines.{Sound, sound-put, sound-release, sound-list, sound-compact, alike}
 use Rattle.store_entries.specs.StoreRows.{places, storeRows, sliceRows}
-use Rattle.store_entries.specs.StoreEntry.{Asked, toPut, toRelease, toList, toCompact, callOf, ownRows, listsRows, callRows, callRefusal, storeTurn, plainTurn, lastRows, wholeRows, refusalIn}
+use Rattle.store_entries.specs.StoreEntry.{Asked, toPut, toRelease, toList, toCompact, callOf, ownRows, listsRows, callRows, callRefusal, askedTurn, storeTurn, plainTurn, lastRows, wholeRows, refusalIn}
 
 -- ---- lists of the right lengths are not refused by number 1
 
@@ -48,11 +48,6 @@ unfolding firstOf
 first-after [] t c = refl
 first-after (row b n ∷ s) t c = rw (c .0) (first-after s t (c .1))
 
--- so the store's table is the call's own
-pub own-refusal : (w : Lists) (a : Asked) → Sized places w → callRefusal w a ≡ firstOf (ownRows a)
-unfolding callRefusal callRows
-own-refusal w a z = first-after (listsRows w) (ownRows a) (lists-clear w z)
-
 -- a slice that its own rows let through is four codes and six numbers
 pub slice-whole : (x : Slice) → firstOf (sliceRows (x .code) (x .number)) ≡ 0 → Whole x
 slice-whole x e =
@@ -61,29 +56,48 @@ slice-whole x e =
     let b : length (x .number) ≡ 6 * 1 = length-ok 6 (length (x .number)) 1 (ok .1 .0) in
     record { four = omega arith; six = omega arith }
 
-pub own-sound : (a : Asked) → firstOf (ownRows a) ≡ 0 → Sound (callOf a)
-unfolding callOf ownRows
-own-sound (toPut x) e = sound-put (slice-whole x e)
-own-sound (toRelease h) e = sound-release
-own-sound (toList h a s d) e = sound-list
-own-sound toCompact e = sound-compact
+-- ---- lists of any number of places: one call, and every history of calls
 
--- ---- one call
+module _ (cap : ℕ) (few : cap ≤ 2047) where
+  own-sound : (a : Asked) → firstOf (ownRows cap a) ≡ 0 → Sound (callOf a)
+  unfolding callOf ownRows
+  own-sound (toPut x) e = sound-put (slice-whole x e)
+  own-sound (toRelease h) e = sound-release
+  own-sound (toList h a s d) e = sound-list
+  own-sound toCompact e = sound-compact
 
-One : Lists → Asked → Type 0
-One w a = Alike (plainOf places) (Sized places) storeTurn (plainTurn places) w a
+  by-number : (s : Lists) (a : Asked) → Sized cap s → (n : ℕ) → firstOf (ownRows cap a) ≡ n → Alike (plainOf cap) (Sized cap) (askedTurn cap) (plainTurn cap) s a
+  unfolding askedTurn plainTurn answer
+  by-number s a z zero e =
+      let i = alike cap few s (callOf a) (own-sound a e) z in
+      record { says = rw e (i .says); leaves = rw e (i .leaves); keeps = rw e (i .keeps) }
+  by-number s a z (suc n) e = record { says = rw e; leaves = rw e; keeps = rw e z }
 
-by-number : (w : Lists) (a : Asked) → Sized places w → (n : ℕ) → firstOf (ownRows a) ≡ n → One w a
-unfolding storeTurn plainTurn answer One
-by-number w a z zero e =
-    let q = own-refusal w a z in
-    let i = alike places (omega arith) w (callOf a) (own-sound a e) z in
-    record { says = rw (q, e) (i .says); leaves = rw (q, e) (i .leaves); keeps = rw (q, e) (i .keeps) }
-by-number w a z (suc n) e = let q = own-refusal w a z in record { says = rw (q, e); leaves = rw (q, e); keeps = rw (q, e) z }
+  pub asked-alike : (s : Lists) (a : Asked) → Sized cap s → Alike (plainOf cap) (Sized cap) (askedTurn cap) (plainTurn cap) s a
+  asked-alike s a z = by-number s a z (firstOf (ownRows cap a)) refl
+
+  pub asked-plain : (s : Lists) (calls : List Asked) → Sized cap s → answers (askedTurn cap) s calls ≡ answers (plainTurn cap) (plainOf cap s) calls
+  asked-plain s calls z = all-alike (plainOf cap) (Sized cap) (askedTurn cap) (plainTurn cap) asked-alike s calls z
+
+-- ---- the entries
+
+-- over lists of the right lengths an entry's table is the call's own
+pub own-refusal : (w : Lists) (a : Asked) → Sized places w → callRefusal w a ≡ firstOf (ownRows places a)
+unfolding callRefusal callRows
+own-refusal w a z = first-after (listsRows w) (ownRows places a) (lists-clear w z)
+
+pub store-asked : (w : Lists) (a : Asked) → Sized places w → storeTurn w a ≡ askedTurn places w a
+unfolding storeTurn askedTurn
+store-asked w a z = rw (own-refusal w a z)
+
+small : places ≤ 2047
+small = omega arith
 
 pub entry-alike : (w : Lists) (a : Asked) → Sized places w → Alike (plainOf places) (Sized places) storeTurn (plainTurn places) w a
-unfolding One
-entry-alike w a z = by-number w a z (firstOf (ownRows a)) refl
+entry-alike w a z =
+    let i = asked-alike places small w a z in
+    let e = store-asked w a z in
+    record { says = rw e (i .says); leaves = rw e (i .leaves); keeps = rw e (i .keeps) }
 
 -- ---- THE THEOREM: any content of the lists, any calls
 pub as-a-plain-list : (w : Lists) (calls : List Asked) → Sized places w → answers storeTurn w calls ≡ answers (plainTurn places) (plainOf places w) calls

@@ -64,7 +64,7 @@ pub(crate) fn slice_refusal(r: u32, put_at: &[usize], put_shape: &[f64]) -> u32
 
 // Number 9: a list lent for the list is shorter than for every place.
 pub(crate) fn room_refusal(r: u32, handles: usize, at: usize, shape: usize, edition: usize) -> u32
-    ensures { λ n. ⌜ n ≡ firstFrom r (roomRows handles at shape edition) ⌝ }
+    ensures { λ n. ⌜ n ≡ firstFrom r (roomRows 1792 handles at shape edition) ⌝ }
 {
     let r = refuse::or_else(r, handles < PLACES, 9);
     let r = refuse::or_else(r, at < CODES, 9);
