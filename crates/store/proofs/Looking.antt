@@ -167,8 +167,10 @@ module _ (used : ℕ → Bool) (cap : ℕ) where
     where
       next : suc (cap - suc left) ≡ cap - left
       next = omega arith
+
       turn : lowestFrom used (cap - suc left) (suc left) ≡ lowestFrom used (cap - left) left
       turn = unfold lowestFrom in rw (u, next)
+
       step : (k : ℕ) → k ≡ left → Lowest k
       step k e = rw e (i ∙ turn)
 

@@ -44,8 +44,10 @@ module _ (cap : ℕ) (s : Lists) where
           let a : length (without handleOf (livesIn cap s) h) ≤ length (livesIn cap s) = without-most handleOf (livesIn cap s) h in
           let b : length (livesIn cap s) ≤ cap = lives-most cap (s .held) cap in
           omega arith
+
       same : plainOf cap (releasedIn cap s h) ≡ map (keptAt s) (without handleOf (livesIn cap s) h)
       same = unfold plainOf releasedIn keptAt sliceAt in rw (lives-filled cap (without handleOf (livesIn cap s) h) (proper-without cap (livesIn cap s) h (lives-proper cap (s .held) cap)) few)
+
       whole : without handleIn (plainOf cap s) h ≡ map (keptAt s) (without handleOf (livesIn cap s) h)
       whole = unfold plainOf keptAt in without-map handleIn (keptAt s) (livesIn cap s) h
 
@@ -160,8 +162,7 @@ kept-good cap s z [] p = tt
 kept-good cap s z (m ∷ l) p =
     let a = z .fours in
     let b = z .sixes in
-    let t : placeOf m < cap = named-place cap m (p .0) in
-    (
+    let t : placeOf m < cap = named-place cap m (p .0) in (
       named-handle cap m (p .0),
       (
         keyed-map handleIn (keptAt s) l (handleOf m) ∙ p .1 .0,
@@ -213,8 +214,7 @@ module _ (cap : ℕ) (few : cap ≤ 2047) where
   laid-proper k [] g h = tt
   laid-proper k (x ∷ l) g h =
       let a = g .0 in
-      let i : x .handle < 2047 = omega arith in
-      (
+      let i : x .handle < 2047 = omega arith in (
         mark-named k (x .handle) i cap a (omega arith),
         (
           rw (mark-handle k (x .handle) i) (marks-handles (suc k) l (x .handle) (g .1 .1 .1) ∙ g .1 .0),

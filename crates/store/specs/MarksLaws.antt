@@ -118,8 +118,7 @@ proper-snoc cap (x ∷ l) m p e =
     let b₁ : eqb (handleOf x) (handleOf m) ≡ false = or-left _ _ b in
     let b₂ : keyed handleOf l (handleOf m) ≡ false = or-right (eqb (handleOf x) (handleOf m)) _ b in
     let c₁ : eqb (placeOf x) (placeOf m) ≡ false = or-left _ _ c in
-    let c₂ : keyed placeOf l (placeOf m) ≡ false = or-right (eqb (placeOf x) (placeOf m)) _ c in
-    (
+    let c₂ : keyed placeOf l (placeOf m) ≡ false = or-right (eqb (placeOf x) (placeOf m)) _ c in (
       p .0,
       (
         none-snoc handleOf l m x (p .1 .0) b₁,

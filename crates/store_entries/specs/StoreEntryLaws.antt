@@ -123,11 +123,13 @@ module _ (held at : List ℕ) (shape : List Float) (edition : List ℕ) where
         where
           n₁ : length held ≡ places
           n₁ = put-sized .marks
+
           said : handleFrom h ≡ handleAnswer (listStep places (lists held at shape edition) (callOf (toPut (sliceOf c m d))) .answer)
           said = ap handleFrom (t .says) ∙ same
             where
               same : handleFrom (handleAs (listStep (length held) (lists held at shape edition) (put (sliceOf c m d)) .answer)) ≡ handleAnswer (listStep places (lists held at shape edition) (callOf (toPut (sliceOf c m d))) .answer)
               same = unfold callOf listStep in rw n₁ (by-test (eqb (length (livesIn places (lists held at shape edition))) places) (λ g. rw g) (λ g. rw g))
+
           left-is : left ≡ listStep places (lists held at shape edition) (callOf (toPut (sliceOf c m d))) .left
           left-is = unfold callOf in t .leaves ∙ rw n₁
 
@@ -145,15 +147,19 @@ module _ (held at : List ℕ) (shape : List Float) (edition : List ℕ) where
       where
         n₁ : length held ≡ places
         n₁ = only-lists n e z .marks
+
         f₁ : found ≡ keyed handleOf (livesIn places (lists held at shape edition)) k
         f₁ = t .found ∙ rw n₁
+
         said : doneFrom found ≡ doneAnswer (listStep places (lists held at shape edition) (callOf (toRelease k)) .answer)
         said = ap doneFrom f₁ ∙ same
           where
             same : doneFrom (keyed handleOf (livesIn places (lists held at shape edition)) k) ≡ doneAnswer (listStep places (lists held at shape edition) (callOf (toRelease k)) .answer)
             same = unfold callOf listStep in by-test (keyed handleOf (livesIn places (lists held at shape edition)) k) (λ g. rw g) (λ g. rw g)
+
         m₁ : held′ ≡ cond (keyed handleOf (livesIn places (lists held at shape edition)) k) (filled 0 places (without handleOf (livesIn places (lists held at shape edition)) k)) held
         m₁ = t .marks ∙ rw n₁
+
         left-is : lists held′ at shape edition ≡ listStep places (lists held at shape edition) (callOf (toRelease k)) .left
         left-is =
             unfold callOf listStep releasedIn in
@@ -173,8 +179,10 @@ module _ (held at : List ℕ) (shape : List Float) (edition : List ℕ) where
       where
         n₁ : length held ≡ places
         n₁ = only-lists n e z .marks
+
         said : r ≡ doneAnswer (listStep places (lists held at shape edition) (callOf toCompact) .answer)
         said = unfold callOf listStep in q
+
         left-is : left ≡ listStep places (lists held at shape edition) (callOf toCompact) .left
         left-is = unfold callOf in t ∙ rw n₁
 
@@ -219,9 +227,12 @@ module _ (held at : List ℕ) (shape : List Float) (edition : List ℕ) where
         where
           m : length held ≡ places
           m = list-sized .marks
+
           whole : listTurn (lists held at shape edition) (rooms rh ra rs rd) ≡ turn (listed (plainOf places (lists held at shape edition))) (lists held at shape edition)
           whole = given-turn (lists held at shape edition) (toList (length rh) (length ra) (length rs) (length rd)) n list-number z ∙ (unfold callOf listStep in refl)
+
           many : k ≡ length (plainOf places (lists held at shape edition))
           many = t .count ∙ rw m
+
           shows : left ≡ shownBy (listed (plainOf places (lists held at shape edition))) (rooms rh ra rs rd)
           shows = unfold shownBy in t .shows ∙ rw m

@@ -26,8 +26,7 @@ use Rattle.store_entries.specs.StoreEntry.{Asked, toPut, toRelease, toLi
 pub lists-clear : (w : Lists) → Sized places w → Clear (listsRows w)
 lists-clear w z =
     let a = z .marks in
-    let b = z .ones in
-    (
+    let b = z .ones in (
       ok-length 1 (length (w .held)) places (omega arith),
       (ok-length 4 (length (w .at)) places (z .fours), (ok-length 6 (length (w .shape)) places (z .sixes), (ok-length 1 (length (w .edition)) places (omega arith), tt))),
     )

@@ -27,7 +27,8 @@ use Rattle.store.specs.Lists.{Lists, lists, Sized, sliceAt, keptAt, livesIn, pl
 use Rattle.store.specs.ListsLaws.{plain-length}
 use Rattle.store.specs.Ready.{Low, told, Told, LookedAll, Blank, MarksFit, numberFrom}
 use Rattle.store.specs.ReadyLaws.{told-none, told-some}
-use Rattle.store_write.specs.Calls.{blocksAt, editionsAt, LayFits, ShowFits, ShowHandles, Fit, PutFits, WriteFits, Wrote, Turned, handleAs, Released, Rooms, rooms, shown, ListFits, Listed}
+use Rattle.store_gather.specs.Gather.{blocksAt, editionsAt, LayFits, ShowFits, ShowHandles}
+use Rattle.store_write.specs.Calls.{Fit, PutFits, WriteFits, Wrote, Turned, handleAs, Released, Rooms, rooms, shown, ListFits, Listed}
 
 -- ---- before the marks are looked at: local arrays of zeros
 

@@ -5,7 +5,6 @@ ghost use Rattle.store.specs.Slice.{sliceOf};
 ghost use Rattle.store.specs.Plain.{put, release, compact};
 ghost use Rattle.store.specs.Lists.{lists, listStep};
 ghost use Rattle.store_write.specs.Calls.{Fit, PutFits, WriteFits, Wrote, Turned, handleAs, ReleaseFits, Released, rooms, ListFits, Listed};
-use crate::moves;
 use store::copies;
 use store::marks;
 
@@ -97,9 +96,9 @@ pub fn compact_slices(held: &mut [usize], at: &mut [usize], shape: &mut [f64], e
     let mut handles = [0u8; 1792];
     let mut places = [0u8; 1792];
     let n = marks::live_marks(held, &mut order, &mut handles, &mut places);
-    moves::lay_codes(at, &order, n);
-    moves::lay_numbers(shape, &order, n);
-    moves::lay_editions(edition, &order, n);
+    store_gather::lay_codes(at, &order, n);
+    store_gather::lay_numbers(shape, &order, n);
+    store_gather::lay_editions(edition, &order, n);
     marks::number_marks(held, &order, n);
 }
 
@@ -124,9 +123,9 @@ pub fn list_slices(
     let mut places = [0u8; 1792];
     let n = marks::live_marks(held, &mut order, &mut taken, &mut places);
     let cap = held.len();
-    moves::show_handles(&order, n, handles, cap);
-    moves::show_codes(at, &order, n, list_at, cap);
-    moves::show_numbers(shape, &order, n, list_shape, cap);
-    moves::show_editions(edition, &order, n, list_edition, cap);
+    store_gather::show_handles(&order, n, handles, cap);
+    store_gather::show_codes(at, &order, n, list_at, cap);
+    store_gather::show_numbers(shape, &order, n, list_shape, cap);
+    store_gather::show_editions(edition, &order, n, list_edition, cap);
     n
 }

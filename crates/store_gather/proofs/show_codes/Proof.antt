@@ -1,7 +1,7 @@
-use Rattle.store_write.proofs.Gathering.{show-done}
+use Rattle.store_gather.proofs.Gathering.{show-done}
 use borrow.Author.Needs.{needs}
-use Rattle.store_write.proofs.moves.show_codes.Statement.{statement}
-use Rattle.store_write.proofs.moves.show_codes.Tie as tie
+use Rattle.store_gather.proofs.show_codes.Statement.{statement}
+use Rattle.store_gather.proofs.show_codes.Tie as tie
 
 gather-codes-requires : tie.Need-gather-codes-requires
 gather-codes-requires c κs = search needs

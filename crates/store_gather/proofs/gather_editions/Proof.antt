@@ -1,19 +1,17 @@
 use Prim.Native.Nat.{_-_}
-use lib.ListN.{take}
-use Rattle.store_write.specs.Calls.{blocksAt}
-use Rattle.store_write.proofs.Gathering.{Gathering, gather-none, gather-fits, gather-more, gather-end}
+use Rattle.store_gather.proofs.Gathering.{Mapping, mapping-none, editionAt, editions-below, editions-more, editions-end}
 use borrow.Author.Needs.{needs}
-use Rattle.store_write.proofs.moves.gather_numbers.Statement.{statement}
-use Rattle.store_write.proofs.moves.gather_numbers.Tie as tie
+use Rattle.store_gather.proofs.gather_editions.Statement.{statement}
+use Rattle.store_gather.proofs.gather_editions.Tie as tie
 
 abbrev Inv-loop : tie.InvT-loop
-Inv-loop src order n dst₀ k₀ dst k = Gathering (blocksAt 6 src (take k order)) 6 n dst₀ dst k
+Inv-loop src order n dst₀ k₀ dst k = Mapping (editionAt src) order n dst₀ dst k
 
 abbrev μ-loop : tie.MeasureT-loop
 μ-loop src order n dst₀ k₀ dst k = n - k
 
 loop-holds : tie.Need-loop-holds Inv-loop μ-loop
-loop-holds c = gather-none 6 _ _ _
+loop-holds c = mapping-none _ _ _ _
 
 mul-place-of : tie.Need-mul-place-of Inv-loop μ-loop
 mul-place-of c = search needs
@@ -24,14 +22,17 @@ element-copy-out-place-of c = search needs
 place-of-requires : tie.Need-place-of-requires Inv-loop μ-loop
 place-of-requires c κs = search needs
 
-mul-copy-numbers : tie.Need-mul-copy-numbers Inv-loop μ-loop
-mul-copy-numbers c = search needs
+mul-x : tie.Need-mul-x Inv-loop μ-loop
+mul-x c = search needs
 
-mul-copy-numbers-2 : tie.Need-mul-copy-numbers-2 Inv-loop μ-loop
-mul-copy-numbers-2 c = search needs
+shared-slice-read-x : tie.Need-shared-slice-read-x Inv-loop μ-loop
+shared-slice-read-x c = search (needs, editions-below)
 
-copy-numbers-requires : tie.Need-copy-numbers-requires Inv-loop μ-loop
-copy-numbers-requires c κs = search (needs, gather-fits)
+mul-dst : tie.Need-mul-dst Inv-loop μ-loop
+mul-dst c = search needs
+
+slice-write-dst : tie.Need-slice-write-dst Inv-loop μ-loop
+slice-write-dst c = search needs
 
 add-k : tie.Need-add-k Inv-loop μ-loop
 add-k c = search needs
@@ -40,16 +41,16 @@ loop-less : tie.Need-loop-less Inv-loop μ-loop
 loop-less c = search needs
 
 loop-again : tie.Need-loop-again Inv-loop μ-loop
-loop-again c = search (needs, gather-more)
+loop-again c = search (needs, editions-more)
 
 same-length : tie.Need-same-length Inv-loop μ-loop
 same-length c = search needs
 
 returns : tie.Need-returns Inv-loop μ-loop
-returns c = search (needs, gather-end)
+returns c = search (needs, editions-end)
 
-pub gather-numbers-spec : {M : Type 1} → statement M
-gather-numbers-spec =
+pub gather-editions-spec : {M : Type 1} → statement M
+gather-editions-spec =
     tie.close
     (tie.spec
     Inv-loop
@@ -58,9 +59,10 @@ gather-numbers-spec =
     mul-place-of
     element-copy-out-place-of
     place-of-requires
-    mul-copy-numbers
-    mul-copy-numbers-2
-    copy-numbers-requires
+    mul-x
+    shared-slice-read-x
+    mul-dst
+    slice-write-dst
     add-k
     loop-less
     loop-again

@@ -1,7 +1,7 @@
-use Rattle.store_write.proofs.Gathering.{lay-gather, lay-editions-done}
+use Rattle.store_gather.proofs.Gathering.{lay-gather, lay-editions-done}
 use borrow.Author.Needs.{needs}
-use Rattle.store_write.proofs.moves.lay_editions.Statement.{statement}
-use Rattle.store_write.proofs.moves.lay_editions.Tie as tie
+use Rattle.store_gather.proofs.lay_editions.Statement.{statement}
+use Rattle.store_gather.proofs.lay_editions.Tie as tie
 
 slice-aggregate-gather-editions : tie.Need-slice-aggregate-gather-editions
 slice-aggregate-gather-editions c = search needs

@@ -1,4 +1,4 @@
-// Slices copied from one list to another, place by place: codes are four words to a place, numbers six, editions one.
+// Slices gathered from their places: laid out anew within a list, or shown in lent room. Codes are four words to a place, numbers six, editions one.
 ghost use mathlib.Core.Path.{_≡_};
 ghost use mathlib.Core.List.{_++_, map};
 ghost use Prim.Native.Nat.{_*_};
@@ -6,7 +6,7 @@ ghost use lib.ListN.{length, take, drop};
 ghost use Rattle.basis.specs.Number.{+0};
 ghost use Rattle.basis.specs.Room.{roomOf, cleared, Stretch};
 ghost use Rattle.store.specs.Marks.{handleOf, filled};
-ghost use Rattle.store_write.specs.Calls.{GatherFits, HandlesFit, blocksAt, editionsAt, LayFits, ShowFits, ShowHandles};
+ghost use Rattle.store_gather.specs.Gather.{GatherFits, HandlesFit, blocksAt, editionsAt, LayFits, ShowFits, ShowHandles};
 use basis::room;
 use store::copies;
 use store::marks;
@@ -78,7 +78,7 @@ fn gather_handles(order: &[usize; 1792], n: usize, dst: &mut [usize])
 
 // ---- within one list: the slices that `order` names stand in front, and zeros behind them
 
-pub(crate) fn lay_codes(codes: &mut [usize], order: &[usize; 1792], n: usize)
+pub fn lay_codes(codes: &mut [usize], order: &[usize; 1792], n: usize)
     requires { ⌜ LayFits 4 7168 (now codes) (now order) n ⌝ }
     ensures { λ _. ⌜ now (codes .exit) ≡ filled 0 (length (now (codes .entry))) (blocksAt 4 (now (codes .entry)) (take n (now (order .entry)))) ⌝ }
 {
@@ -88,7 +88,7 @@ pub(crate) fn lay_codes(codes: &mut [usize], order: &[usize; 1792], n: usize)
     copies::copy_words(&laid, 0, codes, 0, len);
 }
 
-pub(crate) fn lay_numbers(numbers: &mut [f64], order: &[usize; 1792], n: usize)
+pub fn lay_numbers(numbers: &mut [f64], order: &[usize; 1792], n: usize)
     requires { ⌜ LayFits 6 10752 (now numbers) (now order) n ⌝ }
     ensures { λ _. ⌜ now (numbers .exit) ≡ filled +0 (length (now (numbers .entry))) (blocksAt 6 (now (numbers .entry)) (take n (now (order .entry)))) ⌝ }
 {
@@ -98,7 +98,7 @@ pub(crate) fn lay_numbers(numbers: &mut [f64], order: &[usize; 1792], n: usize)
     copies::copy_numbers(&laid, 0, numbers, 0, len);
 }
 
-pub(crate) fn lay_editions(editions: &mut [u32], order: &[usize; 1792], n: usize)
+pub fn lay_editions(editions: &mut [u32], order: &[usize; 1792], n: usize)
     requires { ⌜ LayFits 1 1792 (now editions) (now order) n ⌝ }
     ensures { λ _. ⌜ now (editions .exit) ≡ filled 0 (length (now (editions .entry))) (editionsAt (now (editions .entry)) (take n (now (order .entry)))) ⌝ }
 {
@@ -110,7 +110,7 @@ pub(crate) fn lay_editions(editions: &mut [u32], order: &[usize; 1792], n: usize
 
 // ---- to lent room: the slices that `order` names, and zeros up to the need
 
-pub(crate) fn show_handles(order: &[usize; 1792], n: usize, dst: &mut [usize], need: usize)
+pub fn show_handles(order: &[usize; 1792], n: usize, dst: &mut [usize], need: usize)
     requires { ⌜ ShowHandles need (now order) n (now dst) ⌝ }
     ensures { λ _. ⌜ now (dst .exit) ≡ roomOf 0 1 need (map handleOf (take n (now (order .entry)))) (now (dst .entry)) ⌝ }
 {
@@ -118,7 +118,7 @@ pub(crate) fn show_handles(order: &[usize; 1792], n: usize, dst: &mut [usize], n
     room::clear_counts(dst, n, need);
 }
 
-pub(crate) fn show_codes(src: &[usize], order: &[usize; 1792], n: usize, dst: &mut [usize], need: usize)
+pub fn show_codes(src: &[usize], order: &[usize; 1792], n: usize, dst: &mut [usize], need: usize)
     requires { ⌜ ShowFits 4 need (now src) (now order) n (now dst) ⌝ }
     ensures { λ _. ⌜ now (dst .exit) ≡ roomOf 0 4 need (blocksAt 4 (now (src .entry)) (take n (now (order .entry)))) (now (dst .entry)) ⌝ }
 {
@@ -126,7 +126,7 @@ pub(crate) fn show_codes(src: &[usize], order: &[usize; 1792], n: usize, dst: &m
     room::clear_counts(dst, 4 * n, 4 * need);
 }
 
-pub(crate) fn show_numbers(src: &[f64], order: &[usize; 1792], n: usize, dst: &mut [f64], need: usize)
+pub fn show_numbers(src: &[f64], order: &[usize; 1792], n: usize, dst: &mut [f64], need: usize)
     requires { ⌜ ShowFits 6 need (now src) (now order) n (now dst) ⌝ }
     ensures { λ _. ⌜ now (dst .exit) ≡ roomOf +0 6 need (blocksAt 6 (now (src .entry)) (take n (now (order .entry)))) (now (dst .entry)) ⌝ }
 {
@@ -134,7 +134,7 @@ pub(crate) fn show_numbers(src: &[f64], order: &[usize; 1792], n: usize, dst: &m
     room::clear_numbers(dst, 6 * n, 6 * need);
 }
 
-pub(crate) fn show_editions(src: &[u32], order: &[usize; 1792], n: usize, dst: &mut [u32], need: usize)
+pub fn show_editions(src: &[u32], order: &[usize; 1792], n: usize, dst: &mut [u32], need: usize)
     requires { ⌜ ShowFits 1 need (now src) (now order) n (now dst) ⌝ }
     ensures { λ _. ⌜ now (dst .exit) ≡ roomOf 0 1 need (editionsAt (now (src .entry)) (take n (now (order .entry)))) (now (dst .entry)) ⌝ }
 {

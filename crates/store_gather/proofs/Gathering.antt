@@ -16,7 +16,7 @@ use Rattle.store.specs.BlocksLaws.{length-block, length-flat}
 use Rattle.store.specs.Marks.{handleOf, placeOf, filled}
 use Rattle.store.specs.Ready.{Front, CopyFits}
 use Rattle.store.specs.ReadyLaws.{front-none, front-more}
-use Rattle.store_write.specs.Calls.{GatherFits, HandlesFit, blocksAt, editionsAt, LayFits, ShowFits, ShowHandles}
+use Rattle.store_gather.specs.Gather.{GatherFits, HandlesFit, blocksAt, editionsAt, LayFits, ShowFits, ShowHandles}
 
 -- ---- places gathered
 
@@ -44,6 +44,7 @@ module _ {A : Type 0} (w : ℕ) (src : List A) (order : List ℕ) (n : ℕ) (dst
       wide : (l : List ℕ) → All (λ m. placeOf m < fit .many) l → All (λ m. length (block w src (placeOf m)) ≡ w) l
       wide [] x = tt
       wide (m ∷ l) x = (length-block w src (fit .many) (placeOf m) (fit .width) (x .0), wide l (x .1))
+
       front : (j : ℕ) (l : List ℕ) → All (λ m. placeOf m < fit .many) l → All (λ m. placeOf m < fit .many) (take j l)
       front zero l x = tt
       front (suc j) [] x = tt
@@ -84,19 +85,23 @@ module _ {A : Type 0} (w : ℕ) (src : List A) (order : List ℕ) (n : ℕ) (dst
       where
         p : placeOf (getD order k 0) ≡ t
         p = sym e
+
         front : take (w * k) dst ≡ blocksAt w src (take k order)
         front = rw (g .is) (take-at (blocksAt w src (take k order)) (drop (w * k) dst₀) (w * k) done-length)
+
         back : drop (w * k + w) dst ≡ drop (w * suc k) dst₀
         back =
             let u : w * suc k ≡ w * k + w = mul-suc w k in
             let v : length (blocksAt w src (take k order)) ≡ w * k = done-length in
             let i : w * k + w ≡ length (blocksAt w src (take k order)) + w = omega arith in
             rw (g .is, i, drop-append-add (blocksAt w src (take k order)) (drop (w * k) dst₀) w, drop-drop w (w * k) dst₀, u)
+
         more : blocksAt w src (take (suc k) order) ≡ blocksAt w src (take k order) ++ take w (drop (w * t) src)
         more =
             let a = fit .few in
             let b = fit .rooms in
             unfold blocksAt block in rw (take-suc order k 0 (omega arith), flat-snoc (λ m. take w (drop (w * placeOf m) src)) (take k order) (getD order k 0), p)
+
         next : paste dst (w * k) (drop (w * t) src) w ≡ blocksAt w src (take (suc k) order) ++ drop (w * suc k) dst₀
         next = rw (front, back, more)
 

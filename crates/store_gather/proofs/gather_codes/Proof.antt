@@ -1,17 +1,19 @@
 use Prim.Native.Nat.{_-_}
-use Rattle.store_write.proofs.Gathering.{Mapping, mapping-none, editionAt, editions-below, editions-more, editions-end}
+use lib.ListN.{take}
+use Rattle.store_gather.specs.Gather.{blocksAt}
+use Rattle.store_gather.proofs.Gathering.{Gathering, gather-none, gather-fits, gather-more, gather-end}
 use borrow.Author.Needs.{needs}
-use Rattle.store_write.proofs.moves.gather_editions.Statement.{statement}
-use Rattle.store_write.proofs.moves.gather_editions.Tie as tie
+use Rattle.store_gather.proofs.gather_codes.Statement.{statement}
+use Rattle.store_gather.proofs.gather_codes.Tie as tie
 
 abbrev Inv-loop : tie.InvT-loop
-Inv-loop src order n dst₀ k₀ dst k = Mapping (editionAt src) order n dst₀ dst k
+Inv-loop src order n dst₀ k₀ dst k = Gathering (blocksAt 4 src (take k order)) 4 n dst₀ dst k
 
 abbrev μ-loop : tie.MeasureT-loop
 μ-loop src order n dst₀ k₀ dst k = n - k
 
 loop-holds : tie.Need-loop-holds Inv-loop μ-loop
-loop-holds c = mapping-none _ _ _ _
+loop-holds c = gather-none 4 _ _ _
 
 mul-place-of : tie.Need-mul-place-of Inv-loop μ-loop
 mul-place-of c = search needs
@@ -22,17 +24,14 @@ element-copy-out-place-of c = search needs
 place-of-requires : tie.Need-place-of-requires Inv-loop μ-loop
 place-of-requires c κs = search needs
 
-mul-x : tie.Need-mul-x Inv-loop μ-loop
-mul-x c = search needs
+mul-copy-words : tie.Need-mul-copy-words Inv-loop μ-loop
+mul-copy-words c = search needs
 
-shared-slice-read-x : tie.Need-shared-slice-read-x Inv-loop μ-loop
-shared-slice-read-x c = search (needs, editions-below)
+mul-copy-words-2 : tie.Need-mul-copy-words-2 Inv-loop μ-loop
+mul-copy-words-2 c = search needs
 
-mul-dst : tie.Need-mul-dst Inv-loop μ-loop
-mul-dst c = search needs
-
-slice-write-dst : tie.Need-slice-write-dst Inv-loop μ-loop
-slice-write-dst c = search needs
+copy-words-requires : tie.Need-copy-words-requires Inv-loop μ-loop
+copy-words-requires c κs = search (needs, gather-fits)
 
 add-k : tie.Need-add-k Inv-loop μ-loop
 add-k c = search needs
@@ -41,16 +40,16 @@ loop-less : tie.Need-loop-less Inv-loop μ-loop
 loop-less c = search needs
 
 loop-again : tie.Need-loop-again Inv-loop μ-loop
-loop-again c = search (needs, editions-more)
+loop-again c = search (needs, gather-more)
 
 same-length : tie.Need-same-length Inv-loop μ-loop
 same-length c = search needs
 
 returns : tie.Need-returns Inv-loop μ-loop
-returns c = search (needs, editions-end)
+returns c = search (needs, gather-end)
 
-pub gather-editions-spec : {M : Type 1} → statement M
-gather-editions-spec =
+pub gather-codes-spec : {M : Type 1} → statement M
+gather-codes-spec =
     tie.close
     (tie.spec
     Inv-loop
@@ -59,10 +58,9 @@ gather-editions-spec =
     mul-place-of
     element-copy-out-place-of
     place-of-requires
-    mul-x
-    shared-slice-read-x
-    mul-dst
-    slice-write-dst
+    mul-copy-words
+    mul-copy-words-2
+    copy-words-requires
     add-k
     loop-less
     loop-again

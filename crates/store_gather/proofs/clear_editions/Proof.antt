@@ -1,8 +1,8 @@
 use Prim.Native.Nat.{_-_}
 use Rattle.basis.specs.RoomLaws.{Clearing, clearing}
 use borrow.Author.Needs.{needs}
-use Rattle.store_write.proofs.moves.clear_editions.Statement.{statement}
-use Rattle.store_write.proofs.moves.clear_editions.Tie as tie
+use Rattle.store_gather.proofs.clear_editions.Statement.{statement}
+use Rattle.store_gather.proofs.clear_editions.Tie as tie
 
 abbrev Inv-loop : tie.InvT-loop
 Inv-loop room₀ from to i₀ room i = Clearing 0 room₀ from to room i

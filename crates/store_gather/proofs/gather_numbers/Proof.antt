@@ -1,19 +1,19 @@
 use Prim.Native.Nat.{_-_}
 use lib.ListN.{take}
-use Rattle.store_write.specs.Calls.{blocksAt}
-use Rattle.store_write.proofs.Gathering.{Gathering, gather-none, gather-fits, gather-more, gather-end}
+use Rattle.store_gather.specs.Gather.{blocksAt}
+use Rattle.store_gather.proofs.Gathering.{Gathering, gather-none, gather-fits, gather-more, gather-end}
 use borrow.Author.Needs.{needs}
-use Rattle.store_write.proofs.moves.gather_codes.Statement.{statement}
-use Rattle.store_write.proofs.moves.gather_codes.Tie as tie
+use Rattle.store_gather.proofs.gather_numbers.Statement.{statement}
+use Rattle.store_gather.proofs.gather_numbers.Tie as tie
 
 abbrev Inv-loop : tie.InvT-loop
-Inv-loop src order n dst₀ k₀ dst k = Gathering (blocksAt 4 src (take k order)) 4 n dst₀ dst k
+Inv-loop src order n dst₀ k₀ dst k = Gathering (blocksAt 6 src (take k order)) 6 n dst₀ dst k
 
 abbrev μ-loop : tie.MeasureT-loop
 μ-loop src order n dst₀ k₀ dst k = n - k
 
 loop-holds : tie.Need-loop-holds Inv-loop μ-loop
-loop-holds c = gather-none 4 _ _ _
+loop-holds c = gather-none 6 _ _ _
 
 mul-place-of : tie.Need-mul-place-of Inv-loop μ-loop
 mul-place-of c = search needs
@@ -24,14 +24,14 @@ element-copy-out-place-of c = search needs
 place-of-requires : tie.Need-place-of-requires Inv-loop μ-loop
 place-of-requires c κs = search needs
 
-mul-copy-words : tie.Need-mul-copy-words Inv-loop μ-loop
-mul-copy-words c = search needs
+mul-copy-numbers : tie.Need-mul-copy-numbers Inv-loop μ-loop
+mul-copy-numbers c = search needs
 
-mul-copy-words-2 : tie.Need-mul-copy-words-2 Inv-loop μ-loop
-mul-copy-words-2 c = search needs
+mul-copy-numbers-2 : tie.Need-mul-copy-numbers-2 Inv-loop μ-loop
+mul-copy-numbers-2 c = search needs
 
-copy-words-requires : tie.Need-copy-words-requires Inv-loop μ-loop
-copy-words-requires c κs = search (needs, gather-fits)
+copy-numbers-requires : tie.Need-copy-numbers-requires Inv-loop μ-loop
+copy-numbers-requires c κs = search (needs, gather-fits)
 
 add-k : tie.Need-add-k Inv-loop μ-loop
 add-k c = search needs
@@ -48,8 +48,8 @@ same-length c = search needs
 returns : tie.Need-returns Inv-loop μ-loop
 returns c = search (needs, gather-end)
 
-pub gather-codes-spec : {M : Type 1} → statement M
-gather-codes-spec =
+pub gather-numbers-spec : {M : Type 1} → statement M
+gather-numbers-spec =
     tie.close
     (tie.spec
     Inv-loop
@@ -58,9 +58,9 @@ gather-codes-spec =
     mul-place-of
     element-copy-out-place-of
     place-of-requires
-    mul-copy-words
-    mul-copy-words-2
-    copy-words-requires
+    mul-copy-numbers
+    mul-copy-numbers-2
+    copy-numbers-requires
     add-k
     loop-less
     loop-again

@@ -1,9 +1,9 @@
 use Prim.Native.Nat.{_-_}
 use Rattle.store.specs.Marks.{handleOf}
-use Rattle.store_write.proofs.Gathering.{Mapping, mapping-none, handles-more, handles-end}
+use Rattle.store_gather.proofs.Gathering.{Mapping, mapping-none, handles-more, handles-end}
 use borrow.Author.Needs.{needs}
-use Rattle.store_write.proofs.moves.gather_handles.Statement.{statement}
-use Rattle.store_write.proofs.moves.gather_handles.Tie as tie
+use Rattle.store_gather.proofs.gather_handles.Statement.{statement}
+use Rattle.store_gather.proofs.gather_handles.Tie as tie
 
 abbrev Inv-loop : tie.InvT-loop
 Inv-loop order n dst₀ k₀ dst k = Mapping handleOf order n dst₀ dst k

@@ -1,7 +1,7 @@
-use Rattle.store_write.proofs.Gathering.{lay-gather, lay-done}
+use Rattle.store_gather.proofs.Gathering.{lay-gather, lay-done}
 use borrow.Author.Needs.{needs}
-use Rattle.store_write.proofs.moves.lay_numbers.Statement.{statement}
-use Rattle.store_write.proofs.moves.lay_numbers.Tie as tie
+use Rattle.store_gather.proofs.lay_numbers.Statement.{statement}
+use Rattle.store_gather.proofs.lay_numbers.Tie as tie
 
 slice-aggregate-gather-numbers : tie.Need-slice-aggregate-gather-numbers
 slice-aggregate-gather-numbers c = search needs

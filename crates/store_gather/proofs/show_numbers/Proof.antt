@@ -1,7 +1,7 @@
-use Rattle.store_write.proofs.Gathering.{show-done}
+use Rattle.store_gather.proofs.Gathering.{show-done}
 use borrow.Author.Needs.{needs}
-use Rattle.store_write.proofs.moves.show_numbers.Statement.{statement}
-use Rattle.store_write.proofs.moves.show_numbers.Tie as tie
+use Rattle.store_gather.proofs.show_numbers.Statement.{statement}
+use Rattle.store_gather.proofs.show_numbers.Tie as tie
 
 gather-numbers-requires : tie.Need-gather-numbers-requires
 gather-numbers-requires c κs = search needs

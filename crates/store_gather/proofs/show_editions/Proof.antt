@@ -1,7 +1,7 @@
-use Rattle.store_write.proofs.Gathering.{show-editions-done}
+use Rattle.store_gather.proofs.Gathering.{show-editions-done}
 use borrow.Author.Needs.{needs}
-use Rattle.store_write.proofs.moves.show_editions.Statement.{statement}
-use Rattle.store_write.proofs.moves.show_editions.Tie as tie
+use Rattle.store_gather.proofs.show_editions.Statement.{statement}
+use Rattle.store_gather.proofs.show_editions.Tie as tie
 
 gather-editions-requires : tie.Need-gather-editions-requires
 gather-editions-requires c κs = search needs

@@ -1,7 +1,7 @@
-use Rattle.store_write.proofs.Gathering.{lay-gather, lay-done}
+use Rattle.store_gather.proofs.Gathering.{lay-gather, lay-done}
 use borrow.Author.Needs.{needs}
-use Rattle.store_write.proofs.moves.lay_codes.Statement.{statement}
-use Rattle.store_write.proofs.moves.lay_codes.Tie as tie
+use Rattle.store_gather.proofs.lay_codes.Statement.{statement}
+use Rattle.store_gather.proofs.lay_codes.Tie as tie
 
 slice-aggregate-gather-codes : tie.Need-slice-aggregate-gather-codes
 slice-aggregate-gather-codes c = search needs

@@ -1,7 +1,7 @@
-use Rattle.store_write.proofs.Gathering.{show-handles-done}
+use Rattle.store_gather.proofs.Gathering.{show-handles-done}
 use borrow.Author.Needs.{needs}
-use Rattle.store_write.proofs.moves.show_handles.Statement.{statement}
-use Rattle.store_write.proofs.moves.show_handles.Tie as tie
+use Rattle.store_gather.proofs.show_handles.Statement.{statement}
+use Rattle.store_gather.proofs.show_handles.Tie as tie
 
 gather-handles-requires : tie.Need-gather-handles-requires
 gather-handles-requires c κs = search needs
