@@ -14,7 +14,7 @@ use Rattle.basis.specs.Choice.{by-test}
 use Rattle.basis.specs.Room.{cleared}
 use Rattle.store.specs.Keys.{keyed, without, lowestFrom}
 use Rattle.store.specs.KeysLaws.{keyed-snoc}
-use Rattle.store.specs.Marks.{markOf, handleOf, placeOf, named, fresh, thenLive, livesTo, filled}
+use Rattle.store.specs.Marks.{mostPlaces, markOf, handleOf, placeOf, named, fresh, thenLive, livesTo, filled}
 use Rattle.store.specs.MarksLaws.{named-handle, named-place, fresh-yes, fresh-unnamed, fresh-handle, fresh-place}
 use Rattle.store.specs.Ready.{Low, told, Told, Looked, LookFits, Blank, MarksFit, Front, OtherPut, numberFrom}
 use Rattle.store.specs.ReadyLaws.{told-none, told-some, front-none, front-more, front-filled}
@@ -96,11 +96,11 @@ module _ (held : List ℕ) (p n : ℕ) (order handles places : List ℕ) (f : Lo
     place-below : t < length held
     place-below = rw is-place (named-place (length held) (getD held p 0) names)
 
-    pub handle-low : h < 1792
+    pub handle-low : h < mostPlaces
     unfolding s
     handle-low = let a = handle-below in let b = s .fits in omega arith
 
-    pub place-low : t < 1792
+    pub place-low : t < mostPlaces
     unfolding s
     place-low = let a = place-below in let b = s .fits in omega arith
 

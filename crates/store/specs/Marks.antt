@@ -7,6 +7,10 @@ use lib.ListN.{length, getD, replicate}
 use lib.Dec.{leb, ltb}
 use Rattle.store.specs.Keys.{keyed}
 
+-- the most places that a store has here
+abbrev pub mostPlaces : ℕ
+mostPlaces = 1792
+
 -- the mark of the slice with handle h at place t
 unfoldable pub markOf : ℕ → ℕ → ℕ
 markOf t h = 2048 * t + (h + 1)

@@ -6,15 +6,15 @@ use mathlib.Core.List.{List, [], _∷_, _++_}
 use lib.ListN.{length, getD, set, take, drop}
 use lib.Dec.{eqb}
 use Rattle.store.specs.Keys.{keyed}
-use Rattle.store.specs.Marks.{markOf, handleOf, placeOf, livesTo}
+use Rattle.store.specs.Marks.{mostPlaces, markOf, handleOf, placeOf, livesTo}
 
 -- so many places at most
 pub record Few (n : ℕ) : Type 0 where
-  pub most : n ≤ 1792
+  pub most : n ≤ mostPlaces
 
 -- a place and a handle of which a mark can be made
 pub record Low (t h : ℕ) : Type 0 where
-  pub place : t < 1792
+  pub place : t < mostPlaces
   pub handle : h < 2048
 
 -- the place that a mark names, so low that what is worked out from it stays in range
@@ -33,11 +33,11 @@ Told cap flags key l = (k : ℕ) → k < cap → told (getD flags k 0) ≡ keyed
 
 -- the first p numbers were looked at: n live marks are put down in `order`, and their handles and places are told
 pub record Looked (held : List ℕ) (p n : ℕ) (order handles places : List ℕ) : Type 0 where
-  pub fits : length held ≤ 1792
+  pub fits : length held ≤ mostPlaces
   pub least : n ≤ p
-  pub rooms : length order ≡ 1792
-  pub flags : length handles ≡ 1792
-  pub spots : length places ≡ 1792
+  pub rooms : length order ≡ mostPlaces
+  pub flags : length handles ≡ mostPlaces
+  pub spots : length places ≡ mostPlaces
   pub count : length (livesTo (length held) held p) ≡ n
   pub is : take n order ≡ livesTo (length held) held p
   pub handle : Told (length held) handles handleOf (livesTo (length held) held p)
@@ -49,10 +49,10 @@ pub record LookFits (held : List ℕ) (p n : ℕ) (order handles places : List �
 
 -- nothing is put down, nothing told
 pub record Blank (held order handles places : List ℕ) : Type 0 where
-  pub fits : length held ≤ 1792
-  pub rooms : length order ≡ 1792
-  pub flags : length handles ≡ 1792
-  pub spots : length places ≡ 1792
+  pub fits : length held ≤ mostPlaces
+  pub rooms : length order ≡ mostPlaces
+  pub flags : length handles ≡ mostPlaces
+  pub spots : length places ≡ mostPlaces
   pub handle : (k : ℕ) → getD handles k 0 ≡ 0
   pub place : (k : ℕ) → getD places k 0 ≡ 0
 
@@ -64,8 +64,8 @@ LookedAll held n order handles places = Looked held (length held) n order handle
 -- n numbers of `order`, and room for them
 pub record MarksFit (held order : List ℕ) (n : ℕ) : Type 0 where
   pub fits : n ≤ length held
-  pub few : length held ≤ 1792
-  pub rooms : length order ≡ 1792
+  pub few : length held ≤ mostPlaces
+  pub rooms : length order ≡ mostPlaces
 
 -- the items stand in front, and behind them what was there
 pub record Front {A : Type 0} (items entry l : List A) (k : ℕ) : Type 0 where

@@ -8,6 +8,9 @@ ghost use Rattle.store.specs.Ready.{Few, Low, PlaceIs, told, LookFits, L
 use crate::copies;
 use basis::room;
 
+// The most places that a store has here.
+pub const MOST_PLACES: usize = 1792;
+
 // The handle that a mark names; of a number that names none, 0.
 pub fn handle_of(m: usize) -> usize
     ensures { λ r. ⌜ r ≡ handleOf m ⌝ }
@@ -44,9 +47,9 @@ fn look(
     held: &[usize],
     p: usize,
     n: usize,
-    order: &mut [usize; 1792],
-    handles: &mut [u8; 1792],
-    places: &mut [u8; 1792],
+    order: &mut [usize; MOST_PLACES],
+    handles: &mut [u8; MOST_PLACES],
+    places: &mut [u8; MOST_PLACES],
 ) -> usize
     requires { ⌜ LookFits (now held) p n (now order) (now handles) (now places) ⌝ }
     ensures { λ r. ⌜ Looked (now (held .entry)) (p + 1) r (now (order .exit)) (now (handles .exit)) (now (places .exit)) ⌝ }
@@ -72,9 +75,9 @@ fn look(
 // The live marks in the order put, and the handles and the places that are taken. How many are live.
 pub fn live_marks(
     held: &[usize],
-    order: &mut [usize; 1792],
-    handles: &mut [u8; 1792],
-    places: &mut [u8; 1792],
+    order: &mut [usize; MOST_PLACES],
+    handles: &mut [u8; MOST_PLACES],
+    places: &mut [u8; MOST_PLACES],
 ) -> usize
     requires { ⌜ Blank (now held) (now order) (now handles) (now places) ⌝ }
     ensures { λ r. ⌜ LookedAll (now (held .entry)) r (now (order .exit)) (now (handles .exit)) (now (places .exit)) ⌝ }
@@ -89,7 +92,7 @@ pub fn live_marks(
 }
 
 // The lowest number below `cap` that is not told, `cap` where all are.
-pub fn lowest(flags: &[u8; 1792], cap: usize) -> usize
+pub fn lowest(flags: &[u8; MOST_PLACES], cap: usize) -> usize
     requires { ⌜ Few cap ⌝ }
     ensures { λ r. ⌜ r ≡ lowestFrom (λ k. told (getD (now (flags .entry)) k 0)) 0 cap ⌝ }
 {
@@ -105,7 +108,7 @@ pub fn lowest(flags: &[u8; 1792], cap: usize) -> usize
 }
 
 // The first `n` of `order` are the marks, and zeros stand behind them.
-pub fn set_marks(held: &mut [usize], order: &[usize; 1792], n: usize)
+pub fn set_marks(held: &mut [usize], order: &[usize; MOST_PLACES], n: usize)
     requires { ⌜ MarksFit (now held) (now order) n ⌝ }
     ensures { λ _. ⌜ now (held .exit) ≡ filled 0 (length (now (held .entry))) (take n (now (order .entry))) ⌝ }
 {
@@ -127,7 +130,7 @@ fn put_other(held: &mut [usize], k: usize, m: usize, h: usize) -> usize
 }
 
 // The first `n` of `order` are the marks, but for that of handle `h`, and zeros stand behind them.
-pub fn set_others(held: &mut [usize], order: &[usize; 1792], n: usize, h: usize)
+pub fn set_others(held: &mut [usize], order: &[usize; MOST_PLACES], n: usize, h: usize)
     requires { ⌜ MarksFit (now held) (now order) n ⌝ }
     ensures { λ _. ⌜ now (held .exit) ≡ filled 0 (length (now (held .entry))) (without handleOf (take n (now (order .entry))) h) ⌝ }
 {
@@ -143,7 +146,7 @@ pub fn set_others(held: &mut [usize], order: &[usize; 1792], n: usize, h: usize)
 }
 
 // The marks are those of slices at the first `n` places, in turn, with the handles of `order`, and zeros stand behind them.
-pub fn number_marks(held: &mut [usize], order: &[usize; 1792], n: usize)
+pub fn number_marks(held: &mut [usize], order: &[usize; MOST_PLACES], n: usize)
     requires { ⌜ MarksFit (now held) (now order) n ⌝ }
     ensures { λ _. ⌜ now (held .exit) ≡ filled 0 (length (now (held .entry))) (numberFrom 0 (take n (now (order .entry)))) ⌝ }
 {

@@ -9,7 +9,7 @@ use lib.Dec.{T, eqb}
 use borrow.Author.Tests.{eqb-true, eqb-false, eq-eqb, ne-eqb}
 use Rattle.basis.specs.Choice.{by-test}
 use Rattle.basis.specs.Refuse.{Row, row, firstOf, answer, lengthFault}
-use Rattle.basis.specs.RefuseLaws.{numbered, Clear, clear, clear-both, clear-left, none-clear, length-ok, ok-length}
+use Rattle.basis.specs.RefuseLaws.{numbered, Clear, clear, clear-both, clear-left, first-found, first-later, length-ok, ok-length}
 use Rattle.store.specs.Keys.{keyed}
 use Rattle.store.specs.Machine.{Turn, turn, answers, after, Alike, all-alike, all-mean}
 use Rattle.store.specs.Slice.{Slice, Whole}
@@ -41,11 +41,6 @@ clear-lists w c =
       sixes = length-ok 6 (length (w .shape)) places (c .1 .1 .0);
       ones = omega arith;
     }
-
-first-after : (s t : List Row) → Clear s → firstOf (s ++ t) ≡ firstOf t
-unfolding firstOf
-first-after [] t c = refl
-first-after (row b n ∷ s) t c = rw (c .0) (first-after s t (c .1))
 
 -- a slice that its own rows let through is four codes and six numbers
 pub slice-whole : (x : Slice) → firstOf (sliceRows (x .code) (x .number)) ≡ 0 → Whole x
@@ -83,7 +78,7 @@ module _ (cap : ℕ) (few : cap ≤ 2047) where
 -- over lists of the right lengths an entry's table is the call's own
 pub own-refusal : (w : Lists) (a : Asked) → Sized places w → callRefusal w a ≡ firstOf (ownRows places a)
 unfolding callRefusal callRows
-own-refusal w a z = first-after (listsRows w) (ownRows places a) (lists-clear w z)
+own-refusal w a z = first-later (listsRows w) (ownRows places a) (lists-clear w z)
 
 pub store-asked : (w : Lists) (a : Asked) → Sized places w → storeTurn w a ≡ askedTurn places w a
 unfolding storeTurn askedTurn
@@ -112,12 +107,6 @@ zeros-empty w z = empty-plain places w z
 
 -- ---- the whole table: the number that is given is the first of the call's rows and, after them, of the store's own
 
-first-then : (s t : List Row) (n : ℕ) → firstOf s ≡ suc n → firstOf (s ++ t) ≡ suc n
-unfolding firstOf
-first-then [] t n e = absurd (omega arith)
-first-then (row true m ∷ s) t n e = e
-first-then (row false m ∷ s) t n e = first-then s t n e
-
 last-number : (w : Lists) (a : Asked) → refusalIn (listStep places w (callOf a) .answer) ≡ firstOf (lastRows w a)
 unfolding refusalIn listStep lastRows callOf firstOf
 last-number w (toPut x) = by-test (eqb (length (livesIn places w)) places) (λ e. rw e) (λ e. rw e)
@@ -137,8 +126,8 @@ unfolding storeTurn wholeRows callRefusal
 whole-table w a = go (firstOf (callRows w a)) refl
   where
     go : (n : ℕ) → firstOf (callRows w a) ≡ n → refusalIn (answer (λ n. turn (refused n) w) n (listStep places w (callOf a)) .answer) ≡ firstOf (callRows w a ++ lastRows w a)
-    go zero e = unfold answer in last-number w a ∙ sym (first-after (callRows w a) (lastRows w a) (clear (callRows w a) (numbered-rows w a) e))
-    go (suc n) e = unfold answer refusalIn in sym (first-then (callRows w a) (lastRows w a) n e)
+    go zero e = unfold answer in last-number w a ∙ sym (first-later (callRows w a) (lastRows w a) (clear (callRows w a) (numbered-rows w a) e))
+    go (suc n) e = unfold answer refusalIn in sym (first-found (callRows w a) (lastRows w a) (λ z. let q : suc n ≡ 0 = sym e ∙ z in omega arith) ∙ e)
 
 -- ---- "A put that numbers 3 and 5 let through is refused exactly when 1,792 are live"
 pub full-exactly : (w : Lists) (x : Slice) → Sized places w → firstOf (sliceRows (x .code) (x .number)) ≡ 0
@@ -149,5 +138,5 @@ full-exactly w x z e = whole-table w (toPut x) ∙ tableOf
     tableOf =
         unfold wholeRows callRows ownRows lastRows in
         rw (plain-length places w)
-        (first-after (listsRows w ++ sliceRows (x .code) (x .number)) (row (eqb (length (livesIn places w)) places) 20 ∷ [])
+        (first-later (listsRows w ++ sliceRows (x .code) (x .number)) (row (eqb (length (livesIn places w)) places) 20 ∷ [])
         (clear-both (listsRows w) (sliceRows (x .code) (x .number)) (lists-clear w z) (clear (sliceRows (x .code) (x .number)) tt e)))

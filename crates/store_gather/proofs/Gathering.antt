@@ -13,7 +13,7 @@ use Rattle.basis.specs.Room.{roomOf, cleared}
 use Rattle.basis.specs.RoomLaws.{room-left}
 use Rattle.store.specs.Blocks.{block}
 use Rattle.store.specs.BlocksLaws.{length-block, length-flat}
-use Rattle.store.specs.Marks.{handleOf, placeOf, filled}
+use Rattle.store.specs.Marks.{mostPlaces, handleOf, placeOf, filled}
 use Rattle.store.specs.Ready.{Front, CopyFits}
 use Rattle.store.specs.ReadyLaws.{front-none, front-more}
 use Rattle.store_gather.specs.Gather.{GatherFits, HandlesFit, blocksAt, editionsAt, LayFits, ShowFits, ShowHandles}
@@ -206,7 +206,7 @@ module _ {A : Type 0} (z : A) (most : ℕ) where
         let c = f .small in
         laid-out (blocksAt w l (take n order)) l laid l′ (w * n) len (blocks-length w l order n (replicate most z) lay-gather n (omega arith)) (omega arith) (omega arith) e g h
 
-pub lay-editions-done : (l order : List ℕ) (n : ℕ) (laid l′ : List ℕ) (len : ℕ) → LayFits 1 1792 l order n → laid ≡ editionsAt l (take n order) ++ drop n (replicate 1792 0)
+pub lay-editions-done : (l order : List ℕ) (n : ℕ) (laid l′ : List ℕ) (len : ℕ) → LayFits 1 mostPlaces l order n → laid ≡ editionsAt l (take n order) ++ drop n (replicate mostPlaces 0)
     → l′ ≡ paste l 0 (drop 0 laid) len → len ≡ length l → l′ ≡ filled 0 (length l) (editionsAt l (take n order))
 unfolding editionsAt
 lay-editions-done l order n laid l′ len f e g h =
@@ -216,7 +216,7 @@ lay-editions-done l order n laid l′ len f e g h =
     let d = f .rooms in
     let i = f .fits in
     let m : length (map (λ m. getD l (placeOf m) 0) (take n order)) ≡ n = length-map (take n order) (λ m. getD l (placeOf m) 0) ∙ length-take-le n order (omega arith) in
-    laid-out 0 1792 (map (λ m. getD l (placeOf m) 0) (take n order)) l laid l′ n len m (omega arith) (omega arith) e g h
+    laid-out 0 mostPlaces (map (λ m. getD l (placeOf m) 0) (take n order)) l laid l′ n len m (omega arith) (omega arith) e g h
 
 -- ---- and in lent room
 
@@ -227,7 +227,7 @@ show-done z w need src order n dst d₁ d₂ f e g =
     let q : w * n ≤ w * need = mul-le-mul-left w (f .least) in
     room-left z w need (blocksAt w src (take n order)) dst d₁ d₂ (w * n) (w * need) g e (sym m) refl q
 
-module _ (f : ℕ → ℕ) (need : ℕ) (order : List ℕ) (n : ℕ) (dst d₁ d₂ : List ℕ) (least : n ≤ need) (few : n ≤ 1792) (full : length order ≡ 1792) where
+module _ (f : ℕ → ℕ) (need : ℕ) (order : List ℕ) (n : ℕ) (dst d₁ d₂ : List ℕ) (least : n ≤ need) (few : n ≤ mostPlaces) (full : length order ≡ mostPlaces) where
   map-done : d₁ ≡ map f (take n order) ++ drop n dst → d₂ ≡ cleared 0 n need d₁ → d₂ ≡ roomOf 0 1 need (map f (take n order)) dst
   map-done e g =
       let m : length (map f (take n order)) ≡ n = length-map (take n order) f ∙ length-take-le n order (omega arith) in

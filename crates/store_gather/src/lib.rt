@@ -5,11 +5,17 @@ ghost use Prim.Native.Nat.{_*_};
 ghost use lib.ListN.{length, take, drop};
 ghost use Rattle.basis.specs.Number.{+0};
 ghost use Rattle.basis.specs.Room.{roomOf, cleared, Stretch};
-ghost use Rattle.store.specs.Marks.{handleOf, filled};
+ghost use Rattle.store.specs.Marks.{mostPlaces, handleOf, filled};
 ghost use Rattle.store_gather.specs.Gather.{GatherFits, HandlesFit, blocksAt, editionsAt, LayFits, ShowFits, ShowHandles};
 use basis::room;
 use store::copies;
 use store::marks;
+use store::marks::MOST_PLACES;
+
+// What they take of codes and of numbers.
+const MOST_CODES: usize = 7168;
+
+const MOST_NUMBERS: usize = 10752;
 
 // Sets the editions from `from` up to `to` to 0.
 fn clear_editions(room: &mut [u32], from: usize, to: usize)
@@ -24,7 +30,7 @@ fn clear_editions(room: &mut [u32], from: usize, to: usize)
 }
 
 // The codes at the places that the first `n` of `order` name, to the front of `dst`.
-fn gather_codes(src: &[usize], order: &[usize; 1792], n: usize, dst: &mut [usize])
+fn gather_codes(src: &[usize], order: &[usize; MOST_PLACES], n: usize, dst: &mut [usize])
     requires { ⌜ GatherFits 4 (now src) (now order) n (now dst) ⌝ }
     ensures { λ _. ⌜ now (dst .exit) ≡ blocksAt 4 (now (src .entry)) (take n (now (order .entry))) ++ drop (4 * n) (now (dst .entry)) ⌝ }
 {
@@ -37,7 +43,7 @@ fn gather_codes(src: &[usize], order: &[usize; 1792], n: usize, dst: &mut [usize
 }
 
 // The numbers at those places.
-fn gather_numbers(src: &[f64], order: &[usize; 1792], n: usize, dst: &mut [f64])
+fn gather_numbers(src: &[f64], order: &[usize; MOST_PLACES], n: usize, dst: &mut [f64])
     requires { ⌜ GatherFits 6 (now src) (now order) n (now dst) ⌝ }
     ensures { λ _. ⌜ now (dst .exit) ≡ blocksAt 6 (now (src .entry)) (take n (now (order .entry))) ++ drop (6 * n) (now (dst .entry)) ⌝ }
 {
@@ -50,7 +56,7 @@ fn gather_numbers(src: &[f64], order: &[usize; 1792], n: usize, dst: &mut [f64])
 }
 
 // The editions at those places.
-fn gather_editions(src: &[u32], order: &[usize; 1792], n: usize, dst: &mut [u32])
+fn gather_editions(src: &[u32], order: &[usize; MOST_PLACES], n: usize, dst: &mut [u32])
     requires { ⌜ GatherFits 1 (now src) (now order) n (now dst) ⌝ }
     ensures { λ _. ⌜ now (dst .exit) ≡ editionsAt (now (src .entry)) (take n (now (order .entry))) ++ drop n (now (dst .entry)) ⌝ }
 {
@@ -64,7 +70,7 @@ fn gather_editions(src: &[u32], order: &[usize; 1792], n: usize, dst: &mut [u32]
 }
 
 // The handles that they name.
-fn gather_handles(order: &[usize; 1792], n: usize, dst: &mut [usize])
+fn gather_handles(order: &[usize; MOST_PLACES], n: usize, dst: &mut [usize])
     requires { ⌜ HandlesFit (now order) n (now dst) ⌝ }
     ensures { λ _. ⌜ now (dst .exit) ≡ map handleOf (take n (now (order .entry))) ++ drop n (now (dst .entry)) ⌝ }
 {
@@ -78,31 +84,31 @@ fn gather_handles(order: &[usize; 1792], n: usize, dst: &mut [usize])
 
 // ---- within one list: the slices that `order` names stand in front, and zeros behind them
 
-pub fn lay_codes(codes: &mut [usize], order: &[usize; 1792], n: usize)
-    requires { ⌜ LayFits 4 7168 (now codes) (now order) n ⌝ }
+pub fn lay_codes(codes: &mut [usize], order: &[usize; MOST_PLACES], n: usize)
+    requires { ⌜ LayFits 4 (4 * mostPlaces) (now codes) (now order) n ⌝ }
     ensures { λ _. ⌜ now (codes .exit) ≡ filled 0 (length (now (codes .entry))) (blocksAt 4 (now (codes .entry)) (take n (now (order .entry)))) ⌝ }
 {
-    let mut laid = [0usize; 7168];
+    let mut laid = [0usize; MOST_CODES];
     gather_codes(codes, order, n, &mut laid);
     let len = codes.len();
     copies::copy_words(&laid, 0, codes, 0, len);
 }
 
-pub fn lay_numbers(numbers: &mut [f64], order: &[usize; 1792], n: usize)
-    requires { ⌜ LayFits 6 10752 (now numbers) (now order) n ⌝ }
+pub fn lay_numbers(numbers: &mut [f64], order: &[usize; MOST_PLACES], n: usize)
+    requires { ⌜ LayFits 6 (6 * mostPlaces) (now numbers) (now order) n ⌝ }
     ensures { λ _. ⌜ now (numbers .exit) ≡ filled +0 (length (now (numbers .entry))) (blocksAt 6 (now (numbers .entry)) (take n (now (order .entry)))) ⌝ }
 {
-    let mut laid = [0.0; 10752];
+    let mut laid = [0.0; MOST_NUMBERS];
     gather_numbers(numbers, order, n, &mut laid);
     let len = numbers.len();
     copies::copy_numbers(&laid, 0, numbers, 0, len);
 }
 
-pub fn lay_editions(editions: &mut [u32], order: &[usize; 1792], n: usize)
-    requires { ⌜ LayFits 1 1792 (now editions) (now order) n ⌝ }
+pub fn lay_editions(editions: &mut [u32], order: &[usize; MOST_PLACES], n: usize)
+    requires { ⌜ LayFits 1 mostPlaces (now editions) (now order) n ⌝ }
     ensures { λ _. ⌜ now (editions .exit) ≡ filled 0 (length (now (editions .entry))) (editionsAt (now (editions .entry)) (take n (now (order .entry)))) ⌝ }
 {
-    let mut laid = [0u32; 1792];
+    let mut laid = [0u32; MOST_PLACES];
     gather_editions(editions, order, n, &mut laid);
     let len = editions.len();
     copies::copy_editions(&laid, 0, editions, 0, len);
@@ -110,7 +116,7 @@ pub fn lay_editions(editions: &mut [u32], order: &[usize; 1792], n: usize)
 
 // ---- to lent room: the slices that `order` names, and zeros up to the need
 
-pub fn show_handles(order: &[usize; 1792], n: usize, dst: &mut [usize], need: usize)
+pub fn show_handles(order: &[usize; MOST_PLACES], n: usize, dst: &mut [usize], need: usize)
     requires { ⌜ ShowHandles need (now order) n (now dst) ⌝ }
     ensures { λ _. ⌜ now (dst .exit) ≡ roomOf 0 1 need (map handleOf (take n (now (order .entry)))) (now (dst .entry)) ⌝ }
 {
@@ -118,7 +124,7 @@ pub fn show_handles(order: &[usize; 1792], n: usize, dst: &mut [usize], need: us
     room::clear_counts(dst, n, need);
 }
 
-pub fn show_codes(src: &[usize], order: &[usize; 1792], n: usize, dst: &mut [usize], need: usize)
+pub fn show_codes(src: &[usize], order: &[usize; MOST_PLACES], n: usize, dst: &mut [usize], need: usize)
     requires { ⌜ ShowFits 4 need (now src) (now order) n (now dst) ⌝ }
     ensures { λ _. ⌜ now (dst .exit) ≡ roomOf 0 4 need (blocksAt 4 (now (src .entry)) (take n (now (order .entry)))) (now (dst .entry)) ⌝ }
 {
@@ -126,7 +132,7 @@ pub fn show_codes(src: &[usize], order: &[usize; 1792], n: usize, dst: &mut [usi
     room::clear_counts(dst, 4 * n, 4 * need);
 }
 
-pub fn show_numbers(src: &[f64], order: &[usize; 1792], n: usize, dst: &mut [f64], need: usize)
+pub fn show_numbers(src: &[f64], order: &[usize; MOST_PLACES], n: usize, dst: &mut [f64], need: usize)
     requires { ⌜ ShowFits 6 need (now src) (now order) n (now dst) ⌝ }
     ensures { λ _. ⌜ now (dst .exit) ≡ roomOf +0 6 need (blocksAt 6 (now (src .entry)) (take n (now (order .entry)))) (now (dst .entry)) ⌝ }
 {
@@ -134,7 +140,7 @@ pub fn show_numbers(src: &[f64], order: &[usize; 1792], n: usize, dst: &mut [f64
     room::clear_numbers(dst, 6 * n, 6 * need);
 }
 
-pub fn show_editions(src: &[u32], order: &[usize; 1792], n: usize, dst: &mut [u32], need: usize)
+pub fn show_editions(src: &[u32], order: &[usize; MOST_PLACES], n: usize, dst: &mut [u32], need: usize)
     requires { ⌜ ShowFits 1 need (now src) (now order) n (now dst) ⌝ }
     ensures { λ _. ⌜ now (dst .exit) ≡ roomOf 0 1 need (editionsAt (now (src .entry)) (take n (now (order .entry)))) (now (dst .entry)) ⌝ }
 {

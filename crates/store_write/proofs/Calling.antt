@@ -21,7 +21,7 @@ use Rattle.store.specs.KeysLaws.{lowest-same, lowest-below}
 use Rattle.store.specs.Slice.{Slice, Whole}
 use Rattle.store.specs.Plain.{Kept, put, release, compact}
 use Rattle.store.specs.Blocks.{block}
-use Rattle.store.specs.Marks.{markOf, handleOf, placeOf, named, livesTo, livesOf, filled}
+use Rattle.store.specs.Marks.{mostPlaces, markOf, handleOf, placeOf, named, livesTo, livesOf, filled}
 use Rattle.store.specs.MarksLaws.{named-handle, named-place, Proper, lives-proper, lives-most, zeros-at}
 use Rattle.store.specs.Lists.{Lists, lists, Sized, sliceAt, keptAt, livesIn, plainOf, freePlace, freeMark, writtenAt, putIn, marksFrom, laid, compactedIn, listStep}
 use Rattle.store.specs.ListsLaws.{plain-length}
@@ -32,15 +32,15 @@ use Rattle.store_write.specs.Calls.{Fit, PutFits, WriteFits, Wrote, Turn
 
 -- ---- before the marks are looked at: local arrays of zeros
 
-pub blank-start : (held : List ℕ) → length held ≤ 1792 → Blank held (replicate 1792 0) (replicate 1792 0) (replicate 1792 0)
+pub blank-start : (held : List ℕ) → length held ≤ mostPlaces → Blank held (replicate mostPlaces 0) (replicate mostPlaces 0) (replicate mostPlaces 0)
 blank-start held h =
     record {
       fits = h;
-      rooms = length-replicate {A = ℕ} 1792 0;
-      flags = length-replicate {A = ℕ} 1792 0;
-      spots = length-replicate {A = ℕ} 1792 0;
-      handle = zeros-at 1792;
-      place = zeros-at 1792;
+      rooms = length-replicate {A = ℕ} mostPlaces 0;
+      flags = length-replicate {A = ℕ} mostPlaces 0;
+      spots = length-replicate {A = ℕ} mostPlaces 0;
+      handle = zeros-at mostPlaces;
+      place = zeros-at mostPlaces;
     }
 
 -- a table of flags says which numbers are free
@@ -96,7 +96,7 @@ module _ (held at : List ℕ) (shape : List Float) (edition : List ℕ) (x : Sli
     pub put-low : Low t h
     put-low = let a = look .fits in let b = handle-below in let c = place-below in record { place = omega arith; handle = omega arith }
 
-    pub put-index : n < 1792
+    pub put-index : n < mostPlaces
     put-index = let a = look .fits in let b = look .least in omega (arith, some)
 
     pub put-write : WriteFits at shape edition t x
@@ -188,14 +188,14 @@ module _ (held at : List ℕ) (shape : List Float) (edition : List ℕ) (n : ℕ
       let b = look .fits in
       record { many = length held; width = e; small = h; few = a; rooms = look .rooms; fits = omega arith; below = below }
 
-  pub lay-codes : LayFits 4 7168 at order n
-  lay-codes = let a = look .fits in lay 4 7168 at (fit .sized .fours) (omega arith)
+  pub lay-codes : LayFits 4 (4 * mostPlaces) at order n
+  lay-codes = let a = look .fits in lay 4 (4 * mostPlaces) at (fit .sized .fours) (omega arith)
 
-  pub lay-numbers : LayFits 6 10752 shape order n
-  lay-numbers = let a = look .fits in lay 6 10752 shape (fit .sized .sixes) (omega arith)
+  pub lay-numbers : LayFits 6 (6 * mostPlaces) shape order n
+  lay-numbers = let a = look .fits in lay 6 (6 * mostPlaces) shape (fit .sized .sixes) (omega arith)
 
-  pub lay-editions : LayFits 1 1792 edition order n
-  lay-editions = let a = look .fits in let b = fit .sized .ones in lay 1 1792 edition (omega arith) (omega arith)
+  pub lay-editions : LayFits 1 mostPlaces edition order n
+  lay-editions = let a = look .fits in let b = fit .sized .ones in lay 1 mostPlaces edition (omega arith) (omega arith)
 
   pub compact-done : (held′ at′ : List ℕ) (shape′ : List Float) (edition′ : List ℕ) → at′ ≡ filled 0 (length at) (blocksAt 4 at (take n order))
       → shape′ ≡ filled +0 (length shape) (blocksAt 6 shape (take n order)) → edition′ ≡ filled 0 (length edition) (editionsAt edition (take n order))

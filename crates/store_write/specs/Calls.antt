@@ -14,13 +14,13 @@ use Rattle.store.specs.Keys.{keyed, without}
 use Rattle.store.specs.Machine.{Turn}
 use Rattle.store.specs.Slice.{Slice, Whole}
 use Rattle.store.specs.Plain.{Kept, Answer, refused, given, done, listed}
-use Rattle.store.specs.Marks.{handleOf, livesOf, filled}
+use Rattle.store.specs.Marks.{mostPlaces, handleOf, livesOf, filled}
 use Rattle.store.specs.Lists.{Lists, Sized, plainOf}
 
 -- lists of as many places as marks, and no more than the most
 pub record Fit (s : Lists) : Type 0 where
   pub sized : Sized (length (s .held)) s
-  pub most : length (s .held) ≤ 1792
+  pub most : length (s .held) ≤ mostPlaces
 
 pub record PutFits (s : Lists) (x : Slice) : Type 0 where
   pub fit : Fit s
@@ -51,7 +51,7 @@ handleAs (listed l) = Full
 
 -- marks of the most places at most
 pub record ReleaseFits (held : List ℕ) : Type 0 where
-  pub most : length held ≤ 1792
+  pub most : length held ≤ mostPlaces
 
 -- whether a live slice has the handle h, and the marks without its mark; the slices' own lists are not asked for
 pub record Released (held : List ℕ) (h : ℕ) (r : Bool) (left : List ℕ) : Type 0 where

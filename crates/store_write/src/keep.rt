@@ -7,6 +7,7 @@ ghost use Rattle.store.specs.Lists.{lists, listStep};
 ghost use Rattle.store_write.specs.Calls.{Fit, PutFits, WriteFits, Wrote, Turned, handleAs, ReleaseFits, Released, rooms, ListFits, Listed};
 use store::copies;
 use store::marks;
+use store::marks::MOST_PLACES;
 
 // What a put comes to.
 pub enum Handle {
@@ -51,9 +52,9 @@ pub fn put_slice(
         (put (sliceOf (now («put_at» .entry)) (now («put_shape» .entry)) «put_edition»)))
         r (lists (now (held .exit)) (now (at .exit)) (now (shape .exit)) (now (edition .exit))) ⌝ }
 {
-    let mut order = [0usize; 1792];
-    let mut handles = [0u8; 1792];
-    let mut places = [0u8; 1792];
+    let mut order = [0usize; MOST_PLACES];
+    let mut handles = [0u8; MOST_PLACES];
+    let mut places = [0u8; MOST_PLACES];
     let n = marks::live_marks(held, &mut order, &mut handles, &mut places);
     let cap = held.len();
     if n == cap {
@@ -72,9 +73,9 @@ pub fn release_slice(held: &mut [usize], h: usize) -> bool
     requires { ⌜ ReleaseFits (now held) ⌝ }
     ensures { λ r. ⌜ Released (now (held .entry)) h r (now (held .exit)) ⌝ }
 {
-    let mut order = [0usize; 1792];
-    let mut handles = [0u8; 1792];
-    let mut places = [0u8; 1792];
+    let mut order = [0usize; MOST_PLACES];
+    let mut handles = [0u8; MOST_PLACES];
+    let mut places = [0u8; MOST_PLACES];
     let n = marks::live_marks(held, &mut order, &mut handles, &mut places);
     if held.len() <= h {
         return false;
@@ -92,9 +93,9 @@ pub fn compact_slices(held: &mut [usize], at: &mut [usize], shape: &mut [f64], e
     ensures { λ _. ⌜ lists (now (held .exit)) (now (at .exit)) (now (shape .exit)) (now (edition .exit))
         ≡ listStep (length (now (held .entry))) (lists (now (held .entry)) (now (at .entry)) (now (shape .entry)) (now (edition .entry))) compact .left ⌝ }
 {
-    let mut order = [0usize; 1792];
-    let mut handles = [0u8; 1792];
-    let mut places = [0u8; 1792];
+    let mut order = [0usize; MOST_PLACES];
+    let mut handles = [0u8; MOST_PLACES];
+    let mut places = [0u8; MOST_PLACES];
     let n = marks::live_marks(held, &mut order, &mut handles, &mut places);
     store_gather::lay_codes(at, &order, n);
     store_gather::lay_numbers(shape, &order, n);
@@ -118,9 +119,9 @@ pub fn list_slices(
         (rooms (now (handles .entry)) (now («list_at» .entry)) (now («list_shape» .entry)) (now («list_edition» .entry)))
         r (rooms (now (handles .exit)) (now («list_at» .exit)) (now («list_shape» .exit)) (now («list_edition» .exit))) ⌝ }
 {
-    let mut order = [0usize; 1792];
-    let mut taken = [0u8; 1792];
-    let mut places = [0u8; 1792];
+    let mut order = [0usize; MOST_PLACES];
+    let mut taken = [0u8; MOST_PLACES];
+    let mut places = [0u8; MOST_PLACES];
     let n = marks::live_marks(held, &mut order, &mut taken, &mut places);
     let cap = held.len();
     store_gather::show_handles(&order, n, handles, cap);
