@@ -22,13 +22,13 @@
  * call may share memory where one of them is room.
  *
  * Calls share no state. The library has no variables, keeps nothing from one call to the
- * next, allocates nothing, and calls nothing but memset of the C library. So any number
+ * next (a store is the host's memory), allocates nothing, and calls nothing but memset of the C library. So any number
  * of threads may call it at the same time, each with room of its own; lists that are only
  * read may be shared.
  *
  * The entries stand in the order of the work: views and the verdict; cut order,
  * candidates, pruning, stitch and area pass, each of which takes what the one before it
- * gives; then masks without arcs.
+ * gives; then slices kept between runs; then masks without arcs.
  */
 #ifndef MASK_H
 #define MASK_H
@@ -98,6 +98,10 @@ extern "C" {
 #define MASK_STACK_STRAIGHT_WINDING 512
 #define MASK_STACK_STRAIGHT_AREA 512
 #define MASK_STACK_STRAIGHT_REPORT 512
+#define MASK_STACK_STORE_PUT 20480
+#define MASK_STACK_STORE_RELEASE 20480
+#define MASK_STACK_STORE_LIST 20480
+#define MASK_STACK_STORE_COMPACT 122880
 
 /*
  * Why a call is refused: the first that applies, in this order. For 1 to 10 that is the
