@@ -124,7 +124,13 @@ pub fn show_handles(order: &[usize; MOST_PLACES], n: usize, dst: &mut [usize], n
     room::clear_counts(dst, n, need);
 }
 
-pub fn show_codes(src: &[usize], order: &[usize; MOST_PLACES], n: usize, dst: &mut [usize], need: usize)
+pub fn show_codes(
+    src: &[usize],
+    order: &[usize; MOST_PLACES],
+    n: usize,
+    dst: &mut [usize],
+    need: usize,
+)
     requires { ⌜ ShowFits 4 need (now src) (now order) n (now dst) ⌝ }
     ensures { λ _. ⌜ now (dst .exit) ≡ roomOf 0 4 need (blocksAt 4 (now (src .entry)) (take n (now (order .entry)))) (now (dst .entry)) ⌝ }
 {
@@ -132,7 +138,13 @@ pub fn show_codes(src: &[usize], order: &[usize; MOST_PLACES], n: usize, dst: &m
     room::clear_counts(dst, 4 * n, 4 * need);
 }
 
-pub fn show_numbers(src: &[f64], order: &[usize; MOST_PLACES], n: usize, dst: &mut [f64], need: usize)
+pub fn show_numbers(
+    src: &[f64],
+    order: &[usize; MOST_PLACES],
+    n: usize,
+    dst: &mut [f64],
+    need: usize,
+)
     requires { ⌜ ShowFits 6 need (now src) (now order) n (now dst) ⌝ }
     ensures { λ _. ⌜ now (dst .exit) ≡ roomOf +0 6 need (blocksAt 6 (now (src .entry)) (take n (now (order .entry)))) (now (dst .entry)) ⌝ }
 {
@@ -140,7 +152,13 @@ pub fn show_numbers(src: &[f64], order: &[usize; MOST_PLACES], n: usize, dst: &m
     room::clear_numbers(dst, 6 * n, 6 * need);
 }
 
-pub fn show_editions(src: &[u32], order: &[usize; MOST_PLACES], n: usize, dst: &mut [u32], need: usize)
+pub fn show_editions(
+    src: &[u32],
+    order: &[usize; MOST_PLACES],
+    n: usize,
+    dst: &mut [u32],
+    need: usize,
+)
     requires { ⌜ ShowFits 1 need (now src) (now order) n (now dst) ⌝ }
     ensures { λ _. ⌜ now (dst .exit) ≡ roomOf 0 1 need (editionsAt (now (src .entry)) (take n (now (order .entry)))) (now (dst .entry)) ⌝ }
 {

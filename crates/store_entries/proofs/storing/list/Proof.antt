@@ -16,7 +16,9 @@ returns : tie.Need-returns
 returns c = search list-refused
 
 list-slices-requires : tie.Need-list-slices-requires
-list-slices-requires c κs = search list-fits
+list-slices-requires c κs =
+    let tested = c .before .before .before .before in
+    list-fits _ _ _ _ _ _ _ _ _ _ (tested .before .before .store-refusal .ensures) (tested .before .room-refusal .ensures) (tested .if1 .left)
 
 counted-as-requires : tie.Need-counted-as-requires
 counted-as-requires c κs = search needs
