@@ -22,9 +22,9 @@
  * call may share memory where one of them is room.
  *
  * Calls share no state. The library has no variables, keeps nothing from one call to the
- * next (a store is the host's memory), allocates nothing, and calls nothing but memset of the C library. So any number
- * of threads may call it at the same time, each with room of its own; lists that are only
- * read may be shared.
+ * next (a store is the host's own memory), allocates nothing, and calls nothing but memset
+ * and memcpy of the C library. So any number of threads may call it at the same time, each
+ * with room of its own; lists that are only read may be shared.
  *
  * The entries stand in the order of the work: views and the verdict; cut order,
  * candidates, pruning, stitch and area pass, each of which takes what the one before it
@@ -83,7 +83,7 @@ extern "C" {
  * without its arguments. It was read off the machine code of the archive for x86-64, along
  * every way through each function (host/stack), rounded up, and compared with what calls
  * with the largest inputs took of a painted stack (host/c/header_test.c). Not counted are
- * memset itself and a dynamic linker that looks for it at its first call.
+ * memset and memcpy themselves and a dynamic linker that looks for them at a first call.
  */
 #define MASK_STACK_VIEW_VERTEX 512
 #define MASK_STACK_CREATE 512
@@ -101,7 +101,7 @@ extern "C" {
 #define MASK_STACK_STORE_PUT 20480
 #define MASK_STACK_STORE_RELEASE 20480
 #define MASK_STACK_STORE_LIST 20480
-#define MASK_STACK_STORE_COMPACT 122880
+#define MASK_STACK_STORE_COMPACT 106496
 
 /*
  * Why a call is refused: the first that applies, in this order. For 1 to 10 that is the
