@@ -373,6 +373,7 @@ mod entries {
             slice_len: usize,
             slice_edition: *mut u32,
             slice_edition_len: usize,
+            party: u32,
             put_at: *const usize,
             put_at_len: usize,
             put: *const f64,
@@ -389,6 +390,7 @@ mod entries {
             slice_len: usize,
             slice_edition: *const u32,
             slice_edition_len: usize,
+            party: u32,
             handle: usize,
         ) -> DoneAnswer;
 
@@ -401,6 +403,7 @@ mod entries {
             slice_len: usize,
             slice_edition: *const u32,
             slice_edition_len: usize,
+            party: u32,
             handles: *mut usize,
             handles_len: usize,
             list_at: *mut usize,
@@ -420,6 +423,7 @@ mod entries {
             slice_len: usize,
             slice_edition: *mut u32,
             slice_edition_len: usize,
+            party: u32,
         ) -> DoneAnswer;
     }
 
@@ -761,6 +765,7 @@ mod entries {
         slice_at: &mut [usize],
         slice: &mut [f64],
         slice_edition: &mut [u32],
+        party: u32,
         put_at: &[usize],
         put: &[f64],
         put_edition: u32,
@@ -776,6 +781,7 @@ mod entries {
                 slice.len(),
                 slice_edition.as_mut_ptr(),
                 slice_edition.len(),
+                party,
                 put_at.as_ptr(),
                 put_at.len(),
                 put.as_ptr(),
@@ -791,6 +797,7 @@ mod entries {
         slice_at: &[usize],
         slice: &[f64],
         slice_edition: &[u32],
+        party: u32,
         handle: usize,
     ) -> DoneAnswer {
         // SAFETY: each pointer and length are those of one slice. Only `held`, a `&mut`, is written.
@@ -804,6 +811,7 @@ mod entries {
                 slice.len(),
                 slice_edition.as_ptr(),
                 slice_edition.len(),
+                party,
                 handle,
             )
         }
@@ -816,6 +824,7 @@ mod entries {
         slice_at: &[usize],
         slice: &[f64],
         slice_edition: &[u32],
+        party: u32,
         handles: &mut [usize],
         list_at: &mut [usize],
         list: &mut [f64],
@@ -833,6 +842,7 @@ mod entries {
                 slice.len(),
                 slice_edition.as_ptr(),
                 slice_edition.len(),
+                party,
                 handles.as_mut_ptr(),
                 handles.len(),
                 list_at.as_mut_ptr(),
@@ -851,6 +861,7 @@ mod entries {
         slice_at: &mut [usize],
         slice: &mut [f64],
         slice_edition: &mut [u32],
+        party: u32,
     ) -> DoneAnswer {
         // SAFETY: each pointer and length are those of one slice, which is `&mut`.
         unsafe {
@@ -863,6 +874,7 @@ mod entries {
                 slice.len(),
                 slice_edition.as_mut_ptr(),
                 slice_edition.len(),
+                party,
             )
         }
     }
