@@ -47,7 +47,7 @@ extern "C" {
 #define MASK_VERSION_PATCH 0
 
 /* Widths: how many elements an item of a list has. */
-#define MASK_WIDTH_OUTLINE 3  /* a vertex: x, y, bulge; also in `room` */
+#define MASK_WIDTH_OUTLINE 3  /* a vertex: x, y, bulge; also in `vertices` and `room` */
 #define MASK_WIDTH_HIT_AT 2   /* a basic intersection */
 #define MASK_WIDTH_HIT 2      /* its point */
 #define MASK_WIDTH_LAP_AT 7   /* a joined overlap */
@@ -87,6 +87,7 @@ extern "C" {
  * memset and memcpy themselves and a dynamic linker that looks for them at a first call.
  */
 #define MASK_STACK_VIEW_VERTEX 512
+#define MASK_STACK_VIEW_VERTICES 512
 #define MASK_STACK_CREATE 512
 #define MASK_STACK_CREATE_ON_SINGLE_SEGMENT 512
 #define MASK_STACK_FROM_ENTIRE_PLINE 512
@@ -105,8 +106,9 @@ extern "C" {
 #define MASK_STACK_STORE_COMPACT 53248
 
 /*
- * Why a call is refused: the first that applies, in this order. For 1 to 10 that is the
- * lowest number.
+ * Why a call is refused: the first that applies, in this order. For 1 to 9 that is the
+ * lowest number. 10 is not used, and will not be: it stood for a walk or a chain that took
+ * too many steps, and none can.
  */
 enum mask_refusal {
     MASK_ACCEPTED = 0,
@@ -121,7 +123,6 @@ enum mask_refusal {
     MASK_REFUSED_COUNT = 7,     /* an offset or a traverse count is out of range */
     MASK_REFUSED_STARTS = 8,    /* the starts of the classes fall back, or lie past the slices */
     MASK_REFUSED_ROOM = 9,      /* a list lent to be written is shorter than the need */
-    MASK_REFUSED_STEPS = 10,    /* a walk or a chain took too many steps: proved never to happen */
     MASK_REFUSED_PARTY = 22,    /* a party of the store is neither 0 nor 1 */
     MASK_REFUSED_FULL = 20,     /* the party has as many live slices as places */
     MASK_REFUSED_HANDLE = 21    /* no live slice of the party has the handle */
@@ -225,6 +226,16 @@ mask_vertex_answer mask_view_vertex(const double *outline, size_t outline_len, s
                                     mask_view view, size_t index);
 
 /*
+ * All vertices of the view in one call, which looks at the outline once; a call of
+ * `mask_view_vertex` looks at all of it for one vertex. `count` is offset + 2. Written for
+ * each vertex, which is also the need:
+ *   vertices  3: x, y, bulge; vertex k is what `mask_view_vertex` answers for k
+ * Refusals 1, 2, 3, 5, 6, 7, 9.
+ */
+mask_count_answer mask_view_vertices(const double *outline, size_t outline_len, size_t vc,
+                                     mask_view view, double *vertices, size_t vertices_len);
+
+/*
  * The view that walks `traverse_count` segments on from `start_index`, to
  * `end_intersect` on segment `intersect_index`. `split` is the host's split of
  * that segment at that point. Its start bulge is used where the end does not
@@ -271,8 +282,9 @@ mask_verdict_answer mask_validate_for_source(const double *outline, size_t outli
  *   lap     6 to a joined overlap: its view's updated start x, y, bulge, end bulge,
  *           end x, y
  * There are `hits` intersections, at most 512, and `laps` overlaps, at most 128.
- * Only the indexes of the outline that `source` names are looked at, and no view's
- * start or offset. An intersection is one cut, an overlap two: hits + 2 laps.
+ * Only the indexes of the outline that `source` names are looked at. An overlap's
+ * view is of outline 2, so with source 2 its start (6) and its offset (7) are among
+ * them. An intersection is one cut, an overlap two: hits + 2 laps.
  */
 
 /*
@@ -281,7 +293,7 @@ mask_verdict_answer mask_validate_for_source(const double *outline, size_t outli
  * `count` is the number of cuts. Written for each cut, which is also the need:
  *   cut_at  3: segment, overlap mark (1 or 0), number of arrival
  *   cut     2: its point x, y
- * Refusals 1, 2, 3, 4, 5, 6, 9.
+ * Refusals 1, 2, 3, 4, 5, 6, 7, 9.
  */
 mask_count_answer mask_cut_order(const double *outline, size_t outline_len, size_t vc,
                                  uint32_t source, const size_t *hit_at, size_t hit_at_len,
@@ -301,7 +313,7 @@ mask_count_answer mask_cut_order(const double *outline, size_t outline_len, size
  *   cand_at  2: start, offset
  *   cand     6: updated start x, y, bulge, end bulge, end x, y
  *   probe    6: the two vertices whose midpoint the host tests, x, y, bulge each
- * Refusals 1, 2, 3, 4, 5, 6, 9. Number 10 is proved never to be given.
+ * Refusals 1, 2, 3, 4, 5, 6, 7, 9.
  */
 mask_count_answer mask_candidates(const double *outline, size_t outline_len, size_t vc,
                                   uint32_t source, const size_t *hit_at, size_t hit_at_len,
@@ -365,8 +377,7 @@ typedef struct mask_stitch_answer {
  *   chain       1 to a slice: its number; chain after chain
  *   chain_ends  1 to a chain: how many slices all chains up to and with it have
  *   chain_how   1 to a chain: how it ended, of `mask_chain_end`
- * The need of each of the last four is one entry per slice. Refusals 1 to 9. Number
- * 10 is proved never to be given.
+ * The need of each of the last four is one entry per slice. Refusals 1 to 9.
  */
 mask_stitch_answer mask_stitch(const double *outline1, size_t outline1_len, size_t vc1,
                                const double *outline2, size_t outline2_len, size_t vc2,

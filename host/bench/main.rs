@@ -22,6 +22,7 @@ mod tree {
 }
 
 use archive::{Point, StitchAnswer, Vertex, View};
+use cavalier_contours::polyline::{PlineSource, PlineVertex, PlineViewData, Polyline};
 use ours::{CutRoom, Pair, Slices, StitchRoom};
 use shapes::Outlines;
 use std::hint::black_box;
@@ -358,32 +359,92 @@ fn area_pass() {
     }
 }
 
-fn view_vertices() {
-    use cavalier_contours::polyline::{PlineSource, PlineViewData};
-    for size in SLICE_SIZES.into_iter().filter(|size| *size <= MOST_CORNERS) {
+/// The whole of a star as a view, for both sides.
+struct WholeView {
+    outline: Vec<f64>,
+    pline: Polyline,
+    data: PlineViewData,
+    flat: View,
+}
+
+impl WholeView {
+    fn new(size: usize, inverted: bool) -> WholeView {
         let outline = shapes::star(size)[0].clone();
         let pline = scan::polyline(&outline);
-        let view = PlineViewData::from_entire_pline(&pline);
+        let mut data = PlineViewData::from_entire_pline(&pline);
+        data.inverted_direction = inverted;
         let flat = View {
-            start_index: view.start_index,
-            end_index_offset: view.end_index_offset,
+            start_index: data.start_index,
+            end_index_offset: data.end_index_offset,
             updated_start: Vertex {
                 x: outline[0],
                 y: outline[1],
                 bulge: outline[2],
             },
-            updated_end_bulge: view.updated_end_bulge,
+            updated_end_bulge: data.updated_end_bulge,
             end_point: Point {
-                x: view.end_point.x,
-                y: view.end_point.y,
+                x: data.end_point.x,
+                y: data.end_point.y,
             },
-            inverted_direction: 0,
+            inverted_direction: u32::from(inverted),
         };
+        WholeView {
+            outline,
+            pline,
+            data,
+            flat,
+        }
+    }
+
+    fn count(&self) -> usize {
+        self.flat.end_index_offset + 2
+    }
+
+    /// All vertices in one call.
+    fn all_vertices(&self, room: &mut [f64]) {
+        let outline = black_box(&self.outline);
+        done(ours::view_vertices(outline, self.flat, room));
+    }
+
+    /// The original's own iteration, into a list that is there already.
+    fn rust_vertices(&self, list: &mut Vec<PlineVertex>) {
+        list.clear();
+        list.extend(self.data.view(black_box(&self.pline)).iter_vertexes());
+        black_box(list);
+    }
+
+    /// All vertices, one call for each.
+    fn one_by_one(&self, room: &mut [f64]) {
+        for (index, to) in room.chunks_exact_mut(3).enumerate() {
+            let v = ours::view_vertex(black_box(&self.outline), self.flat, index);
+            to.copy_from_slice(&[v.x, v.y, v.bulge]);
+        }
+    }
+}
+
+fn view_vertices() {
+    for size in SLICE_SIZES.into_iter().filter(|size| *size <= MOST_CORNERS) {
+        let star = WholeView::new(size, false);
         let times = measure(&mut [
-            &mut || done(ours::view_vertex(black_box(&outline), flat, 2)),
-            &mut || done(view.view(black_box(&pline)).get(black_box(2))),
+            &mut || done(ours::view_vertex(black_box(&star.outline), star.flat, 2)),
+            &mut || done(star.data.view(black_box(&star.pline)).get(black_box(2))),
         ]);
         tables::tell(tables::VERTEX, "star", size, times.ratio(0, 1));
+        for (name, inverted) in [("star, forward", false), ("star, inverted", true)] {
+            let star = WholeView::new(size, inverted);
+            let mut rooms = [0; 2].map(|_| vec![0.0; 3 * star.count()]);
+            let [all, singles] = &mut rooms;
+            let mut list = Vec::with_capacity(star.count());
+            let times = measure(&mut [
+                &mut || star.all_vertices(all),
+                &mut || star.rust_vertices(&mut list),
+                &mut || star.one_by_one(singles),
+            ]);
+            let numbers: Vec<f64> = list.iter().flat_map(|v| [v.x, v.y, v.bulge]).collect();
+            assert_eq!(rooms, [numbers.clone(), numbers]);
+            tables::tell(tables::VERTICES, name, size, times.ratio(0, 1));
+            tables::tell(tables::VERTICES_SINGLY, name, size, times.ratio(2, 1));
+        }
     }
 }
 

@@ -222,6 +222,12 @@ pub fn area_pass(areas: &[f64], limit: f64, kept: &mut [usize]) -> usize {
     answer.count
 }
 
+pub fn view_vertices(outline: &[f64], view: View, vertices: &mut [f64]) -> usize {
+    let answer = archive::view_vertices(outline, outline.len() / 3, view, vertices);
+    assert_eq!(answer.refusal, 0);
+    answer.count
+}
+
 pub fn view_vertex(outline: &[f64], view: View, index: usize) -> Vertex {
     let answer = archive::view_vertex(outline, outline.len() / 3, view, index);
     assert!(answer.refusal == 0 && answer.found == 1);

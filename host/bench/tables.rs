@@ -17,15 +17,18 @@ pub const STITCH_LIST: &str = "Stitch, the index a plain list";
 pub const STITCH_TREE: &str = "Stitch, the index a packed tree";
 pub const AREA: &str = "Area pass, beside a plain Rust loop";
 pub const VERTEX: &str = "One vertex of a view";
+pub const VERTICES: &str = "All vertices of a whole view, `mask_view_vertices`";
+pub const VERTICES_SINGLY: &str = "The same by `mask_view_vertex`, one call for each vertex";
 
 /// The tables that the goal is about, with the names of their stages.
-const STAGES: [(&str, &str); 6] = [
+const STAGES: [(&str, &str); 7] = [
     ("cut order", ORDER),
     ("candidates, the entry alone", CANDIDATES_ALONE),
     ("candidates, the same work", CANDIDATES),
     ("prune, the same work", PRUNE),
     ("stitch, the index a plain list", STITCH_LIST),
     ("stitch, the index a packed tree", STITCH_TREE),
+    ("all vertices of a view", VERTICES),
 ];
 
 pub struct Table {
@@ -49,6 +52,7 @@ pub fn all() -> Vec<Table> {
         cells: Vec::new(),
     };
     let of_cuts = |title| table(title, "cuts", &CUT_SIZES);
+    let of_vertices = |title| table(title, "vertices of the outline", &SLICE_SIZES[..5]);
     let of_slices = |title| table(title, "slices", &SLICE_SIZES);
     vec![
         of_cuts(ORDER),
@@ -61,7 +65,9 @@ pub fn all() -> Vec<Table> {
         of_slices(STITCH_LIST),
         of_slices(STITCH_TREE),
         table(AREA, "loops", &SLICE_SIZES),
-        table(VERTEX, "vertices of the outline", &SLICE_SIZES[..5]),
+        of_vertices(VERTEX),
+        of_vertices(VERTICES),
+        of_vertices(VERTICES_SINGLY),
     ]
 }
 
@@ -139,7 +145,7 @@ impl Table {
 
 /// For each stage its largest ratio up to the goal's size, and whether that is at most 1.
 pub fn print_goal(tables: &[Table]) {
-    println!("\nUp to {GOAL} cuts or slices no slower than the Rust:\n");
+    println!("\nUp to {GOAL} cuts, slices or vertices no slower than the Rust:\n");
     println!("| stage | largest ratio | at | reached |\n|---|---|---|---|");
     for (stage, title) in STAGES {
         let table = tables.iter().find(|t| t.title == title).unwrap();

@@ -1,5 +1,5 @@
 /*
- * Calls the five entries over views as a host does, and compares every answer, bit
+ * Calls the six entries over views as a host does, and compares every answer, bit
  * for bit, with what document 01 says. One line for each check; the status is 0
  * where none failed.
  *
@@ -120,7 +120,7 @@ typedef struct outline {
     size_t vc;
 } outline;
 
-enum { OUTLINE };
+enum { OUTLINE, WRITTEN };
 
 /* Lends `len` numbers, and says that they are `vc` vertices. A later call takes them back. */
 static outline lend_outline(const double *from, size_t len, size_t vc)
@@ -261,6 +261,30 @@ static mask_vertex_answer vertex_of(outline o, mask_view v, size_t k)
         return no_vertex(0);
     answer.vertex = v.inverted_direction ? inverted(o, v, k) : forward(o, v, k);
     return answer;
+}
+
+/*
+ * All vertices of a view, with room of `len` numbers: the refusals of one vertex, then 9 for room
+ * smaller than the need, 3 numbers for each of offset + 2 vertices. Whether the answer and every
+ * word of the room are as expected.
+ */
+static mask_count_answer told;
+
+static int all_as_expected(outline o, mask_view v, size_t len)
+{
+    mask_count_answer wanted = {.refusal = vertex_of(o, v, 0).refusal};
+    expect(WRITTEN, len);
+    if (wanted.refusal == 0 && len / 3 < v.end_index_offset + 2)
+        wanted.refusal = 9;
+    if (wanted.refusal == 0) {
+        wanted.count = v.end_index_offset + 2;
+        for (size_t k = 0; k < wanted.count; k++) {
+            mask_vertex at_k = v.inverted_direction ? inverted(o, v, k) : forward(o, v, k);
+            put(WRITTEN, (double[]){at_k.x, at_k.y, at_k.bulge}, 3);
+        }
+    }
+    told = mask_view_vertices(o.list, o.len, o.vc, v, lend_room(WRITTEN, len), len);
+    return told.refusal == wanted.refusal && told.count == wanted.count && as_expected(WRITTEN);
 }
 
 static mask_view_answer created(outline o, walk w)
@@ -458,6 +482,30 @@ static int vertex_answers(unsigned set, uint32_t refusal)
                               refusal ? no_vertex(refusal) : the_vertex(4, 2, 0.5));
 }
 
+static const fault all_vertices_faults[] = {
+    {1, "the list is one number short"},    {2, "1 vertex"},
+    {2, "1025 vertices"},                   {3, "inverted is 2"},
+    {5, "a NaN in the outline"},            {5, "an infinity in the view"},
+    {6, "start equal to the vertex count"}, {7, "offset one above the vertex count"},
+    {9, "room for one number less than 3 vertices"},
+};
+
+static int all_vertices_answers(unsigned set, uint32_t refusal)
+{
+    size_t vc = set & 4 ? 1025 : set & 2 ? 1 : 4;
+    outline o = faulty(set & 1, vc, set & 16);
+    mask_view v = view_on_a();
+    if (set & 8)
+        v.inverted_direction = 2;
+    if (set & 32)
+        v.end_point.y = INFINITY;
+    if (set & 64)
+        v.start_index = vc;
+    if (set & 128)
+        v.end_index_offset = vc + 1;
+    return all_as_expected(o, v, set & 256 ? 8 : 9) && told.refusal == refusal;
+}
+
 static const fault create_faults[] = {
     {1, "the list is one number short"},      {2, "1 vertex"},
     {2, "1025 vertices"},                     {4, "tolerance 0"},
@@ -591,6 +639,7 @@ static void faults_and_sets(void)
 {
 #define TRY(entry, rows, answers) try_faults(entry, rows, sizeof rows / sizeof *rows, answers)
     TRY("view_vertex", vertex_faults, vertex_answers);
+    TRY("view_vertices", all_vertices_faults, all_vertices_answers);
     TRY("create", create_faults, create_answers);
     TRY("create_on_single_segment", single_faults, single_answers);
     TRY("from_entire_pline", entire_faults, entire_answers);
@@ -601,12 +650,13 @@ static void faults_and_sets(void)
 
 /* ---- Lengths and counts ---- */
 
-/* Whether all five entries refuse the outline with this number. */
+/* Whether all six entries refuse the outline with this number. */
 static int all_refuse(outline o, uint32_t refusal)
 {
     mask_verdict_answer v = validate(o, view_on_a(), 1, 1);
     piece p = {1, {4, 2, 0.5}, {4, 3}, 0.5};
     return same_vertex_answer(vertex(o, view_on_a(), 0), no_vertex(refusal)) &&
+           all_as_expected(o, view_on_a(), 9) && told.refusal == refusal &&
            same_view_answer(create(o, walk_on_a()), no_view(refusal)) &&
            same_view_answer(single(o, p), no_view(refusal)) &&
            same_view_answer(entire(o, 1), no_view(refusal)) &&
@@ -793,6 +843,7 @@ static void numbers(void)
             /* index 9 is no vertex, and number 1 needs neither start nor end */
             ok = ok && same_vertex_answer(vertex(square_a(), v, 9), no_vertex(5));
             ok = ok && same_vertex_answer(vertex(square_a(), v, 1), no_vertex(5));
+            ok = ok && all_as_expected(square_a(), v, 9) && told.refusal == 5;
             ok = ok && same_verdict_answer(validate(square_a(), v, 1, 1), no_verdict(5));
         }
     check(ok, "numbers: each number of a view: 5");
@@ -835,6 +886,7 @@ static void numbers(void)
             put_view(&v, i, accepted[j]);
             for (size_t k = 0; k < 4; k++)
                 ok = ok && same_vertex_answer(vertex(o, v, k), vertex_of(o, v, k));
+            ok = ok && all_as_expected(o, v, 9) && told.refusal == 0;
         }
         for (unsigned i = 0; i < 11; i++) {
             walk w = walk_on_a();
@@ -924,6 +976,70 @@ static void vertices(void)
     round.end_index_offset = 5;
     check(same_vertex_answer(vertex(arcs(), round, 0), no_vertex(7)),
           "view_vertex: offset one above the vertex count: 7");
+}
+
+/* ---- All vertices of every view ---- */
+
+/* Of an outline every view: each start, each offset from 0 to vc, both directions, in several rooms. */
+static int every_view(outline o)
+{
+    static const int more[] = {0, 1, 2, 3, 40, -1, -2, -3, -6};
+    mask_view v = {.updated_start = {-7, 0.0, -0.0},
+                   .updated_end_bulge = 0.75,
+                   .end_point = {-0.0, 9}};
+    for (v.start_index = 0; v.start_index < o.vc; v.start_index++)
+        for (v.end_index_offset = 0; v.end_index_offset <= o.vc; v.end_index_offset++)
+            for (v.inverted_direction = 0; v.inverted_direction < 2; v.inverted_direction++) {
+                size_t need = 3 * (v.end_index_offset + 2);
+                for (unsigned i = 0; i < sizeof more / sizeof *more; i++)
+                    if (!all_as_expected(o, v, need + (size_t)more[i]) ||
+                        told.refusal != (more[i] < 0 ? 9u : 0u))
+                        return 0;
+                if (!all_as_expected(o, v, 0) || told.refusal != 9)
+                    return 0;
+            }
+    return 1;
+}
+
+static void every_vertex(void)
+{
+    double list[3 * MOST_VERTICES];
+    mask_view v = {.start_index = MOST_VERTICES - 1,
+                   .end_index_offset = MOST_VERTICES,
+                   .updated_start = {1, 2, 3},
+                   .updated_end_bulge = -0.0,
+                   .end_point = {4, 5}};
+    const size_t most = 3 * (MOST_VERTICES + 2);
+    outline longest;
+    int ok = 1;
+    for (size_t i = 0; i < 3 * MOST_VERTICES; i++)
+        list[i] = (double)i / 4 - 300;
+    check(every_view(lend_outline(A, 6, 2)), "view_vertices: every view of 2 vertices of A");
+    check(every_view(triangle()), "view_vertices: every view of a triangle");
+    check(every_view(arcs()), "view_vertices: every view of arcs");
+    check(every_view(lend_outline(list, 3 * 17, 17)), "view_vertices: every view of 17 vertices");
+    longest = lend_outline(list, 3 * MOST_VERTICES, MOST_VERTICES);
+    for (v.inverted_direction = 0; v.inverted_direction < 2; v.inverted_direction++) {
+        ok = ok && all_as_expected(longest, v, most) && told.count == MOST_VERTICES + 2;
+        ok = ok && all_as_expected(longest, v, most + 5) && told.refusal == 0;
+        ok = ok && all_as_expected(longest, v, most - 1) && told.refusal == 9;
+    }
+    check(ok, "view_vertices: 1026 vertices, from the last of 1024 on, in either direction");
+
+    ok = 1;
+    v = view_on_a();
+    for (int i = 0; i < 2; i++) {
+        v.end_index_offset = i ? SIZE_MAX : HALF; /* of which 3 (offset + 2) is small, modulo 2^64 */
+        ok = ok && all_as_expected(square_a(), v, 12) && told.refusal == 7;
+        v.start_index = i ? HALF : SIZE_MAX;
+        ok = ok && all_as_expected(square_a(), v, 12) && told.refusal == 6;
+        v = view_on_a();
+    }
+    check(ok, "view_vertices: huge offsets and starts: 7 and 6");
+    check(all_as_expected((outline){NULL, 0, 0}, v, 9) && told.refusal == 2 &&
+              all_as_expected((outline){(const double *)lent[OUTLINE].end, 0, 0}, v, 9) &&
+              told.refusal == 2,
+          "view_vertices: NULL, or any pointer, with length 0 and no vertices: 2");
 }
 
 /* ---- The constructors over the squares ---- */
@@ -1264,6 +1380,29 @@ static void drawn_vertices(void)
     check(turned, "view_vertex: position k of a view is position offset + 1 - k of it turned round");
 }
 
+static void drawn_views(void)
+{
+    int ok = 1;
+    memset(met, 0, sizeof met);
+    for (unsigned i = 0; i < CASES && ok; i++) {
+        outline o = drawn_outline();
+        mask_view v = drawn_view(o);
+        size_t offset = v.end_index_offset < MOST_VERTICES ? v.end_index_offset : MOST_VERTICES;
+        size_t len = 3 * (offset + 2) + (rarely(2) ? 0 : below(BEYOND - 2));
+        if (rarely(8))
+            len -= 1 + below(len);
+        ok = all_as_expected(o, v, len);
+        if (!ok)
+            printf("     case %u: refusal %u, %zu vertices\n", i, (unsigned)told.refusal, told.count);
+        met[told.refusal              ? told.refusal
+            : v.end_index_offset == 0 ? 10 + v.inverted_direction
+                                      : 12 + v.inverted_direction]++;
+    }
+    check(ok, "view_vertices: %u drawn cases as document 01 says", (unsigned)CASES);
+    check(MET({1, 2, 3, 5, 6, 7, 9, 10, 11, 12, 13}),
+          "view_vertices: each refusal and answer was among them");
+}
+
 static void drawn_walks(void)
 {
     int ok = 1;
@@ -1376,6 +1515,7 @@ static void drawn_verdicts(void)
 int main(void)
 {
     make_list(OUTLINE, LONGEST);
+    make_list(WRITTEN, 3 * (MOST_VERTICES + 2));
     watch("FAIL an entry wrote to a list lent, or read outside it\n");
     seed = 20260101;
     faults_and_sets();
@@ -1384,6 +1524,7 @@ int main(void)
     tolerances();
     numbers();
     vertices();
+    every_vertex();
     constructors();
     verdicts();
     validation_tolerances();
@@ -1392,5 +1533,6 @@ int main(void)
     drawn_pieces();
     drawn_outlines();
     drawn_verdicts();
+    drawn_views();
     return finish("entries_test");
 }

@@ -60,6 +60,7 @@ static double cut[2 * CUTS], cand[6 * CUTS], probe[6 * CUTS];
 static uint8_t inside[CANDIDATES];
 static size_t slice_at[4 * SLICES], ends[SLICES], chain[SLICES], chain_ends[SLICES],
     chain_how[SLICES], kept[SLICES];
+static double vertices[3 * (VC + 2)];
 static double slice[6 * SLICES], room[3 * (1 + 2 * SLICES)], areas[SLICES];
 static int64_t points[2 * VC], many[2 * 2 * OUTLINES];
 static size_t many_ends[OUTLINES];
@@ -103,6 +104,11 @@ static uint32_t refusal;
 #define ALL(list) list, sizeof list / sizeof *list
 
 static void view_vertex(void) { refusal = mask_view_vertex(ALL(outline), VC, VIEW, VC).refusal; }
+
+static void view_vertices(void)
+{
+    refusal = mask_view_vertices(ALL(outline), VC, VIEW, ALL(vertices)).refusal;
+}
 
 static void create(void)
 {
@@ -252,6 +258,7 @@ int main(void)
     make_inputs();
     stack = pages_of(STACK);
     measure("mask_view_vertex", view_vertex, MASK_STACK_VIEW_VERTEX);
+    measure("mask_view_vertices", view_vertices, MASK_STACK_VIEW_VERTICES);
     measure("mask_create", create, MASK_STACK_CREATE);
     measure("mask_create_on_single_segment", create_on_single_segment,
             MASK_STACK_CREATE_ON_SINGLE_SEGMENT);

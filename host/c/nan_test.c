@@ -33,7 +33,8 @@ enum {
     SLICE,
     AREAS,
     FIRST_ROOM, /* from here on written */
-    CUT_AT = FIRST_ROOM,
+    VERTICES = FIRST_ROOM,
+    CUT_AT,
     CUT,
     CAND_AT,
     CAND,
@@ -63,6 +64,7 @@ static struct {
     uint8_t inside2[2];
     size_t slice_at[8];
     double slice[12], areas[3];
+    mask_view view;
     size_t vc1, vc2, pline2;
     uint32_t source, mode, selector;
     double tolerance, limit;
@@ -85,9 +87,9 @@ static void begin(void)
         [SPLITS] = 36,   [CAND_AT1] = 4,  [CAND1] = 12, [INSIDE1] = 2, [CAND_AT2] = 4, [CAND2] = 12,
         [INSIDE2] = 2,   [SLICE_AT] = 8,  [SLICE] = 12, [AREAS] = 3};
     static const size_t needs[LISTS] = {
-        [CUT_AT] = 12,       [CUT] = 8,        [CAND_AT] = 8, [CAND] = 24, [PROBE] = 24,
-        [NEW_SLICE_AT] = 24, [NEW_SLICE] = 36, [ROOM] = 27,   [ENDS] = 2,  [CHAIN] = 2,
-        [CHAIN_ENDS] = 2,    [CHAIN_HOW] = 2,  [KEPT] = 3};
+        [VERTICES] = 15, [CUT_AT] = 12,       [CUT] = 8,        [CAND_AT] = 8, [CAND] = 24,
+        [PROBE] = 24,    [NEW_SLICE_AT] = 24, [NEW_SLICE] = 36, [ROOM] = 27,   [ENDS] = 2,
+        [CHAIN] = 2,     [CHAIN_ENDS] = 2,    [CHAIN_HOW] = 2,  [KEPT] = 3};
     memset(&c, 0, sizeof c);
     memcpy(c.outline1, A, sizeof A);
     memcpy(c.outline2, B, sizeof B);
@@ -103,6 +105,7 @@ static void begin(void)
     memcpy(c.slice_at, slice_at, sizeof slice_at);
     memcpy(c.slice, slice, sizeof slice);
     memcpy(c.areas, areas, sizeof areas);
+    c.view = (mask_view){2, 3, {2, 4, 0}, 0, {4, 2}, 1};
     c.vc1 = c.vc2 = 4;
     c.pline2 = 1;
     c.source = 1;
@@ -117,6 +120,11 @@ static void begin(void)
 #define READ(list, field) lend(list, c.field, c.len[list]), c.len[list]
 #define READ_BYTES(list, field) lend_bytes(list, c.field, c.len[list]), c.len[list]
 #define WRITTEN(list) lend_room(list, c.len[list]), c.len[list]
+
+static uint32_t view_vertices(void)
+{
+    return mask_view_vertices(READ(OUTLINE1, outline1), c.vc1, c.view, WRITTEN(VERTICES)).refusal;
+}
 
 static uint32_t cut_order(void)
 {
@@ -165,6 +173,7 @@ static const struct {
     int first, last;
     uint32_t numbers; /* a bit for each list of f64 that it reads */
 } ENTRIES[] = {
+    {"mask_view_vertices", view_vertices, VERTICES, VERTICES, 1u << OUTLINE1},
     {"mask_cut_order", cut_order, CUT_AT, CUT, 1u << OUTLINE1 | 1u << HIT | 1u << LAP},
     {"mask_candidates", candidates, CAND_AT, PROBE,
      1u << OUTLINE1 | 1u << HIT | 1u << LAP | 1u << SPLITS},
@@ -229,6 +238,12 @@ static int is_refused(int e, uint32_t number)
     return ENTRIES[e].call() == number && all_untouched(e);
 }
 
+/* Whether it is handed a tolerance, or a limit. */
+static int has_tolerance(int e)
+{
+    return ENTRIES[e].call != prune && ENTRIES[e].call != view_vertices;
+}
+
 /* Each number that the entry gives, by one fault; 0 where it does not give this one. */
 static int spoil(int e, uint32_t number)
 {
@@ -243,19 +258,21 @@ static int spoil(int e, uint32_t number)
         return ENTRIES[e].call != area_pass;
     case 3:
         c.source = 3;
+        c.view.inverted_direction = 2;
         c.mode = 4;
         c.selector = 2;
         return ENTRIES[e].call != area_pass;
     case 4:
         c.tolerance = 0;
         c.limit = -1;
-        return ENTRIES[e].call != prune;
+        return has_tolerance(e);
     case 6:
-        c.hit_at[0] = c.cand_at1[0] = c.slice_at[2] = 4;
+        c.hit_at[0] = c.cand_at1[0] = c.slice_at[2] = c.view.start_index = 4;
         return ENTRIES[e].call != area_pass;
     case 7:
-        c.cand_at1[1] = c.slice_at[3] = 5;
-        return ENTRIES[e].call == prune || ENTRIES[e].call == stitch;
+        c.cand_at1[1] = c.slice_at[3] = c.view.end_index_offset = 5;
+        return ENTRIES[e].call == prune || ENTRIES[e].call == stitch ||
+               ENTRIES[e].call == view_vertices;
     case 8:
         c.pline2 = 3;
         return ENTRIES[e].call == stitch;
@@ -326,7 +343,13 @@ static int handed_in(int e, uint64_t bits)
                 return 0;
         }
     }
-    if (ENTRIES[e].call == prune)
+    for (int i = 0; ENTRIES[e].call == view_vertices && i < 2; i++) {
+        begin();
+        memcpy(i ? &c.view.end_point.y : &c.view.updated_start.bulge, &bits, sizeof bits);
+        if (!is_refused(e, MASK_REFUSED_NUMBER))
+            return 0;
+    }
+    if (!has_tolerance(e))
         return 1;
     begin();
     memcpy(&c.tolerance, &bits, sizeof bits);

@@ -1160,7 +1160,7 @@ static void drawn(unsigned cases)
 {
     static call least;
     static char what[32];
-    unsigned bad = 0, by_number[11] = {0};
+    unsigned bad = 0, other = 0, by_number[10] = {0};
     memset(met, 0, sizeof met);
     memset(chosen, 0, sizeof chosen);
     for (unsigned k = 0; k < cases; k++) {
@@ -1171,14 +1171,17 @@ static void drawn(unsigned cases)
                 snprintf(what, sizeof what, "%s", difference);
             }
         }
-        if (got.refusal <= 10)
+        if (got.refusal <= 9)
             by_number[got.refusal]++;
+        else
+            other++;
     }
     check(bad == 0, "stitch: drawn: %u cases, %u accepted, %u differ", cases, by_number[0], bad);
     if (bad != 0) {
         printf("     the smallest, in %s:\n", what);
         show(&least);
     }
+    check(other == 0, "stitch: drawn: no number above 9");
     for (int n = 1; n < 10; n++)
         if (n != 2)
             check(by_number[n] > 0, "stitch: drawn: refusal %d: %u", n, by_number[n]);

@@ -1,7 +1,8 @@
 //! A call of an entry, as words. Every number, count and code is one 64-bit word; an f64 is its
 //! bits. So one form serves the archive, the original, the damage, the record and the print.
 
-/// The ten entries, in the order of the header.
+/// The entries: the ten of the base in the order of the header, whose numbers a record holds, then
+/// those that came later.
 #[derive(Debug, Clone, Copy, PartialEq, Eq, PartialOrd, Ord)]
 pub enum Entry {
     ViewVertex,
@@ -14,9 +15,15 @@ pub enum Entry {
     Prune,
     Stitch,
     AreaPass,
+    ViewVertices,
 }
 
-pub const ENTRIES: [Entry; 10] = [
+/// How many entries there are.
+pub const COUNT: usize = 11;
+/// How many of them a record holds: the first ones.
+pub const RECORDED: usize = 10;
+
+pub const ENTRIES: [Entry; COUNT] = [
     Entry::ViewVertex,
     Entry::Create,
     Entry::CreateOnSingleSegment,
@@ -27,6 +34,7 @@ pub const ENTRIES: [Entry; 10] = [
     Entry::Prune,
     Entry::Stitch,
     Entry::AreaPass,
+    Entry::ViewVertices,
 ];
 
 /// What a parameter's words are.
@@ -57,6 +65,20 @@ const VIEW_VERTEX: Shape = &[
     ("view.end_point.y", Number),
     ("view.inverted_direction", Code),
     ("index", Count),
+];
+
+const VIEW_VERTICES: Shape = &[
+    ("outline", Numbers),
+    ("vc", Count),
+    ("view.start_index", Count),
+    ("view.end_index_offset", Count),
+    ("view.updated_start.x", Number),
+    ("view.updated_start.y", Number),
+    ("view.updated_start.bulge", Number),
+    ("view.updated_end_bulge", Number),
+    ("view.end_point.x", Number),
+    ("view.end_point.y", Number),
+    ("view.inverted_direction", Code),
 ];
 
 const CREATE: Shape = &[
@@ -171,6 +193,7 @@ const STITCH: Shape = &[
 
 const AREA_PASS: Shape = &[("areas", Numbers), ("loops", Count), ("limit", Number)];
 
+const VERTICES_ROOM: Shape = &[("vertices", Numbers)];
 const CUT_ROOM: Shape = &[("cut_at", Counts), ("cut", Numbers)];
 const CANDIDATE_ROOM: Shape = &[("cand_at", Counts), ("cand", Numbers), ("probe", Numbers)];
 const SLICE_ROOM: Shape = &[("slice_at", Counts), ("slice", Numbers)];
@@ -200,6 +223,7 @@ impl Entry {
             Entry::Prune => "mask_prune",
             Entry::Stitch => "mask_stitch",
             Entry::AreaPass => "mask_area_pass",
+            Entry::ViewVertices => "mask_view_vertices",
         }
     }
 
@@ -216,6 +240,7 @@ impl Entry {
             Entry::Prune => PRUNE,
             Entry::Stitch => STITCH,
             Entry::AreaPass => AREA_PASS,
+            Entry::ViewVertices => VIEW_VERTICES,
         }
     }
 
@@ -227,6 +252,7 @@ impl Entry {
             Entry::Prune => SLICE_ROOM,
             Entry::Stitch => STITCH_ROOM,
             Entry::AreaPass => AREA_ROOM,
+            Entry::ViewVertices => VERTICES_ROOM,
             _ => &[],
         }
     }
@@ -239,10 +265,11 @@ impl Entry {
             Entry::CreateOnSingleSegment => &[1, 2, 4, 5, 6],
             Entry::FromEntirePline => &[1, 2, 3, 5],
             Entry::ValidateForSource => &[1, 2, 3, 5, 6],
-            Entry::CutOrder | Entry::Candidates => &[1, 2, 3, 4, 5, 6, 9],
+            Entry::CutOrder | Entry::Candidates => &[1, 2, 3, 4, 5, 6, 7, 9],
             Entry::Prune => &[1, 2, 3, 5, 6, 7, 9],
             Entry::Stitch => &[1, 2, 3, 4, 5, 6, 7, 8, 9],
             Entry::AreaPass => &[1, 4, 5, 9],
+            Entry::ViewVertices => &[1, 2, 3, 5, 6, 7, 9],
         }
     }
 
@@ -253,7 +280,7 @@ impl Entry {
             Entry::Create | Entry::CreateOnSingleSegment | Entry::FromEntirePline => 11,
             Entry::ValidateForSource => 11,
             Entry::Stitch => 4,
-            Entry::CutOrder | Entry::Candidates | Entry::AreaPass => 2,
+            Entry::CutOrder | Entry::Candidates | Entry::AreaPass | Entry::ViewVertices => 2,
         }
     }
 }

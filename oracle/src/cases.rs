@@ -63,6 +63,11 @@ pub fn view_vertex(outline: &[f64], view: &ViewCase, index: usize) -> Call {
     with_view(with_outline(Call::new(Entry::ViewVertex), outline), view).count(index)
 }
 
+pub fn view_vertices(rng: &mut Random, outline: &[f64], view: &ViewCase) -> Call {
+    let call = with_outline(Call::new(Entry::ViewVertices), outline);
+    with_view(call, view).lend(rng.canaries(3 * (view.offset + 2)))
+}
+
 pub fn validate(outline: &[f64], view: &ViewCase, start_on: bool, end_on: bool) -> Call {
     with_view(
         with_outline(Call::new(Entry::ValidateForSource), outline),

@@ -2,7 +2,7 @@
 //! table tells what must come of each. Damage that leaves a call accepted is compared with the
 //! original like any other call.
 
-use crate::call::{Call, ENTRIES, Entry, Kind, Param};
+use crate::call::{Call, ENTRIES, Entry, Kind, Param, RECORDED};
 use crate::hostile::any_call;
 use crate::random::Random;
 use crate::refusal;
@@ -216,7 +216,19 @@ fn widen(rng: &mut Random, call: &mut Call) {
 
 /// One accepted call of an entry and all its damage.
 pub fn scenario(tally: &mut Tally, rng: &mut Random) {
-    let entry = rng.pick(&ENTRIES);
+    let entry = rng.pick(&ENTRIES[..RECORDED]);
+    damage(tally, rng, entry);
+}
+
+/// The same for the entries that no record holds.
+pub fn later_scenario(tally: &mut Tally, rng: &mut Random) {
+    if rng.once_in(4) {
+        let entry = rng.pick(&ENTRIES[RECORDED..]);
+        damage(tally, rng, entry);
+    }
+}
+
+fn damage(tally: &mut Tally, rng: &mut Random, entry: Entry) {
     let base = any_call(rng, entry);
     assert!(refusal::expected(&base) == 0, "the call must be accepted");
     let singles = faults(rng, &base);

@@ -3,7 +3,7 @@
 //! count; many slices at one point; cuts at equal distances; splits, inside answers and areas that no
 //! geometry gives.
 
-use crate::call::{Call, Entry, Outcome, words_of};
+use crate::call::{Call, ENTRIES, Entry, Outcome, RECORDED, words_of};
 use crate::cases::{self, CandidateLists, CreateCase, Shared, ViewCase};
 use crate::random::Random;
 use crate::tally::{Family, Tally};
@@ -34,6 +34,15 @@ pub fn scenario(tally: &mut Tally, rng: &mut Random) {
     pair(tally, rng);
 }
 
+/// The same for the entries that no record holds.
+pub fn later_scenario(tally: &mut Tally, rng: &mut Random) {
+    for _ in 0..4 {
+        for entry in &ENTRIES[RECORDED..] {
+            tally.compare(FAMILY, &any_call(rng, *entry));
+        }
+    }
+}
+
 /// An accepted call of an entry.
 pub fn any_call(rng: &mut Random, entry: Entry) -> Call {
     match entry {
@@ -50,6 +59,7 @@ pub fn any_call(rng: &mut Random, entry: Entry) -> Call {
         Entry::Prune => prune(rng),
         Entry::Stitch => stitch(rng),
         Entry::AreaPass => area_pass(rng),
+        Entry::ViewVertices => view_vertices(rng),
     }
 }
 
@@ -134,7 +144,8 @@ fn position(outline: &[f64], index: usize) -> [f64; 2] {
     [outline[at], outline[at + 1]]
 }
 
-fn view_vertex(rng: &mut Random) -> Call {
+/// An outline and any view of it that is accepted.
+fn outline_and_view(rng: &mut Random) -> (Vec<f64>, ViewCase) {
     let t = tolerance(rng);
     let outline = outline(rng, t, 2);
     let vc = outline.len() / 3;
@@ -144,6 +155,16 @@ fn view_vertex(rng: &mut Random) -> Call {
         numbers: std::array::from_fn(|_| bulge(rng)),
         inverted: rng.once_in(2),
     };
+    (outline, view)
+}
+
+fn view_vertices(rng: &mut Random) -> Call {
+    let (outline, view) = outline_and_view(rng);
+    cases::view_vertices(rng, &outline, &view)
+}
+
+fn view_vertex(rng: &mut Random) -> Call {
+    let (outline, view) = outline_and_view(rng);
     let index = match rng.below(10) {
         0 => rng.word() as usize,
         1 => view.offset + 2,
@@ -313,7 +334,8 @@ fn splits(rng: &mut Random, cuts: usize, t: f64) -> Vec<f64> {
     splits
 }
 
-/// The indexes of the outline that is not in the call may be anything.
+/// The indexes of the outline that is not in the call may be anything. An overlap's view is of
+/// outline 2.
 fn spoil_the_other(rng: &mut Random, shared: &mut Shared, source: u64) {
     let other = if source == 1 { 1 } else { 0 };
     for item in shared.hit_at.chunks_exact_mut(2) {
@@ -322,8 +344,10 @@ fn spoil_the_other(rng: &mut Random, shared: &mut Shared, source: u64) {
     for item in shared.lap_at.chunks_exact_mut(7) {
         item[other] = rng.word() as usize;
         item[2 + other] = rng.word() as usize;
-        item[5] = rng.word() as usize;
-        item[6] = rng.word() as usize;
+        let view = [rng.word() as usize, rng.word() as usize];
+        if source == 1 {
+            item[5..].copy_from_slice(&view);
+        }
     }
 }
 

@@ -59,6 +59,7 @@ fn views(tally: &mut Tally, rng: &mut Random, outline: &[f64]) {
         ] {
             tally.compare(FAMILY, &cases::view_vertex(outline, &view, index));
         }
+        tally.compare(FAMILY, &cases::view_vertices(rng, outline, &view));
         tally.compare(FAMILY, &cases::validate(outline, &view, true, true));
     }
     let start = VERTICES - 1;

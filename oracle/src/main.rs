@@ -39,10 +39,18 @@ fn main() -> ExitCode {
 fn scenario(tally: &mut Tally, seed: u64, number: u64) {
     tally.scenario = number;
     let mut rng = Random::new(seed.wrapping_mul(0x0100_0000_01b3).wrapping_add(number));
+    // What no record holds is drawn apart, so that a record stays as it is.
+    let mut later = rng.apart();
     match number % 10 {
         0..=4 => realistic::scenario(tally, &mut rng),
-        5..=8 => hostile::scenario(tally, &mut rng),
-        _ => damaged::scenario(tally, &mut rng),
+        5..=8 => {
+            hostile::scenario(tally, &mut rng);
+            hostile::later_scenario(tally, &mut later);
+        }
+        _ => {
+            damaged::scenario(tally, &mut rng);
+            damaged::later_scenario(tally, &mut later);
+        }
     }
     if number % 500 == 0 {
         limits::scenario(tally, &mut rng);

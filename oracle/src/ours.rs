@@ -410,6 +410,19 @@ fn enter(call: &Call, inputs: &mut [Guarded], lent: &mut [Guarded]) -> Vec<u64> 
                     a.chains as u64,
                 ]
             }
+            Entry::ViewVertices => {
+                let (outline, length) = list!();
+                let (vc, view) = (r.count(), view(r));
+                let (vertices, vertices_len) = room!();
+                count_words(&mask_view_vertices(
+                    outline,
+                    length,
+                    vc,
+                    view,
+                    vertices,
+                    vertices_len,
+                ))
+            }
             Entry::AreaPass => {
                 let (areas, areas_len) = list!();
                 let (loops, limit) = (r.count(), r.number());

@@ -7,6 +7,11 @@ impl Random {
         Random(seed ^ 0x9e37_79b9_7f4a_7c15)
     }
 
+    /// Other numbers, which leave these as they are.
+    pub fn apart(&self) -> Random {
+        Random(self.0 ^ 0x6a09_e667_f3bc_c909)
+    }
+
     pub fn word(&mut self) -> u64 {
         self.0 = self.0.wrapping_add(0x9e37_79b9_7f4a_7c15);
         let mut z = self.0;

@@ -251,7 +251,7 @@ impl Pair {
         }
     }
 
-    /// A few vertices of a view, and its verdict.
+    /// A few vertices of a view one by one, all of them in one call, and its verdict.
     fn view(&self, tally: &mut Tally, rng: &mut Random, which: usize, view: ViewCase) {
         let outline = &self.outlines[which];
         let indexes = [0, 1, view.offset / 2, view.offset, view.offset + 1];
@@ -261,6 +261,8 @@ impl Pair {
             }
             tally.compare(FAMILY, &cases::view_vertex(outline, &view, index));
         }
+        let rooms = &mut Random::new(tally.scenario);
+        tally.compare(FAMILY, &cases::view_vertices(rooms, outline, &view));
         self.verdict(tally, which, &view);
     }
 

@@ -1,6 +1,6 @@
 //! Writes compared cases to a file of words. RECORD.md describes the layout.
 
-use crate::call::{Call, ENTRIES, Outcome};
+use crate::call::{Call, ENTRIES, Outcome, RECORDED};
 use crate::print::input_words;
 use crate::random::Random;
 use crate::tally::Family;
@@ -9,7 +9,7 @@ use crate::tally::Family;
 const MAGIC: u64 = u64::from_le_bytes(*b"MASKVEC1");
 
 /// The longest case kept, in words, by entry.
-const LONGEST: [usize; 10] = [70, 90, 60, 50, 70, 140, 210, 190, 300, 60];
+const LONGEST: [usize; RECORDED] = [70, 90, 60, 50, 70, 140, 210, 190, 300, 60];
 
 /// `mask_validate_for_source` gives 2 for an outline that is too long, and for no other. So one long
 /// case is kept.
@@ -25,7 +25,7 @@ pub enum Origin {
 /// Keeps some of the cases offered: as many of each entry, from every family, with every refusal.
 pub struct Record {
     /// How many are still wanted, by entry, family and refusal number.
-    wanted: [[[usize; 10]; 4]; 10],
+    wanted: [[[usize; 10]; 4]; RECORDED],
     cases: Vec<Vec<u64>>,
     choice: Random,
 }
@@ -34,10 +34,10 @@ impl Record {
     /// Room for about `count` cases: one in ten for each entry. Of those three in ten are realistic,
     /// three hostile, four damaged; and the damaged ones are shared out over the refusal numbers.
     pub fn new(count: usize, seed: u64) -> Record {
-        let each = count.div_ceil(10);
+        let each = count.div_ceil(RECORDED);
         let accepted = each * 3 / 10;
-        let mut wanted = [[[0; 10]; 4]; 10];
-        for entry in ENTRIES {
+        let mut wanted = [[[0; 10]; 4]; RECORDED];
+        for entry in &ENTRIES[..RECORDED] {
             let of_entry = &mut wanted[entry.number()];
             of_entry[Family::Realistic as usize][0] = accepted;
             of_entry[Family::Hostile as usize][0] = accepted;
@@ -57,6 +57,9 @@ impl Record {
 
     pub fn offer(&mut self, family: Family, call: &Call, expected: &Outcome, origin: Origin) {
         let number = call.entry.number();
+        if number >= RECORDED {
+            return;
+        }
         let left = &mut self.wanted[number][family as usize][expected.answer[0] as usize];
         if *left == 0 || !self.choice.once_in(5) {
             return;

@@ -79,7 +79,9 @@ pub fn expected(call: &Call) -> u64 {
     let faults = &mut Faults { lowest: 0 };
     let r = &mut call.read();
     match call.entry {
-        Entry::ViewVertex => view_vertex(faults, r),
+        Entry::ViewVertex => {
+            view_vertex(faults, r);
+        }
         Entry::Create => create(faults, r),
         Entry::CreateOnSingleSegment => create_on_single_segment(faults, r),
         Entry::FromEntirePline => from_entire_pline(faults, r),
@@ -89,6 +91,7 @@ pub fn expected(call: &Call) -> u64 {
         Entry::Prune => prune(faults, r, &call.lent),
         Entry::Stitch => stitch(faults, r, &call.lent),
         Entry::AreaPass => area_pass(faults, r, &call.lent),
+        Entry::ViewVertices => view_vertices(faults, r, &call.lent),
     }
     faults.lowest
 }
@@ -103,12 +106,19 @@ fn view(faults: &mut Faults, r: &mut Reader) -> (u64, u64) {
     (start, offset)
 }
 
-fn view_vertex(faults: &mut Faults, r: &mut Reader) {
+/// What is looked at of an outline and a view of it. Gives the view's offset back.
+fn view_vertex(faults: &mut Faults, r: &mut Reader) -> u64 {
     let (outline, vc) = (r.list(), r.word());
     faults.outline(outline, vc);
     let (start, offset) = view(faults, r);
     faults.index(start, vc);
     faults.offset(offset, vc);
+    offset
+}
+
+fn view_vertices(faults: &mut Faults, r: &mut Reader, lent: &[Vec<u64>]) {
+    let offset = view_vertex(faults, r);
+    faults.room(&lent[0], 3, offset.saturating_add(2));
 }
 
 fn create(faults: &mut Faults, r: &mut Reader) {
@@ -176,6 +186,11 @@ fn shared(faults: &mut Faults, r: &mut Reader, vc: u64, source: u64) -> u64 {
         faults.index(item[which], vc);
         faults.index(item[2 + which], vc);
         faults.yes_or_no(item[4]);
+        if source == 2 {
+            // an overlap's own view is of outline 2
+            faults.index(item[5], vc);
+            faults.offset(item[6], vc);
+        }
     }
     hits.saturating_add(laps.saturating_mul(2))
 }

@@ -1,6 +1,6 @@
 //! Compares one call after the other, and counts.
 
-use crate::call::{Call, ENTRIES, Entry, Outcome, Param};
+use crate::call::{COUNT, Call, ENTRIES, Entry, Outcome, Param};
 use crate::record::{Origin, Record};
 use crate::{ours, print, refusal, theirs};
 use std::collections::BTreeMap;
@@ -40,8 +40,8 @@ pub fn quiet_caught_panics() {
 
 #[derive(Default)]
 pub struct Tally {
-    compared: [[u64; 10]; 4],
-    refused: [[u64; 11]; 10],
+    compared: [[u64; COUNT]; 4],
+    refused: [[u64; 10]; COUNT],
     ended: [u64; 4],
     extra: BTreeMap<&'static str, u64>,
     explained: BTreeMap<&'static str, u64>,

@@ -50,6 +50,7 @@ pub fn answer(call: &Call) -> Outcome {
         Entry::Prune => prune(call),
         Entry::Stitch => stitch(r, &call.lent),
         Entry::AreaPass => area_pass(r, &call.lent),
+        Entry::ViewVertices => view_vertices(r, &call.lent),
     }
 }
 
@@ -123,6 +124,18 @@ fn view_vertex(r: &mut Reader) -> Outcome {
     Outcome {
         answer,
         lent: Vec::new(),
+    }
+}
+
+/// The vertices that the original's own iteration over a view gives.
+fn view_vertices(r: &mut Reader, lent: &[Vec<u64>]) -> Outcome {
+    let pline = stages::outline(&numbers_of(r.list()));
+    r.count();
+    let vertices = stages::view_vertices(&pline, view(r));
+    let words: Vec<u64> = vertices.iter().flat_map(|v| vertex_words(*v)).collect();
+    Outcome {
+        answer: vec![0, vertices.len() as u64],
+        lent: vec![written(&lent[0], &words, words.len())],
     }
 }
 

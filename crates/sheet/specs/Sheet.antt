@@ -23,27 +23,29 @@ use Rattle.basis.specs.declared.answer.CountAnswer.{CountAnswer}
 use Rattle.candidate_entries.specs.Candidates.{alongCuts, candidatesRefusal, Sliced}
 use Rattle.select.specs.declared.class.Starts.{Starts}
 use Rattle.prune.specs.declared.counts.Pruned.{Pruned}
-use Rattle.prune.specs.Prune.{cands, overlaps, given, needOf, prunedOf, sliceCounts, sliceNumbers}
-use Rattle.prune.specs.Ready as prune
+use Rattle.slice.specs.Slice.{codeWidth, shapeWidth}
+use Rattle.slice.specs.Ready as slice
+use Rattle.prune.specs.Prune.{Given, callOf, cands, overlaps, given, needOf, prunedOf, sliceCodes, sliceShapes}
 use Rattle.prune_entries.specs.declared.answer.PruneAnswer.{PruneAnswer}
 use Rattle.prune_entries.specs.Answers.{pruneGiven}
-use Rattle.prune_entries.specs.PruneEntry.{Called, called, pruneRefusal, PruneLeft}
+use Rattle.prune_entries.specs.PruneEntry.{pruneRefusal, PruneLeft}
 use Rattle.stitch_run.specs.Stitch as stitch
 use Rattle.stitch_run.specs.Stitch.{roundCount, roomItems, endItems}
 use Rattle.stitch.specs.Lent.{Lists}
 use Rattle.stitch_entries.specs.declared.answer.StitchAnswer.{StitchAnswer}
 use Rattle.stitch_entries.specs.Answers.{stitchRefused}
+use Rattle.stitch_entries.specs.StitchRows.{lengths}
 use Rattle.stitch_entries.specs.StitchEntry.{stitchRefusal, StitchLeft}
 
 -- ---- what a case says
 
 pub data Said : Type 0 where
   -- the candidates of an outline, over its cuts and splits: start and offset of each
-  candidatesAre : cuts.Given → (source : ℕ) → (splits : List Float) → (numbers : List ℕ) → Said
+  candidatesAre : cuts.Given → (splits : List Float) → (numbers : List ℕ) → Said
   -- a view over an outline has so many vertices
   verticesAre : (outline : List Float) → (vc : ℕ) → View → ℕ → Said
   -- what pruning gives: so many slices, and where their classes start
-  slicesAre : Called → Pruned → Said
+  slicesAre : Given → Pruned → Said
   -- what a stitch gives: its rounds, where its loops end, their vertices; and the room that it needs, in vertices
   loopsAre : stitch.Given → (rounds : ℕ) → (ends : List ℕ) → (loops : List Float) → (room : ℕ) → Said
   -- a stitch with room for so many vertices is refused with a number
@@ -62,18 +64,18 @@ t# n says = record { number = n; says = says }
 -- ---- of the definitions
 
 abbrev pub Holds : Said → Type 0
-Holds (candidatesAre g source splits numbers) =
+Holds (candidatesAre g splits numbers) =
     (candNumbers (alongCuts g splits) ≡ numbers)
-    × (candidatesRefusal g source splits (2 * cuts.cutCount g) (6 * cuts.cutCount g) (6 * cuts.cutCount g) ≡ 0)
+    × (candidatesRefusal g splits (record { at = 2 * cuts.cutCount g; cand = 6 * cuts.cutCount g; probe = 6 * cuts.cutCount g }) ≡ 0)
 Holds (verticesAre o vc v n) = (vertexCount (viewData v) ≡ n) × (viewVertexRefusal o vc v ≡ 0)
-Holds (slicesAre c p) = (prunedOf (c .pruned) ≡ p) × (pruneRefusal c (4 * needOf (c .pruned)) (6 * needOf (c .pruned)) ≡ 0)
+Holds (slicesAre c p) = (prunedOf c ≡ p) × (pruneRefusal c (codeWidth * needOf (c .call)) (shapeWidth * needOf (c .call)) ≡ 0)
 Holds (loopsAre g rounds ends loops room) =
     (roundCount g ≡ rounds)
     × ((stitch.loopCount g ≡ length ends) × (endItems g ≡ ends))
     × (roomItems g ≡ loops)
     × (stitch.needOf (g .sliceAt) (g .slices) ≡ room)
-    × (stitchRefusal g (3 * room) (g .slices) (g .slices) (g .slices) (g .slices) ≡ 0)
-Holds (refusedWith g room number) = (stitchRefusal g (3 * room) (g .slices) (g .slices) (g .slices) (g .slices) ≡ number) × (0 < number)
+    × (stitchRefusal g (lengths (3 * room) (g .slices) (g .slices) (g .slices) (g .slices)) ≡ 0)
+Holds (refusedWith g room number) = (stitchRefusal g (lengths (3 * room) (g .slices) (g .slices) (g .slices) (g .slices)) ≡ number) × (0 < number)
 Holds (apartInBox o vc i a b t) =
     (pointsAgree t (posOf a) (posOf b) ≡ false) × (pointsAgree t (posOf b) (posOf a) ≡ false) × (inBox t (posOf a) (posOf b) ≡ true) × (inBox t (posOf b) (posOf a) ≡ true)
     × (singleRefusal o vc i a (posOf b) t ≡ 0)
@@ -85,9 +87,9 @@ pub record CandRooms (g : cuts.Given) (l : slices.Rooms) : Type 0 where
   pub cand : length (l .cand) ≡ 6 * cuts.cutCount g
   pub probe : length (l .probe) ≡ 6 * cuts.cutCount g
 
-pub record SliceRooms (c : Called) (l : prune.Rooms) : Type 0 where
-  pub at : length (l .at) ≡ 4 * needOf (c .pruned)
-  pub shape : length (l .shape) ≡ 6 * needOf (c .pruned)
+pub record SliceRooms (c : Given) (l : slice.Rooms) : Type 0 where
+  pub at : length (l .at) ≡ codeWidth * needOf (c .call)
+  pub shape : length (l .shape) ≡ shapeWidth * needOf (c .call)
 
 -- room for so many vertices, and one entry per slice in the other lists
 pub record LoopRooms (g : stitch.Given) (vertices : ℕ) (x : Lists) : Type 0 where
@@ -106,13 +108,13 @@ pub record Untouched (x left : Lists) : Type 0 where
 
 abbrev pub Answers : Said → Type 0
 -- `mask_candidates`
-Answers (candidatesAre g source splits numbers) =
-    (l : slices.Rooms) (r : CountAnswer) (left : slices.Rooms) → CandRooms g l → Sliced g source splits l r left
+Answers (candidatesAre g splits numbers) =
+    (l : slices.Rooms) (r : CountAnswer) (left : slices.Rooms) → CandRooms g l → Sliced g splits l r left
     → (r .refusal ≡ 0) × (take (2 * r .count) (left .at) ≡ numbers)
 -- `mask_view_vertex`: the last vertex is found, and none after it
 Answers (verticesAre o vc v n) = (viewVertexAnswer o vc v (n - 1) .found ≡ 1) × (viewVertexAnswer o vc v n .found ≡ 0)
 -- `mask_prune`
-Answers (slicesAre c p) = (l : prune.Rooms) (r : PruneAnswer) (left : prune.Rooms) → SliceRooms c l → PruneLeft c l r left → r ≡ pruneGiven p
+Answers (slicesAre c p) = (l : slice.Rooms) (r : PruneAnswer) (left : slice.Rooms) → SliceRooms c l → PruneLeft c l r left → r ≡ pruneGiven p
 -- `mask_stitch`
 Answers (loopsAre g rounds ends loops room) =
     (x : Lists) (r : StitchAnswer) (left : Lists) → LoopRooms g room x → StitchLeft g x r left
@@ -136,9 +138,9 @@ a = floats (0 ∷ 0 ∷ 0 ∷ 4 ∷ 0 ∷ 0 ∷ 4 ∷ 4 ∷ 0 ∷ 0 ∷ 4 ∷ 0 
 abbrev pub b : List Float
 b = floats (2 ∷ 2 ∷ 0 ∷ 6 ∷ 2 ∷ 0 ∷ 6 ∷ 6 ∷ 0 ∷ 2 ∷ 6 ∷ 0 ∷ [])
 
--- "intersections (4,2) on segments 1 and 0, then (2,4) on 2 and 3": the cuts of A, 0, and of B, 1
+-- "intersections (4,2) on segments 1 and 0, then (2,4) on 2 and 3": the cuts of A, outline 1, and of B, outline 2
 abbrev pub cutsOf : List Float → ℕ → cuts.Given
-cutsOf outline which = cuts.given outline 4 which (1 ∷ 0 ∷ 2 ∷ 3 ∷ []) (floats (4 ∷ 2 ∷ 2 ∷ 4 ∷ [])) 2 [] [] 0 t
+cutsOf outline source = cuts.given outline (1 ∷ 0 ∷ 2 ∷ 3 ∷ []) (floats (4 ∷ 2 ∷ 2 ∷ 4 ∷ [])) [] [] (cuts.caseOf 4 source 2 0 t)
 
 -- a split of a straight segment: the part from (x, y) on, and the cut (u, v) twice
 abbrev splitAt : ℕ → ℕ → ℕ → ℕ → List Float
@@ -150,10 +152,10 @@ splitAt x y u v = floats (x ∷ y ∷ 0 ∷ u ∷ v ∷ 0 ∷ u ∷ v ∷ 0 ∷ 
 abbrev fromTo : ℕ → ℕ → ℕ → ℕ → List Float
 fromTo x y u v = floats (x ∷ y ∷ 0 ∷ 0 ∷ u ∷ v ∷ [])
 
-abbrev pub prunedBy : ℕ → Called
+abbrev pub prunedBy : ℕ → Given
 prunedBy mode =
-    called 0 4 4
-    (given mode false (cands (1 ∷ 1 ∷ 2 ∷ 3 ∷ []) (fromTo 4 2 2 4 ++ fromTo 2 4 4 2) (1 ∷ 0 ∷ []) 2) (cands (0 ∷ 3 ∷ 3 ∷ 1 ∷ []) (fromTo 4 2 2 4 ++ fromTo 2 4 4 2) (0 ∷ 1 ∷ []) 2) (overlaps [] [] 0))
+    given (callOf mode 0 4 4 2 2 0) (cands (1 ∷ 1 ∷ 2 ∷ 3 ∷ []) (fromTo 4 2 2 4 ++ fromTo 2 4 4 2) (1 ∷ 0 ∷ [])) (cands (0 ∷ 3 ∷ 3 ∷ 1 ∷ []) (fromTo 4 2 2 4 ++ fromTo 2 4 4 2) (0 ∷ 1 ∷ []))
+    (overlaps [] [])
 
 abbrev starts : ℕ → ℕ → ℕ → Starts
 starts i j k = record { pline2 = i; «pline1_overlapping» = j; «pline2_overlapping» = k }
@@ -163,10 +165,10 @@ twoFrom i j k = record { slices = 2; starts = starts i j k }
 
 -- the stitch of what pruning gives
 abbrev pub stitchOf : ℕ → ℕ → stitch.Given
-stitchOf mode selector = stitch.given a 4 b 4 (sliceCounts (prunedBy mode .pruned)) (sliceNumbers (prunedBy mode .pruned)) 2 (starts 1 2 2) selector t
+stitchOf mode selector = stitch.given a b (sliceCodes (prunedBy mode)) (sliceShapes (prunedBy mode)) (stitch.planOf 4 4 2 (starts 1 2 2) selector t)
 
 abbrev pub nothing : stitch.Given
-nothing = stitch.given a 4 b 4 [] [] 0 (starts 0 0 0) 0 t
+nothing = stitch.given a b [] [] (stitch.planOf 4 4 0 (starts 0 0 0) 0 t)
 
 -- a corner of a loop, and one from an inverted slice, whose bulge is −0
 abbrev at : ℕ → ℕ → List Float
@@ -181,7 +183,7 @@ abbrev pub triangle : List Float
 triangle = floats (0 ∷ 0 ∷ 0 ∷ 4 ∷ 0 ∷ 0 ∷ 0 ∷ 4 ∷ 0 ∷ [])
 
 abbrev pub oneCut : ℕ → cuts.Given
-oneCut x = cuts.given triangle 3 0 (0 ∷ 0 ∷ []) (floats (x ∷ 0 ∷ [])) 1 [] [] 0 t
+oneCut x = cuts.given triangle (0 ∷ 0 ∷ []) (floats (x ∷ 0 ∷ [])) [] [] (cuts.caseOf 3 1 1 0 t)
 
 -- its candidate's view: from the cut round to the cut
 abbrev roundFrom : ℕ → ℕ → View
@@ -209,15 +211,15 @@ on x = record { x = x; y = +0; bulge = +0 }
 
 abbrev pub overTheGap : stitch.Given
 overTheGap =
-    stitch.given a 4 b 4 (1 ∷ 0 ∷ 0 ∷ 4 ∷ []) (oneHalf ∷ +0 ∷ +0 ∷ +0 ∷ ofInt binary64 (pos 1) ∷ +0 ∷ []) 1 (starts 1 1 1) 0 half
+    stitch.given a b (1 ∷ 0 ∷ 0 ∷ 4 ∷ []) (oneHalf ∷ +0 ∷ +0 ∷ +0 ∷ ofInt binary64 (pos 1) ∷ +0 ∷ []) (stitch.planOf 4 4 1 (starts 1 1 1) 0 half)
 
 -- ---- the list
 abbrev pub sheet : List Case
 sheet =
     -- "T1 A's candidates: start 1 offset 1; start 2 offset 3."
-    t# 1 (candidatesAre (cutsOf a 0) 1 (splitAt 4 0 4 2 ++ splitAt 4 4 2 4) (1 ∷ 1 ∷ 2 ∷ 3 ∷ []) ∷ [])
+    t# 1 (candidatesAre (cutsOf a 1) (splitAt 4 0 4 2 ++ splitAt 4 4 2 4) (1 ∷ 1 ∷ 2 ∷ 3 ∷ []) ∷ [])
     -- "T2 B's: start 0 offset 3; start 3 offset 1."
-    ∷ t# 2 (candidatesAre (cutsOf b 1) 2 (splitAt 2 2 4 2 ++ splitAt 2 6 2 4) (0 ∷ 3 ∷ 3 ∷ 1 ∷ []) ∷ [])
+    ∷ t# 2 (candidatesAre (cutsOf b 2) (splitAt 2 2 4 2 ++ splitAt 2 6 2 4) (0 ∷ 3 ∷ 3 ∷ 1 ∷ []) ∷ [])
     -- "T3 Union: starts 1, 2, 2; 2 rounds; one loop (2,4) (0,4) (0,0) (4,0) (4,2) (6,2) (6,6) (2,6); room 9."
     ∷ t# 3
     (slicesAre (prunedBy 0) (twoFrom 1 2 2)
@@ -229,9 +231,9 @@ sheet =
     (slicesAre (prunedBy 2) (twoFrom 1 2 2)
     ∷ loopsAre (stitchOf 2 1) 2 (6 ∷ []) (turned 4 2 ++ turned 4 0 ++ turned 0 0 ++ turned 0 4 ++ at 2 4 ++ at 2 2) 7 ∷ [])
     -- "T6 A triangle with one cut on vertex 0: offset 2."
-    ∷ t# 6 (candidatesAre (oneCut 0) 1 (splitAt 0 0 0 0) (0 ∷ 2 ∷ []) ∷ [])
+    ∷ t# 6 (candidatesAre (oneCut 0) (splitAt 0 0 0 0) (0 ∷ 2 ∷ []) ∷ [])
     -- "T7 The cut inside segment 0: offset 3, 5 view vertices."
-    ∷ t# 7 (candidatesAre (oneCut 1) 1 (splitAt 0 0 1 0) (0 ∷ 3 ∷ []) ∷ verticesAre triangle 3 (roundFrom 1 3) 5 ∷ [])
+    ∷ t# 7 (candidatesAre (oneCut 1) (splitAt 0 0 1 0) (0 ∷ 3 ∷ []) ∷ verticesAre triangle 3 (roundFrom 1 3) 5 ∷ [])
     -- "T8 No slices: 0 rounds, 0 loops, empty room accepted."
     ∷ t# 8 (loopsAre nothing 0 [] [] 0 ∷ [])
     -- "T9 Union with room 8: refusal 9."

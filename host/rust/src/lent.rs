@@ -11,8 +11,25 @@
 use crate::ffi;
 use crate::{
     Candidates, Intersections, Mode, Outline, Overlaps, Refusal, Selector, Slices, Source, Splits,
-    Starts, Tolerance,
+    Starts, Tolerance, View,
 };
+
+/// Writes all vertices of a view, and gives their number, [`View::vertex_count`].
+///
+/// Room for a vertex: `vertices` 3 (x, y, bulge).
+pub fn view_vertices(
+    view: &View,
+    source: &Outline,
+    vertices: &mut [f64],
+) -> Result<usize, Refusal> {
+    let answer = ffi::view_vertices(
+        source.numbers(),
+        source.vertex_count(),
+        (*view).into(),
+        vertices,
+    );
+    Refusal::check(answer.refusal, answer.count)
+}
 
 /// The need of [`cut_order`] and of [`candidates`] in items: one for each cut.
 pub fn cuts_needed(intersections: &Intersections, overlaps: &Overlaps) -> usize {

@@ -125,4 +125,4 @@ pub use slices::{prune, Answered, Mode, Slice, Slices};
 pub use stitch::{area_pass, stitch, Chain, ChainEnd, Selector, Stitched};
 pub use store::{First, Handle, Kept, Listed, Party, Second, Store};
 pub use straight::{straight_report, StraightReport, WholeOutline};
-pub use view::{OnSegment, Verdict, View, Walk};
+pub use view::{OnSegment, Verdict, Vertices, View, Walk};

@@ -4,7 +4,7 @@ use std::error::Error;
 use std::fmt;
 
 /// Why a call is refused. The library gives the first that applies, in the order of
-/// `include/mask.h` (of 1 to 10 that is the lowest number), and has then written nothing.
+/// `include/mask.h` (of 1 to 9 that is the lowest number), and has then written nothing.
 ///
 /// ```
 /// use mask_tools::Refusal;
@@ -39,8 +39,6 @@ pub enum Refusal {
     Starts,
     /// 9: lent room is smaller than the need. Only the calls of [`lent`](crate::lent) can give it.
     Room,
-    /// 10: a walk or a chain took too many steps. It is proved that this never happens.
-    Steps,
     /// 18: a whole coordinate is out of range.
     Range,
     /// 19: a report has more than 4,096 outlines.
@@ -52,7 +50,8 @@ pub enum Refusal {
     /// 22: a party of a store is neither 0 nor 1. The types of this crate leave no way to name
     /// another.
     Party,
-    /// A number that this wrapper does not know: the archive is a later one.
+    /// A number that this wrapper does not know: the archive is a later one, or, with 10, an
+    /// earlier one. 10 is not used any more.
     Other(u32),
 }
 
@@ -70,7 +69,6 @@ impl Refusal {
             7 => Refusal::Count,
             8 => Refusal::Starts,
             9 => Refusal::Room,
-            10 => Refusal::Steps,
             18 => Refusal::Range,
             19 => Refusal::Loops,
             20 => Refusal::Full,
@@ -105,7 +103,6 @@ impl Refusal {
                 "the starts of the classes fall back, or lie past the slices",
             ),
             Refusal::Room => (9, "lent room is smaller than the need"),
-            Refusal::Steps => (10, "a walk or a chain took too many steps"),
             Refusal::Range => (18, "a whole coordinate is out of range"),
             Refusal::Loops => (19, "too many outlines in a report"),
             Refusal::Full => (20, "the party's part of the store is full"),
@@ -143,7 +140,7 @@ mod tests {
         for number in 1..=40 {
             let refusal = Refusal::from_number(number).unwrap();
             assert_eq!(refusal.number(), number);
-            let known = number <= 10 || (18..=22).contains(&number);
+            let known = number <= 9 || (18..=22).contains(&number);
             assert_eq!(matches!(refusal, Refusal::Other(_)), !known);
         }
     }

@@ -1,7 +1,9 @@
 //! Views of an outline: their constructors, their vertices, and the verdict on them.
 
-use crate::ffi;
+use crate::stitch::MOST_VERTICES;
+use crate::{ffi, lent};
 use crate::{Outline, Point, Refusal, Split, Tolerance, Vertex};
+use std::iter::FusedIterator;
 
 /// A part of an outline, or the whole of it, forward or inverted. It holds no outline: hand it
 /// the one that it was made of.
@@ -157,6 +159,37 @@ impl View {
         self.end_index_offset.saturating_add(2)
     }
 
+    /// All its vertices, in order. They are worked out in one call, so the outline is looked at
+    /// once; [`get_vertex`](View::get_vertex) looks at all of it for one vertex.
+    ///
+    /// Refusals: `Outline`, `Number`, `Index`, `Count`.
+    ///
+    /// ```
+    /// use mask_tools::{Outline, View};
+    ///
+    /// # fn main() -> Result<(), mask_tools::Refusal> {
+    /// let square = Outline::straight(&[(0.0, 0.0), (4.0, 0.0), (4.0, 4.0), (0.0, 4.0)]);
+    /// let back = View {
+    ///     inverted_direction: true,
+    ///     ..View::from_entire_pline(&square, true)?
+    /// };
+    /// let places: Vec<(f64, f64)> = back.vertices(&square)?.map(|v| (v.x, v.y)).collect();
+    /// assert_eq!(places, [(0.0, 0.0), (0.0, 4.0), (4.0, 4.0), (4.0, 0.0), (0.0, 0.0)]);
+    /// # Ok(())
+    /// # }
+    /// ```
+    pub fn vertices(&self, source: &Outline) -> Result<Vertices, Refusal> {
+        // Beyond the most the call is refused, whatever the room.
+        let most = self.vertex_count().min(MOST_VERTICES + 2);
+        let mut numbers = vec![0.0; 3 * most];
+        let count = lent::view_vertices(self, source, &mut numbers)?;
+        Ok(Vertices {
+            numbers,
+            next: 0,
+            end: count,
+        })
+    }
+
     /// Its vertex number `index`; none from [`vertex_count`](View::vertex_count) on.
     ///
     /// Refusals: `Outline`, `Number`, `Index`, `Count`.
@@ -213,6 +246,48 @@ impl View {
         }
     }
 }
+
+/// The vertices of a view, one after the other: what [`View::vertices`] gives.
+#[derive(Debug, Clone)]
+pub struct Vertices {
+    numbers: Vec<f64>,
+    next: usize,
+    end: usize,
+}
+
+impl Vertices {
+    /// Those that are still to come.
+    pub fn as_slice(&self) -> &[Vertex] {
+        &ffi::vertices_of(&self.numbers)[self.next..self.end]
+    }
+}
+
+impl Iterator for Vertices {
+    type Item = Vertex;
+
+    fn next(&mut self) -> Option<Vertex> {
+        let vertex = *self.as_slice().first()?;
+        self.next += 1;
+        Some(vertex)
+    }
+
+    fn size_hint(&self) -> (usize, Option<usize>) {
+        let left = self.end - self.next;
+        (left, Some(left))
+    }
+}
+
+impl DoubleEndedIterator for Vertices {
+    fn next_back(&mut self) -> Option<Vertex> {
+        let vertex = *self.as_slice().last()?;
+        self.end -= 1;
+        Some(vertex)
+    }
+}
+
+impl ExactSizeIterator for Vertices {}
+
+impl FusedIterator for Vertices {}
 
 /// What an accepted answer says.
 fn verdict_of(answer: &ffi::VerdictAnswer) -> Verdict {
@@ -271,7 +346,7 @@ impl From<ffi::View> for View {
 mod tests {
     use super::*;
     use crate::ffi::standin::{told, Lent, Reply};
-    use crate::ffi::{VerdictAnswer, VertexAnswer, ViewAnswer};
+    use crate::ffi::{CountAnswer, VerdictAnswer, VertexAnswer, ViewAnswer};
 
     const T: Tolerance = Tolerance::new(0.25);
 
@@ -361,6 +436,48 @@ mod tests {
         };
         let (found, _) = told([Reply::of(answer)], || view().get_vertex(&outline(), 0));
         assert_eq!(found, Ok(Some(answer.vertex)));
+    }
+
+    #[test]
+    fn all_vertices_come_of_one_call_and_from_both_ends() {
+        let written = vec![
+            1.0, 2.0, 3.0, 4.0, 5.0, 6.0, 7.0, 8.0, 9.0, 10.0, 11.0, 12.0,
+        ];
+        let answer = CountAnswer {
+            refusal: 0,
+            count: 4,
+        };
+        let (found, calls) = told([Reply::writing(answer, vec![], vec![written])], || {
+            view().vertices(&outline())
+        });
+        let mut vertices = found.unwrap();
+        assert_eq!(calls[0].entry, "view_vertices");
+        assert_eq!(calls[0].lent("vc"), Lent::Count(2));
+        assert_eq!(calls[0].lent("view"), Lent::View(view().into()));
+        assert_eq!(calls[0].lent("vertices"), Lent::Room(3 * 4));
+        assert_eq!(vertices.len(), 4);
+        assert_eq!(vertices.next(), Some(Vertex::new(1.0, 2.0, 3.0)));
+        assert_eq!(vertices.next_back(), Some(Vertex::new(10.0, 11.0, 12.0)));
+        let left = [Vertex::new(4.0, 5.0, 6.0), Vertex::new(7.0, 8.0, 9.0)];
+        assert_eq!(vertices.as_slice(), left);
+        assert!(vertices.by_ref().eq(left));
+        assert_eq!((vertices.next(), vertices.next_back()), (None, None));
+        assert_eq!(vertices.len(), 0);
+    }
+
+    #[test]
+    fn no_more_room_than_the_most_vertices() {
+        let far = View {
+            end_index_offset: usize::MAX,
+            ..view()
+        };
+        let answer = CountAnswer {
+            refusal: 7,
+            count: 0,
+        };
+        let (found, calls) = told([Reply::of(answer)], || far.vertices(&outline()));
+        assert_eq!(found.err(), Some(Refusal::Count));
+        assert_eq!(calls[0].lent("vertices"), Lent::Room(3 * 1026));
     }
 
     #[test]

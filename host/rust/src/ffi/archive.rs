@@ -190,6 +190,15 @@ mod entries {
             index: usize,
         ) -> VertexAnswer;
 
+        pub fn mask_view_vertices(
+            outline: *const f64,
+            outline_len: usize,
+            vc: usize,
+            view: View,
+            vertices: *mut f64,
+            vertices_len: usize,
+        ) -> CountAnswer;
+
         pub fn mask_create(
             outline: *const f64,
             outline_len: usize,
@@ -431,6 +440,27 @@ mod entries {
     pub fn view_vertex(outline: &[f64], vc: usize, view: View, index: usize) -> VertexAnswer {
         // SAFETY: pointer and length are those of one slice, which is only read.
         unsafe { mask_view_vertex(outline.as_ptr(), outline.len(), vc, view, index) }
+    }
+
+    #[inline]
+    pub fn view_vertices(
+        outline: &[f64],
+        vc: usize,
+        view: View,
+        vertices: &mut [f64],
+    ) -> CountAnswer {
+        // SAFETY: each pointer and length are those of one slice; the one that is written is
+        // `&mut`, so nothing shares it.
+        unsafe {
+            mask_view_vertices(
+                outline.as_ptr(),
+                outline.len(),
+                vc,
+                view,
+                vertices.as_mut_ptr(),
+                vertices.len(),
+            )
+        }
     }
 
     #[inline]

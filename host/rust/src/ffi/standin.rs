@@ -197,6 +197,12 @@ pub(crate) mod entries {
         play(call!(view_vertex: outline, vc, view, index;), &mut [], &mut []).into()
     }
 
+    pub(crate) fn view_vertices(
+        outline: &[f64], vc: usize, view: View, vertices: &mut [f64],
+    ) -> CountAnswer {
+        play(call!(view_vertices: outline, vc, view; vertices), &mut [], &mut [vertices]).into()
+    }
+
     pub(crate) fn create(
         outline: &[f64], vc: usize, start_index: usize, end_intersect: Point, intersect_index: usize,
         updated_start: Vertex, traverse_count: usize, tolerance: f64, split: Split,

@@ -13,10 +13,15 @@ fn triangle() -> Outline {
     .into()
 }
 
+/// The vertices one by one, which are those of one call, from either end.
 fn vertices(view: View, outline: &Outline) -> Vec<Vertex> {
-    (0..view.vertex_count())
+    let one_by_one: Vec<Vertex> = (0..view.vertex_count())
         .map(|index| view.get_vertex(outline, index).unwrap().unwrap())
-        .collect()
+        .collect();
+    let all = view.vertices(outline).unwrap();
+    assert_eq!(all.as_slice(), one_by_one);
+    assert!(all.rev().eq(one_by_one.iter().rev().copied()));
+    one_by_one
 }
 
 #[test]
