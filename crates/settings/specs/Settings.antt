@@ -1,6 +1,6 @@
 -- Request K7: "Keep up to 16 settings, each with both tolerances and the area limit, in one record that operators extend and never overwrite."
 use Prim.Native.Nat.{ℕ, zero, suc, _+_, _-_, _*_, _<_, min}
-use mathlib.Core.Bool.{Bool, cond, _&&_}
+use mathlib.Core.Bool.{Bool, not, cond, _&&_, _||_}
 use mathlib.Core.Path.{_≡_}
 use mathlib.Core.List.{List, [], _∷_, _++_}
 use lib.ListN.{length, getD, set}
@@ -24,6 +24,10 @@ held e n = record { entered = e; numbers = n }
 pub record Sized (h : Held) : Type 0 where
   pub one : length (h .entered) ≡ 1
   pub all : length (h .numbers) ≡ 48
+
+-- 1: "a list's length disagrees with its count"
+unfoldable pub lengthsFault : Held → Bool
+lengthsFault h = not (eqb (length (h .entered)) 1) || not (eqb (length (h .numbers)) 48)
 
 -- "up to 16 settings": how many there are. A number above 16 reads as 16
 unfoldable pub countOf : List ℕ → ℕ

@@ -1,6 +1,6 @@
 -- Laws of the record: what an edition is, what entering leaves, and that nothing that is there changes. All but the last group hold for every content.
 use Prim.Native.Nat.{ℕ, zero, suc, _+_, _-_, _*_, _≤_, _<_, min}
-use mathlib.Core.Bool.{true, false, _&&_}
+use mathlib.Core.Bool.{true, false, not}
 use mathlib.Core.Path.{_≡_, refl, sym, ap, _∙_}
 use mathlib.Core.List.{List, [], _∷_, _++_}
 use native.Mathlib.Numerals.{add-one}
@@ -9,11 +9,24 @@ use lib.ListN.{length, getD, set, take, drop, length-append, length-set, List·g
 use lib.Seq.{sets, length-sets, getD-set-same, getD-set-other, getD-at}
 use lib.Dec.{eqb, ltb, leb}
 use lib.Ieee.{Float}
-use borrow.Author.Tests.{ltb-true, leb-true, lt-ltb, le-leb, eqb-true, eqb-false, ne-eqb}
+use borrow.Author.Tests.{ltb-true, leb-true, lt-ltb, le-leb, eqb-true, eqb-false, eq-eqb, not-false}
 use Rattle.basis.specs.Number.{+0}
-use Rattle.basis.specs.Choice.{by-test, and-left, and-right}
+use Rattle.basis.specs.Choice.{by-test, and-left, and-right, or-left, or-right}
 use Rattle.settings.specs.declared.Setting.{Setting}
-use Rattle.settings.specs.Settings.{Held, held, Sized, countOf, settingAt, settingsTo, settingsOf, known, none, askedOf, full, written, extended, Open}
+use Rattle.settings.specs.Settings.{Held, held, Sized, lengthsFault, countOf, settingAt, settingsTo, settingsOf, known, none, askedOf, full, written, extended, Open}
+
+-- ---- the lists of a record
+
+pub lengths-ok : (h : Held) → lengthsFault h ≡ false → Sized h
+unfolding lengthsFault
+lengths-ok h f =
+    let one = or-left (not (eqb (length (h .entered)) 1)) (not (eqb (length (h .numbers)) 48)) f in
+    let all = or-right (not (eqb (length (h .entered)) 1)) (not (eqb (length (h .numbers)) 48)) f in
+    record { one = eqb-true _ _ (not-false _ one); all = eqb-true _ _ (not-false _ all) }
+
+pub ok-lengths : (h : Held) → Sized h → lengthsFault h ≡ false
+unfolding lengthsFault
+ok-lengths h z = rw (eq-eqb (length (h .entered)) 1 (z .one), eq-eqb (length (h .numbers)) 48 (z .all))
 
 -- ---- how many settings there are, and which editions are known
 

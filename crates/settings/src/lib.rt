@@ -5,7 +5,7 @@
 ghost use mathlib.Core.Path.{_≡_};
 ghost use lib.ListN.{getD};
 ghost use Rattle.basis.specs.Number.{+0};
-ghost use Rattle.settings.specs.Settings.{held, countOf, full, known, settingAt, askedOf, none, written, Place, Space, Open, Entered};
+ghost use Rattle.settings.specs.Settings.{held, lengthsFault, countOf, full, known, settingAt, askedOf, none, written, Place, Space, Open, Entered};
 
 // The most settings that a record has.
 pub const MOST_SETTINGS: usize = 16;
@@ -15,6 +15,16 @@ pub struct Setting {
     pub tolerance_x: f64,
     pub tolerance_y: f64,
     pub area_limit: f64,
+}
+
+// The numbers of a record: three a setting.
+const NUMBERS: usize = 48;
+
+// Number 1: the lists are not those of a record, which are one number and 48.
+pub fn bad_lengths(entered: &[usize], settings: &[f64]) -> bool
+    ensures { λ r. ⌜ r ≡ lengthsFault (held (now (entered .entry)) (now (settings .entry))) ⌝ }
+{
+    entered.len() != 1 || settings.len() != NUMBERS
 }
 
 // How many settings there are. A number above 16 reads as 16.

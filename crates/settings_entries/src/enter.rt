@@ -1,0 +1,40 @@
+ghost use mathlib.Core.Path.{_≡_};
+ghost use Rattle.settings.specs.Settings.{held};
+ghost use Rattle.settings_entries.specs.SettingsEntry.{settingOf, enterRefusal, EnterLeft};
+use crate::answer;
+use crate::answer::EditionAnswer;
+use basis::number;
+use basis::refuse;
+use settings::Setting;
+
+fn refusal(entered: &[usize], settings: &[f64], s: Setting) -> u32
+    ensures { λ n. ⌜ n ≡ enterRefusal (held (now (entered .entry)) (now (settings .entry))) s ⌝ }
+{
+    let r = refuse::or_else(0, settings::bad_lengths(entered, settings), 1);
+    let r = refuse::or_else(r, settings::is_full(entered), 17);
+    let r = refuse::or_else(r, !number::in_tolerance(s.tolerance_x), 4);
+    let r = refuse::or_else(r, !number::in_tolerance(s.tolerance_y), 4);
+    refuse::or_else(r, !number::good_limit(s.area_limit), 4)
+}
+
+// A setting entered after those that are there: its edition.
+pub fn entry(
+    entered: &mut [usize],
+    settings: &mut [f64],
+    tolerance_x: f64,
+    tolerance_y: f64,
+    area_limit: f64,
+) -> EditionAnswer
+    ensures { λ r. ⌜ EnterLeft (held (now (entered .entry)) (now (settings .entry))) (settingOf «tolerance_x» «tolerance_y» «area_limit») r (held (now (entered .exit)) (now (settings .exit))) ⌝ }
+{
+    let s = Setting {
+        tolerance_x,
+        tolerance_y,
+        area_limit,
+    };
+    let number = refusal(entered, settings, s);
+    if number != 0 {
+        return answer::edition_refused(number);
+    }
+    answer::edition_given(settings::enter(entered, settings, s))
+}
