@@ -31,7 +31,10 @@
 extern "C" {
 #endif
 
-/* Why a call is refused. The lowest number that applies is given. */
+/*
+ * Why a call is refused. The lowest number that applies is given, where 16 and 17 count as
+ * just below 4, and 18 and 19 as just above 5.
+ */
 enum mask_refusal {
     MASK_ACCEPTED = 0,
     MASK_REFUSED_LENGTH = 1,    /* a list's length disagrees with its count, or that is too high */
@@ -44,6 +47,8 @@ enum mask_refusal {
     MASK_REFUSED_STARTS = 8,    /* the starts of the classes fall back, or lie past the slices */
     MASK_REFUSED_ROOM = 9,      /* a list lent to be written is shorter than the need */
     MASK_REFUSED_STEPS = 10,    /* a walk or a chain took too many steps: proved never to happen */
+    MASK_REFUSED_UNKNOWN_SETTING = 16, /* no setting was entered under the edition */
+    MASK_REFUSED_SETTINGS_FULL = 17, /* the record has its 16 settings */
     MASK_REFUSED_RANGE = 18,    /* a whole coordinate is out of range */
     MASK_REFUSED_LOOPS = 19     /* more than 4096 outlines in a report */
 };
@@ -306,6 +311,44 @@ mask_prune_answer mask_prune(uint32_t mode, uint32_t opposing, size_t vc1, size_
                              size_t lap_at_len, const double *lap, size_t lap_len, size_t laps,
                              size_t *slice_at, size_t slice_at_len, double *slice,
                              size_t slice_len);
+
+/*
+ * Settings by edition: up to 16, each with two tolerances and an area limit, in one record
+ * that is extended and never overwritten. The record is two lists that the host lends and
+ * keeps:
+ *   entered   1: how many settings there are; a number above 16 reads as 16
+ *   settings  48: of each setting the tolerance of x, the tolerance of y, the area limit
+ * Other lengths are refused with 1. Zeros are the empty record, and every content is some
+ * record. Editions count from 1. Numbers 16 and 17 are looked at before 4.
+ */
+
+typedef struct mask_edition_answer {
+    uint32_t refusal;
+    size_t edition;
+} mask_edition_answer;
+
+typedef struct mask_setting_answer {
+    uint32_t refusal;
+    double tolerance_x;
+    double tolerance_y;
+    double area_limit;
+} mask_setting_answer;
+
+/*
+ * Enters a setting and answers its edition. Written are the setting's three numbers and the
+ * count, and no other place; on a refusal nothing. A tolerance is above 0 and at most 1, an
+ * area limit from 0 to any finite number. Refusals 1, 17, 4.
+ */
+mask_edition_answer mask_settings_enter(size_t *entered, size_t entered_len, double *settings,
+                                        size_t settings_len, double tolerance_x,
+                                        double tolerance_y, double area_limit);
+
+/*
+ * The setting of an edition, exactly as it was entered. Refusals 1, 16.
+ */
+mask_setting_answer mask_settings_ask(const size_t *entered, size_t entered_len,
+                                      const double *settings, size_t settings_len,
+                                      size_t edition);
 
 /*
  * Masks without arcs, in whole microdegrees. An outline has two numbers to a vertex: x,

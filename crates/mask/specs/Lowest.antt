@@ -27,6 +27,8 @@ use Rattle.stitch_entries.specs.StitchRows.{roomRows}
 use Rattle.stitch_entries.specs.StitchEntry as stitched
 use Rattle.stitch_entries.specs.StitchEntry.{shapeRows, stitchRefusal}
 use Rattle.area_entries.specs.AreaEntry.{areaRows, areaRefusal}
+use Rattle.settings.specs.Settings.{Held}
+use Rattle.settings_entries.specs.SettingsEntry.{askRows, askRefusal}
 use Rattle.straight_entries.specs.WindingEntry.{windingRows, windingRefusal}
 use Rattle.straight_entries.specs.AreaEntry as straight
 use Rattle.straight_entries.specs.ReportEntry.{reportRows, reportRefusal}
@@ -80,6 +82,10 @@ stitch-lowest g room ends chain chainEnds chainHow = lowest (shapeRows g ++ (roo
 pub area-lowest : (areas : List Float) (loops : ℕ) (limit : Float) (kept : ℕ) → Lowest (areaRows areas loops limit kept) (areaRefusal areas loops limit kept)
 unfolding areaRefusal
 area-lowest areas loops limit kept = lowest (areaRows areas loops limit kept) tt
+
+pub ask-lowest : (h : Held) (e : ℕ) → Lowest (askRows h e) (askRefusal h e)
+unfolding askRefusal
+ask-lowest h e = lowest (askRows h e) tt
 
 pub winding-lowest : (o : List ℤ) (vc : ℕ) (x y : ℤ) → Lowest (windingRows o vc x y) (windingRefusal o vc x y)
 unfolding windingRefusal

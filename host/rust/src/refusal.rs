@@ -4,7 +4,7 @@ use std::error::Error;
 use std::fmt;
 
 /// Why a call is refused. The library gives the lowest number that applies, and has then written
-/// nothing.
+/// nothing. 16 and 17 count as just below 4 there, 18 and 19 as just above 5.
 ///
 /// ```
 /// use mask_tools::Refusal;
@@ -41,6 +41,10 @@ pub enum Refusal {
     Room,
     /// 10: a walk or a chain took too many steps. It is proved that this never happens.
     Steps,
+    /// 16: no setting was entered under the edition.
+    UnknownSetting,
+    /// 17: the record has its 16 settings.
+    SettingsFull,
     /// 18: a whole coordinate is out of range.
     Range,
     /// 19: a report has more than 4,096 outlines.
@@ -64,6 +68,8 @@ impl Refusal {
             8 => Refusal::Starts,
             9 => Refusal::Room,
             10 => Refusal::Steps,
+            16 => Refusal::UnknownSetting,
+            17 => Refusal::SettingsFull,
             18 => Refusal::Range,
             19 => Refusal::Loops,
             other => Refusal::Other(other),
@@ -96,6 +102,8 @@ impl Refusal {
             ),
             Refusal::Room => (9, "lent room is smaller than the need"),
             Refusal::Steps => (10, "a walk or a chain took too many steps"),
+            Refusal::UnknownSetting => (16, "no setting was entered under the edition"),
+            Refusal::SettingsFull => (17, "the record has its 16 settings"),
             Refusal::Range => (18, "a whole coordinate is out of range"),
             Refusal::Loops => (19, "too many outlines in a report"),
             Refusal::Other(number) => (number, "a reason that this wrapper does not know"),
@@ -130,7 +138,7 @@ mod tests {
         for number in 1..=40 {
             let refusal = Refusal::from_number(number).unwrap();
             assert_eq!(refusal.number(), number);
-            let known = number <= 10 || number == 18 || number == 19;
+            let known = number <= 10 || (16..=19).contains(&number);
             assert_eq!(matches!(refusal, Refusal::Other(_)), !known);
         }
     }
@@ -138,7 +146,7 @@ mod tests {
     #[test]
     fn every_refusal_has_a_sentence_of_its_own() {
         let mut sentences: Vec<String> = (1..=11)
-            .chain(18..=19)
+            .chain(16..=19)
             .map(|number| Refusal::from_number(number).unwrap().to_string())
             .collect();
         assert_eq!(
@@ -151,7 +159,7 @@ mod tests {
         );
         sentences.sort();
         sentences.dedup();
-        assert_eq!(sentences.len(), 13);
+        assert_eq!(sentences.len(), 15);
     }
 
     #[test]

@@ -2,8 +2,8 @@
 //! parameters of each function, the number of each code. No compiler compares the two.
 
 use super::{
-    AreaAnswer, CountAnswer, PruneAnswer, ReportAnswer, StitchAnswer, VerdictAnswer, VertexAnswer,
-    View, ViewAnswer, WindingAnswer,
+    AreaAnswer, CountAnswer, EditionAnswer, PruneAnswer, ReportAnswer, SettingAnswer, StitchAnswer,
+    VerdictAnswer, VertexAnswer, View, ViewAnswer, WindingAnswer,
 };
 use crate::{ChainEnd, Mode, Point, Refusal, Selector, Split, Starts, Vertex};
 use std::mem::{align_of, size_of};
@@ -137,6 +137,14 @@ fn structs_lie_as_in_the_header() {
             "mask_report_answer",
             layout_here!(ReportAnswer: refusal, count, zero, high, low),
         ),
+        (
+            "mask_edition_answer",
+            layout_here!(EditionAnswer: refusal, edition),
+        ),
+        (
+            "mask_setting_answer",
+            layout_here!(SettingAnswer: refusal, tolerance_x, tolerance_y, area_limit),
+        ),
     ];
     for (name, here) in here {
         assert_eq!(layout(name), here, "{name}");
@@ -226,7 +234,7 @@ fn bound() -> Vec<Function> {
 fn functions_are_declared_in_the_header() {
     let declared = declared();
     let bound = bound();
-    assert_eq!(bound.len(), 13);
+    assert_eq!(bound.len(), 15);
     for here in bound {
         let there = declared.iter().find(|there| there.0 == here.0);
         assert_eq!(there, Some(&here));
@@ -269,7 +277,7 @@ fn assert_codes(name: &str, prefix: &str, here: impl IntoIterator<Item = (String
 #[test]
 fn codes_are_those_of_the_header() {
     let refusals = (1..=10)
-        .chain(18..=19)
+        .chain(16..=19)
         .map(|n| (header_name(Refusal::from_number(n).unwrap()), n));
     assert_codes("mask_refusal", "MASK_REFUSED_", refusals);
     let modes = Mode::ALL.map(|mode| (header_name(mode), mode.code()));
