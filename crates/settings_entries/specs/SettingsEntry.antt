@@ -5,7 +5,7 @@ use mathlib.Core.Bool.{not}
 use mathlib.Core.Path.{_≡_}
 use mathlib.Core.List.{List, [], _∷_}
 use lib.Ieee.{Float}
-use Rattle.basis.specs.Number.{tolerable, limitOk}
+use Rattle.basis.specs.Number.{toleranceOf, tolerable, limitOk}
 use Rattle.basis.specs.Refuse.{Row, row, firstOf, answer}
 use Rattle.settings.specs.declared.Setting.{Setting}
 use Rattle.settings.specs.Settings.{Held, lengthsFault, countOf, full, known, askedOf, extended}
@@ -21,7 +21,7 @@ settingOf x y a = record { «tolerance_x» = x; «tolerance_y» = y; «area_limi
 
 -- 4: "tolerance or area limit is not finite or is out of range"; "number 4 covers either" tolerance
 abbrev pub rangeRows : Setting → List Row
-rangeRows s = row (not (tolerable (s .«tolerance_x»))) 4 ∷ row (not (tolerable (s .«tolerance_y»))) 4 ∷ row (not (limitOk (s .«area_limit»))) 4 ∷ []
+rangeRows s = row (not (tolerable (toleranceOf (s .«tolerance_x»)))) 4 ∷ row (not (tolerable (toleranceOf (s .«tolerance_y»)))) 4 ∷ row (not (limitOk (s .«area_limit»))) 4 ∷ []
 
 abbrev pub enterRows : Held → Setting → List Row
 enterRows h s = row (lengthsFault h) 1 ∷ row (full (h .entered)) 17 ∷ rangeRows s

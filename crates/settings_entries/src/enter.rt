@@ -1,19 +1,28 @@
 ghost use mathlib.Core.Path.{_≡_};
+ghost use Rattle.basis.specs.Number.{toleranceOf, tolerable};
 ghost use Rattle.settings.specs.Settings.{held};
 ghost use Rattle.settings_entries.specs.SettingsEntry.{settingOf, enterRefusal, EnterLeft};
 use crate::answer;
 use crate::answer::EditionAnswer;
 use basis::number;
+use basis::number::Tolerance;
 use basis::refuse;
 use settings::Setting;
+
+// Number 4 where it fails: a tolerance on one axis.
+fn in_reach(t: f64) -> bool
+    ensures { λ r. ⌜ r ≡ tolerable (toleranceOf t) ⌝ }
+{
+    number::in_tolerance(Tolerance { position: t })
+}
 
 fn refusal(entered: &[usize], settings: &[f64], s: Setting) -> u32
     ensures { λ n. ⌜ n ≡ enterRefusal (held (now (entered .entry)) (now (settings .entry))) s ⌝ }
 {
     let r = refuse::or_else(0, settings::bad_lengths(entered, settings), 1);
     let r = refuse::or_else(r, settings::is_full(entered), 17);
-    let r = refuse::or_else(r, !number::in_tolerance(s.tolerance_x), 4);
-    let r = refuse::or_else(r, !number::in_tolerance(s.tolerance_y), 4);
+    let r = refuse::or_else(r, !in_reach(s.tolerance_x), 4);
+    let r = refuse::or_else(r, !in_reach(s.tolerance_y), 4);
     refuse::or_else(r, !number::good_limit(s.area_limit), 4)
 }
 

@@ -17,14 +17,14 @@ is-full-requires c κs = search needs
 or-else-requires-2 : tie.Need-or-else-requires-2
 or-else-requires-2 c κs = search needs
 
-in-tolerance-requires : tie.Need-in-tolerance-requires
-in-tolerance-requires c κs = search needs
+in-reach-requires : tie.Need-in-reach-requires
+in-reach-requires c κs = search needs
 
 or-else-requires-3 : tie.Need-or-else-requires-3
 or-else-requires-3 c κs = search needs
 
-in-tolerance-requires-2 : tie.Need-in-tolerance-requires-2
-in-tolerance-requires-2 c κs = search needs
+in-reach-requires-2 : tie.Need-in-reach-requires-2
+in-reach-requires-2 c κs = search needs
 
 or-else-requires-4 : tie.Need-or-else-requires-4
 or-else-requires-4 c κs = search needs
@@ -47,9 +47,9 @@ refusal-spec =
     or-else-requires
     is-full-requires
     or-else-requires-2
-    in-tolerance-requires
+    in-reach-requires
     or-else-requires-3
-    in-tolerance-requires-2
+    in-reach-requires-2
     or-else-requires-4
     good-limit-requires
     or-else-requires-5
