@@ -1,17 +1,17 @@
 -- What the functions are proved by: the count of no number, a number read or missing, three numbers stored.
-use Prim.Native.Nat.{ℕ, zero, suc, _+_, _-_, _*_, _≤_, _<_, min}
-use mathlib.Core.Bool.{Bool, true, false, not, cond}
-use mathlib.Core.Path.{_≡_, refl, sym, ap, _∙_}
+use Prim.Native.Nat.{ℕ, zero, suc, _+_, _-_, _*_, _≤_, _<_}
+use mathlib.Core.Bool.{Bool, true, false, not}
+use mathlib.Core.Path.{_≡_, refl, sym, _∙_}
 use mathlib.Core.List.{List, [], _∷_}
 use native.Mathlib.Numerals.{add-one}
 use native.Mathlib.Omega.{arith}
 use lib.ListN.{length, getD, set, List·getD-eq-default}
 use lib.Dec.{leb}
-use lib.Ieee.{Float, nan}
+use lib.Ieee.{Float}
 use borrow.Author.Tests.{lt-ltb, not-true, not-false}
 use Rattle.basis.specs.Number.{+0}
 use Rattle.settings.specs.declared.Setting.{Setting}
-use Rattle.settings.specs.Settings.{Held, held, countOf, settingAt, known, none, askedOf, written, extended, Place, Entered}
+use Rattle.settings.specs.Settings.{held, countOf, settingAt, known, none, askedOf, written, extended, Place, Entered}
 use Rattle.settings.specs.SettingsLaws.{count-most, known-least, known-most}
 
 pub count-none : (entered : List ℕ) → length entered ≡ 0 → 0 ≡ countOf entered

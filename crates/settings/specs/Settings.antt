@@ -75,7 +75,7 @@ extended h s = held (set (h .entered) 0 (countOf (h .entered) + 1)) (written (h 
 
 -- ---- what the functions ask of their callers, and what they leave
 
--- a setting's place
+-- a setting's place, from 0; and with room for its numbers
 pub record Place (k : ℕ) : Type 0 where
   pub inside : k < 16
 
@@ -85,8 +85,7 @@ pub record Space (numbers : List Float) (k : ℕ) : Type 0 where
 
 -- a record that takes a further setting
 pub record Open (h : Held) : Type 0 where
-  pub one : length (h .entered) ≡ 1
-  pub all : length (h .numbers) ≡ 48
+  pub sized : Sized h
   pub fewer : countOf (h .entered) < 16
 
 pub record Entered (h : Held) (s : Setting) (r : ℕ) (left : Held) : Type 0 where

@@ -1,19 +1,19 @@
 -- Laws of the record: what an edition is, what entering leaves, and that nothing that is there changes. All but the last group hold for every content.
-use Prim.Native.Nat.{ℕ, zero, suc, _+_, _-_, _*_, _≤_, _<_, min}
+use Prim.Native.Nat.{ℕ, zero, suc, _+_, _-_, _*_, _≤_, _<_}
 use mathlib.Core.Bool.{true, false, not}
 use mathlib.Core.Path.{_≡_, refl, sym, ap, _∙_}
 use mathlib.Core.List.{List, [], _∷_, _++_}
 use native.Mathlib.Numerals.{add-one}
 use native.Mathlib.Omega.{arith}
-use lib.ListN.{length, getD, set, take, drop, length-append, length-set, List·getD-append}
-use lib.Seq.{sets, length-sets, getD-set-same, getD-set-other, getD-at}
+use lib.ListN.{length, getD, set, length-append, length-set, List·getD-append}
+use lib.Seq.{length-sets, getD-set-same, getD-set-other, getD-at}
 use lib.Dec.{eqb, ltb, leb}
 use lib.Ieee.{Float}
 use borrow.Author.Tests.{ltb-true, leb-true, lt-ltb, le-leb, eqb-true, eqb-false, eq-eqb, not-false}
 use Rattle.basis.specs.Number.{+0}
 use Rattle.basis.specs.Choice.{by-test, and-left, and-right, or-left, or-right}
 use Rattle.settings.specs.declared.Setting.{Setting}
-use Rattle.settings.specs.Settings.{Held, held, Sized, lengthsFault, countOf, settingAt, settingsTo, settingsOf, known, none, askedOf, full, written, extended, Open}
+use Rattle.settings.specs.Settings.{Held, Sized, lengthsFault, countOf, settingAt, settingsTo, settingsOf, known, askedOf, full, written, extended, Open}
 
 -- ---- the lists of a record
 
@@ -91,12 +91,12 @@ module _ (numbers : List Float) (n : ℕ) (s : Setting) where
   written-length = length-sets numbers (3 * n) (s .«tolerance_x» ∷ s .«tolerance_y» ∷ s .«area_limit» ∷ [])
 
   -- a place that is none of the three
-  pub written-other : (i : ℕ) (d : Float) → ((i ≡ 3 * n → ⊥) × ((i ≡ 3 * n + 1 → ⊥) × (i ≡ 3 * n + 2 → ⊥))) → getD (written numbers n s) i d ≡ getD numbers i d
+  pub written-other : (i : ℕ) (d : Float) → (3 * n ≤ i → i < 3 * n + 3 → ⊥) → getD (written numbers n s) i d ≡ getD numbers i d
   unfolding written
-  written-other i d (a, (b, c)) =
-      getD-set-other (set (set numbers (3 * n) (s .«tolerance_x»)) (suc (3 * n)) (s .«tolerance_y»)) (suc (suc (3 * n))) i (s .«area_limit») d (λ e. c (omega arith))
-      ∙ getD-set-other (set numbers (3 * n) (s .«tolerance_x»)) (suc (3 * n)) i (s .«tolerance_y») d (λ e. b (omega arith))
-      ∙ getD-set-other numbers (3 * n) i (s .«tolerance_x») d a
+  written-other i d apart =
+      getD-set-other (set (set numbers (3 * n) (s .«tolerance_x»)) (suc (3 * n)) (s .«tolerance_y»)) (suc (suc (3 * n))) i (s .«area_limit») d (λ e. apart (omega arith) (omega arith))
+      ∙ getD-set-other (set numbers (3 * n) (s .«tolerance_x»)) (suc (3 * n)) i (s .«tolerance_y») d (λ e. apart (omega arith) (omega arith))
+      ∙ getD-set-other numbers (3 * n) i (s .«tolerance_x») d (λ e. apart (omega arith) (omega arith))
 
   -- the setting itself
   pub written-at : 3 * n + 3 ≤ length numbers → settingAt (written numbers n s) n ≡ s
@@ -123,9 +123,9 @@ module _ (numbers : List Float) (n : ℕ) (s : Setting) where
   unfolding settingAt
   before k h =
       rw (
-        written-other (3 * k) +0 ((λ e. omega arith), ((λ e. omega arith), (λ e. omega arith))),
-        written-other (3 * k + 1) +0 ((λ e. omega arith), ((λ e. omega arith), (λ e. omega arith))),
-        written-other (3 * k + 2) +0 ((λ e. omega arith), ((λ e. omega arith), (λ e. omega arith))),
+        written-other (3 * k) +0 (λ a b. omega arith),
+        written-other (3 * k + 1) +0 (λ a b. omega arith),
+        written-other (3 * k + 2) +0 (λ a b. omega arith),
       )
 
   pub written-before : (k : ℕ) → k ≤ n → settingsTo (written numbers n s) k ≡ settingsTo numbers k
@@ -145,7 +145,7 @@ module _ (h : Held) (s : Setting) (o : Open h) where
   extended-count =
       let n = countOf (h .entered) in
       let few = o .fewer in
-      let one = o .one in
+      let one = o .sized .one in
       let told : getD (set (h .entered) 0 (n + 1)) 0 0 ≡ n + 1 = getD-set-same (h .entered) 0 (n + 1) 0 (omega arith) in
       reads (set (h .entered) 0 (n + 1)) (n + 1) told (omega arith)
     where
@@ -157,9 +157,9 @@ module _ (h : Held) (s : Setting) (o : Open h) where
   extended-settings =
       let n = countOf (h .entered) in
       let few = o .fewer in
-      let all = o .all in
+      let all = o .sized .all in
       ap (λ (k : ℕ). settingsTo (written (h .numbers) n s) k) extended-count ∙ written-more (h .numbers) n s (omega arith)
 
   pub extended-sized : Sized (extended h s)
   unfolding extended
-  extended-sized = record { one = length-set (h .entered) 0 (countOf (h .entered) + 1) ∙ o .one; all = written-length (h .numbers) (countOf (h .entered)) s ∙ o .all }
+  extended-sized = record { one = length-set (h .entered) 0 (countOf (h .entered) + 1) ∙ o .sized .one; all = written-length (h .numbers) (countOf (h .entered)) s ∙ o .sized .all }

@@ -2,24 +2,23 @@
 -- The calls answer as a plain list would; what is asked of an edition is what was entered under it; no call changes a setting that is there.
 use Prim.Native.Nat.{ℕ, zero, suc, _+_, _-_, _≤_, _<_}
 use mathlib.Core.Bool.{true, false, cond, _&&_}
-use mathlib.Core.Path.{_≡_, refl, sym, ap, subst, _∙_}
+use mathlib.Core.Path.{_≡_, refl, sym, ap, _∙_}
 use mathlib.Core.List.{List, [], _∷_, _++_, append-assoc, append-nil}
 use native.Mathlib.Omega.{arith}
-use lib.ListN.{length, getD, length-append, List·getD-append}
+use lib.ListN.{length, length-append, List·getD-append}
 use lib.Seq.{getD-at}
 use lib.Dec.{eqb, ltb, leb}
 use borrow.Author.Tests.{lt-ltb, le-leb, ne-eqb, eq-eqb, ltb-true, leb-true}
 use Rattle.basis.specs.Choice.{by-test, and-left, and-right}
-use Rattle.basis.specs.Machine.{Turn, turn, answers, after, Alike, all-alike, all-mean, all-keep}
+use Rattle.basis.specs.Machine.{answers, after, Alike, all-alike, all-mean, all-keep}
 use Rattle.basis.specs.Refuse.{firstOf, answer}
 use Rattle.basis.specs.RefuseLaws.{answer-zero}
 use Rattle.settings.specs.declared.Setting.{Setting}
-use Rattle.settings.specs.Settings.{Held, Sized, lengthsFault, countOf, settingsOf, known, none, askedOf, full, extended, Open}
-use Rattle.settings.specs.SettingsLaws.{count-most, lengths-ok, ok-lengths, known-least, known-most, known-between, held-length, held-at, extended-count, extended-settings, extended-sized}
+use Rattle.settings.specs.Settings.{Held, Sized, lengthsFault, countOf, settingsOf, known, none, full, extended, Open}
+use Rattle.settings.specs.SettingsLaws.{count-most, lengths-ok, ok-lengths, known-between, held-length, held-at, extended-count, extended-settings, extended-sized}
 use Rattle.settings_entries.specs.declared.answer.EditionAnswer.{EditionAnswer}
-use Rattle.settings_entries.specs.declared.answer.SettingAnswer.{SettingAnswer}
-use Rattle.settings_entries.specs.Answers.{editionRefused, editionGiven, settingRefused, settingGiven}
-use Rattle.settings_entries.specs.SettingsEntry.{rangeRows, enterRows, enterRefusal, enterAnswer, enterHeld, askRows, askRefusal, askAnswer}
+use Rattle.settings_entries.specs.Answers.{editionRefused, editionGiven, settingGiven}
+use Rattle.settings_entries.specs.SettingsEntry.{enterRefusal, enterAnswer, enterHeld, askRefusal, askAnswer}
 use Rattle.settings_entries.specs.SettingsEntryLaws.{enter-open}
 use Rattle.settings_entries.specs.History.{Call, enter, ask, Told, entered, asked, step, plainNumber, plainEntered, plainMore, plainAsked, plainStep, entryIn, accepted, heldAfter}
 
@@ -176,9 +175,8 @@ module _ (h : Held) (s : Setting) (taken : enterAnswer h s .refusal ≡ 0) where
   pub found : askAnswer (enterHeld h s) (enterAnswer h s .edition) ≡ settingGiven s
   found =
       let o = an-open in
-      let z : Sized h = record { one = o .one; all = o .all } in
       let n = countOf (h .entered) in
-      same-asked (enterHeld h s) (stays-sized h z s) (enterAnswer h s .edition)
+      same-asked (enterHeld h s) (stays-sized h (o .sized) s) (enterAnswer h s .edition)
       ∙ rw (next-edition, left-so, extended-settings h s o) (last-place (settingsOf h) s (n + 1) (ap (λ (k : ℕ). k + 1) (sym (held-length h))))
 
   pub stands : (calls : List Call) → askAnswer (after step (enterHeld h s) calls) (enterAnswer h s .edition) ≡ settingGiven s

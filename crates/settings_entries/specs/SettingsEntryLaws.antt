@@ -1,9 +1,9 @@
 -- What acceptance and refusal come to, entry by entry.
-use Prim.Native.Nat.{ℕ, zero, suc, _+_}
+use Prim.Native.Nat.{ℕ}
 use mathlib.Core.Path.{_≡_, refl, sym, ap, _∙_}
 use Rattle.basis.specs.RefuseLaws.{clear, answer-no, answer-yes}
 use Rattle.settings.specs.declared.Setting.{Setting}
-use Rattle.settings.specs.Settings.{Held, lengthsFault, full, Sized, countOf, Open, Entered, extended, askedOf}
+use Rattle.settings.specs.Settings.{Held, Open, Entered, askedOf}
 use Rattle.settings.specs.SettingsLaws.{lengths-ok, not-full}
 use Rattle.settings_entries.specs.declared.answer.EditionAnswer.{EditionAnswer}
 use Rattle.settings_entries.specs.declared.answer.SettingAnswer.{SettingAnswer}
@@ -16,8 +16,7 @@ module _ (h : Held) (s : Setting) (number : ℕ) (e : number ≡ enterRefusal h 
   unfolding enterRefusal
   enter-open z =
       let ok = clear (enterRows h s) tt (sym e ∙ z) in
-      let size : Sized h = lengths-ok h (search ok) in
-      record { one = size .one; all = size .all; fewer = not-full (h .entered) (search ok) }
+      record { sized = lengths-ok h (search ok); fewer = not-full (h .entered) (search ok) }
 
   pub enter-refused : (r : EditionAnswer) → (number ≡ 0 → ⊥) → r ≡ editionRefused number → EnterLeft h s r h
   unfolding enterAnswer enterHeld

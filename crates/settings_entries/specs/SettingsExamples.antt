@@ -1,19 +1,18 @@
 -- Closed examples, computed.
-use Prim.Native.Nat.{ℕ}
 use mathlib.Core.Bool.{false}
 use mathlib.Core.Path.{_≡_, refl}
-use mathlib.Core.List.{List, [], _∷_}
+use mathlib.Core.List.{[], _∷_}
 use lib.ListN.{replicate}
-use lib.Ieee.{Float, nan, inf, fin, neg, lt, eq, le, ofBits}
-use lib.IntN.{pos, negsuc}
-use Rattle.basis.specs.Machine.{answers, after}
+use lib.Ieee.{nan, inf, fin, neg, lt, eq, le, ofBits}
+use lib.IntN.{negsuc}
+use Rattle.basis.specs.Machine.{answers}
 use Rattle.basis.specs.Number.{+0, one, tolerable, limitOk}
 use Rattle.basis.specs.Refuse.{firstOf, answer}
 use Rattle.settings.specs.declared.Setting.{Setting}
 use Rattle.settings.specs.Settings.{Held, held, lengthsFault, countOf, settingAt, settingsTo, settingsOf, known, askedOf, full, written, extended}
 use Rattle.settings_entries.specs.Answers.{editionRefused, editionGiven, settingRefused, settingGiven}
 use Rattle.settings_entries.specs.SettingsEntry.{settingOf, enterRefusal, enterAnswer, enterHeld, askRefusal, askAnswer}
-use Rattle.settings_entries.specs.History.{Call, enter, ask, entered, asked, step}
+use Rattle.settings_entries.specs.History.{enter, ask, entered, asked, step}
 
 abbrev zeros : Held
 zeros = held (0 ∷ []) (replicate 48 +0)
