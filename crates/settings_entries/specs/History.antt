@@ -1,6 +1,6 @@
 -- Request K7, "after any sequence of entries and refused entries": the calls of a host on one record, one after the other.
 use Prim.Native.Nat.{ℕ, _+_, _-_}
-use mathlib.Core.Bool.{cond, _&&_}
+use mathlib.Core.Bool.{not, cond, _&&_}
 use mathlib.Core.List.{List, [], _∷_, _++_}
 use lib.ListN.{length, getD}
 use lib.Dec.{eqb, ltb, leb}
@@ -11,7 +11,7 @@ use Rattle.settings.specs.Settings.{Held, settingsOf, none}
 use Rattle.settings_entries.specs.declared.answer.EditionAnswer.{EditionAnswer}
 use Rattle.settings_entries.specs.declared.answer.SettingAnswer.{SettingAnswer}
 use Rattle.settings_entries.specs.Answers.{editionRefused, editionGiven, settingRefused, settingGiven}
-use Rattle.settings_entries.specs.SettingsEntry.{rangeRows, enterAnswer, enterHeld, askAnswer}
+use Rattle.settings_entries.specs.SettingsEntry.{settingOk, enterAnswer, enterHeld, askAnswer}
 
 pub data Call : Type 0 where
   enter : Setting → Call
@@ -30,7 +30,7 @@ step h (ask e) = turn (asked (askAnswer h e)) h
 
 -- "A seventeenth is refused and changes nothing."
 unfoldable pub plainNumber : List Setting → Setting → ℕ
-plainNumber l s = firstOf (row (eqb (length l) 16) 17 ∷ rangeRows s)
+plainNumber l s = firstOf (row (eqb (length l) 16) 17 ∷ row (not (settingOk s)) 4 ∷ [])
 
 unfoldable pub plainEntered : List Setting → Setting → EditionAnswer
 plainEntered l s = answer editionRefused (plainNumber l s) (editionGiven (length l + 1))

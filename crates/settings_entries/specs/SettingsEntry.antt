@@ -1,7 +1,7 @@
 -- The entries `mask_settings_enter` and `mask_settings_ask`: their refusals, their answers, and what the record holds afterwards.
 -- "Refusals: 16 edition unknown, 17 settings full; both where number 4 stands, before it."
 use Prim.Native.Nat.{ℕ, _+_}
-use mathlib.Core.Bool.{not}
+use mathlib.Core.Bool.{Bool, not, _&&_}
 use mathlib.Core.Path.{_≡_}
 use mathlib.Core.List.{List, [], _∷_}
 use lib.Ieee.{Float}
@@ -19,12 +19,12 @@ settingOf x y a = record { «tolerance_x» = x; «tolerance_y» = y; «area_limi
 
 -- ---- entering
 
--- 4: "tolerance or area limit is not finite or is out of range"; "number 4 covers either" tolerance
-abbrev pub rangeRows : Setting → List Row
-rangeRows s = row (not (tolerable (toleranceOf (s .«tolerance_x»)))) 4 ∷ row (not (tolerable (toleranceOf (s .«tolerance_y»)))) 4 ∷ row (not (limitOk (s .«area_limit»))) 4 ∷ []
+-- 4 where it fails: "tolerance or area limit is not finite or is out of range"; "number 4 covers either" tolerance
+unfoldable pub settingOk : Setting → Bool
+settingOk s = (tolerable (toleranceOf (s .«tolerance_x»)) && tolerable (toleranceOf (s .«tolerance_y»))) && limitOk (s .«area_limit»)
 
 abbrev pub enterRows : Held → Setting → List Row
-enterRows h s = row (lengthsFault h) 1 ∷ row (full (h .entered)) 17 ∷ rangeRows s
+enterRows h s = row (lengthsFault h) 1 ∷ row (full (h .entered)) 17 ∷ row (not (settingOk s)) 4 ∷ []
 
 unfoldable pub enterRefusal : Held → Setting → ℕ
 enterRefusal h s = firstOf (enterRows h s)

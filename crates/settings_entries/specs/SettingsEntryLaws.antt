@@ -1,6 +1,8 @@
 -- What acceptance and refusal come to, entry by entry.
 use Prim.Native.Nat.{ℕ}
+use mathlib.Core.Bool.{Bool, _&&_}
 use mathlib.Core.Path.{_≡_, refl, sym, ap, _∙_}
+use Rattle.basis.specs.Number.{toleranceOf, tolerable, limitOk}
 use Rattle.basis.specs.RefuseLaws.{clear, answer-no, answer-yes}
 use Rattle.settings.specs.declared.Setting.{Setting}
 use Rattle.settings.specs.Settings.{Held, Open, Entered, askedOf}
@@ -8,7 +10,13 @@ use Rattle.settings.specs.SettingsLaws.{lengths-ok, not-full}
 use Rattle.settings_entries.specs.declared.answer.EditionAnswer.{EditionAnswer}
 use Rattle.settings_entries.specs.declared.answer.SettingAnswer.{SettingAnswer}
 use Rattle.settings_entries.specs.Answers.{editionRefused, editionGiven, settingRefused, settingGiven}
-use Rattle.settings_entries.specs.SettingsEntry.{enterRows, enterRefusal, enterAnswer, enterHeld, EnterLeft, askRefusal, askAnswer}
+use Rattle.settings_entries.specs.SettingsEntry.{settingOk, enterRows, enterRefusal, enterAnswer, enterHeld, EnterLeft, askRefusal, askAnswer}
+
+-- the three tests of a setting
+pub good-by : (s : Setting) (x y a : Bool) → x ≡ tolerable (toleranceOf (s .«tolerance_x»)) → y ≡ tolerable (toleranceOf (s .«tolerance_y»)) → a ≡ limitOk (s .«area_limit»)
+    → ((x && y) && a) ≡ settingOk s
+unfolding settingOk
+good-by s x y a e f g = rw (e, f, g)
 
 module _ (h : Held) (s : Setting) (number : ℕ) (e : number ≡ enterRefusal h s) where
   -- an entry that is taken has an open record

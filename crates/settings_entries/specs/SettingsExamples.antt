@@ -11,7 +11,7 @@ use Rattle.basis.specs.Refuse.{firstOf, answer}
 use Rattle.settings.specs.declared.Setting.{Setting}
 use Rattle.settings.specs.Settings.{Held, held, lengthsFault, countOf, settingAt, settingsTo, settingsOf, known, askedOf, full, written, extended}
 use Rattle.settings_entries.specs.Answers.{editionRefused, editionGiven, settingRefused, settingGiven}
-use Rattle.settings_entries.specs.SettingsEntry.{settingOf, enterRefusal, enterAnswer, enterHeld, askRefusal, askAnswer}
+use Rattle.settings_entries.specs.SettingsEntry.{settingOf, settingOk, enterRefusal, enterAnswer, enterHeld, askRefusal, askAnswer}
 use Rattle.settings_entries.specs.History.{enter, ask, entered, asked, step}
 
 abbrev zeros : Held
@@ -35,7 +35,7 @@ pub first-calls :
     answers step zeros (ask 1 ∷ enter fine ∷ enter (settingOf one one nan) ∷ enter wide ∷ ask 1 ∷ ask 2 ∷ ask 0 ∷ ask 3 ∷ [])
     ≡ asked (settingRefused 16) ∷ entered (editionGiven 1) ∷ entered (editionRefused 4) ∷ entered (editionGiven 2)
     ∷ asked (settingGiven fine) ∷ asked (settingGiven wide) ∷ asked (settingRefused 16) ∷ asked (settingRefused 16) ∷ []
-unfolding answers step enterAnswer enterHeld enterRefusal askAnswer askRefusal firstOf answer lengthsFault full known countOf settingAt askedOf written extended tolerable limitOk neg lt le eq ofBits
+unfolding answers step enterAnswer enterHeld enterRefusal askAnswer askRefusal firstOf answer lengthsFault full known countOf settingAt askedOf written extended settingOk tolerable limitOk neg lt le eq ofBits
 first-calls = refl
 
 -- a count above 16 reads as 16: a full record
@@ -46,7 +46,7 @@ crowded = held (99 ∷ []) (replicate 48 one)
 pub numbers-in-order :
     enterRefusal (held (99 ∷ []) []) (settingOf +0 one one) ∷ enterRefusal crowded (settingOf +0 one one) ∷ enterRefusal zeros (settingOf +0 one one) ∷ []
     ≡ 1 ∷ 17 ∷ 4 ∷ []
-unfolding enterRefusal firstOf lengthsFault full countOf tolerable limitOk lt le eq ofBits
+unfolding enterRefusal firstOf lengthsFault full countOf settingOk tolerable limitOk lt le eq ofBits
 numbers-in-order = refl
 
 -- the sixteenth is asked for, and a seventeenth is unknown
@@ -64,5 +64,5 @@ pub out-of-range :
     ∷ enterRefusal zeros (settingOf one one (inf false))
     ∷ []
     ≡ replicate 6 4
-unfolding enterRefusal firstOf lengthsFault full countOf tolerable limitOk neg lt le eq ofBits
+unfolding enterRefusal firstOf lengthsFault full countOf settingOk tolerable limitOk neg lt le eq ofBits
 out-of-range = refl

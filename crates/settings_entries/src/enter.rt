@@ -1,7 +1,7 @@
 ghost use mathlib.Core.Path.{_≡_};
 ghost use Rattle.basis.specs.Number.{toleranceOf, tolerable};
 ghost use Rattle.settings.specs.Settings.{held};
-ghost use Rattle.settings_entries.specs.SettingsEntry.{settingOf, enterRefusal, EnterLeft};
+ghost use Rattle.settings_entries.specs.SettingsEntry.{settingOf, settingOk, enterRefusal, EnterLeft};
 use crate::answer;
 use crate::answer::EditionAnswer;
 use basis::number;
@@ -9,21 +9,28 @@ use basis::number::Tolerance;
 use basis::refuse;
 use settings::Setting;
 
-// Number 4 where it fails: a tolerance on one axis.
+// A tolerance is in range on one axis.
 fn in_reach(t: f64) -> bool
     ensures { λ r. ⌜ r ≡ tolerable (toleranceOf t) ⌝ }
 {
     number::in_tolerance(Tolerance { position: t })
 }
 
+// Number 4 where it fails: both tolerances and the area limit are in range.
+fn good_setting(s: Setting) -> bool
+    ensures { λ r. ⌜ r ≡ settingOk s ⌝ }
+{
+    in_reach(s.tolerance_x) & in_reach(s.tolerance_y) & number::good_limit(s.area_limit)
+}
+
 fn refusal(entered: &[usize], settings: &[f64], s: Setting) -> u32
     ensures { λ n. ⌜ n ≡ enterRefusal (held (now (entered .entry)) (now (settings .entry))) s ⌝ }
 {
+    let full = settings::is_full(entered);
+    let good = good_setting(s);
     let r = refuse::or_else(0, settings::bad_lengths(entered, settings), 1);
-    let r = refuse::or_else(r, settings::is_full(entered), 17);
-    let r = refuse::or_else(r, !in_reach(s.tolerance_x), 4);
-    let r = refuse::or_else(r, !in_reach(s.tolerance_y), 4);
-    refuse::or_else(r, !number::good_limit(s.area_limit), 4)
+    let r = refuse::or_else(r, full, 17);
+    refuse::or_else(r, !good, 4)
 }
 
 // A setting entered after those that are there: its edition.
