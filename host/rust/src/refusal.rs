@@ -3,8 +3,9 @@
 use std::error::Error;
 use std::fmt;
 
-/// Why a call is refused. The library gives the lowest number that applies, and has then written
-/// nothing. 16 and 17 count as just below 4 there, 18 and 19 as just above 5.
+/// Why a call is refused. The library gives the first that applies, in the order of `include/mask.h`
+/// (of 1 to 10 that is the lowest number), and has then written
+/// nothing.
 ///
 /// ```
 /// use mask_tools::Refusal;
