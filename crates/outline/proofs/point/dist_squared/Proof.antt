@@ -1,7 +1,7 @@
 use mathlib.Core.Path.{refl}
-use Rattle.cut.specs.Order.{distSquared}
-use Rattle.cut_order.proofs.keys.dist_squared.Statement.{statement}
-use Rattle.cut_order.proofs.keys.dist_squared.Tie as tie
+use Rattle.outline.specs.Points.{distSquared}
+use Rattle.outline.proofs.point.dist_squared.Statement.{statement}
+use Rattle.outline.proofs.point.dist_squared.Tie as tie
 
 returns : tie.Need-returns
 unfolding distSquared
