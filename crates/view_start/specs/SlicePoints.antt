@@ -27,17 +27,20 @@ pub record SpanFit (o : List Float) (vc : ℕ) (e : Ends) (s : Span) : Type 0 wh
 unfoldable pub runningVertex : List Float → ℕ → Span → Vertex → Vertex
 runningVertex o vc s split = cond (s .moved) (outlineAt o vc (s .«start_index»)) split
 
--- what `create` is given: the end's split is of the segment at the end index
-unfoldable pub walkOver : List Float → ℕ → Ends → Span → Splits → Walk
-walkOver o vc e s p =
+-- what `create` is given: the end's split is of the segment at the end index, and its first part's bulge is used
+abbrev pub walkFrom : Ends → Span → Vertex → Vertex → Walk
+walkFrom e s first part =
     record {
       «start_index» = s .«start_index»;
       «end_intersect» = e .«end_point»;
       «intersect_index» = e .«end_index»;
-      «updated_start» = runningVertex o vc s (p .«start_vertex»);
+      «updated_start» = first;
       «traverse_count» = s .«traverse_count»;
-      «split_bulge» = p .«end_part» .bulge;
+      «split_bulge» = part .bulge;
     }
+
+unfoldable pub walkOver : List Float → ℕ → Ends → Span → Splits → Walk
+walkOver o vc e s p = walkFrom e s (runningVertex o vc s (p .«start_vertex»)) (p .«end_part»)
 
 -- "a traverse of 1 whose points agree gives no view": where the end stands on its segment's vertex, and it is the updated start that is compared with it
 unfoldable pub collapses : List Float → ℕ → Walk → Tolerance → Bool

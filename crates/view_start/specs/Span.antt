@@ -6,11 +6,16 @@ use mathlib.Core.List.{List}
 use lib.Dec.{ltb, eqb}
 use lib.Ieee.{Float, lt}
 use Rattle.basis.specs.Number.{Tolerance}
+use Rattle.outline.specs.declared.point.Point.{Point}
 use Rattle.outline.specs.Points.{posOf, pointsAgree, distSquared}
 use Rattle.outline.specs.Outline.{Whole, wrap, outlineAt}
 use Rattle.view.specs.Create.{nearVertex}
 use Rattle.view_start.specs.declared.span.Ends.{Ends}
 use Rattle.view_start.specs.declared.span.Span.{Span}
+
+-- two points, each with its segment's number
+abbrev pub endsOf : Bool → ℕ → Point → ℕ → Point → Ends
+endsOf closed i p j q = record { closed = closed; «start_index» = i; «start_point» = p; «end_index» = j; «end_point» = q }
 
 -- ---- the start
 

@@ -1,5 +1,5 @@
 -- Laws by which the span is proved: a callee's answer in place of its definition.
-use Prim.Native.Nat.{ℕ, _+_, _<_}
+use Prim.Native.Nat.{ℕ, _+_, _-_, _<_}
 use mathlib.Core.Bool.{Bool, true, false, not}
 use mathlib.Core.Path.{_≡_, sym, ap, subst, _∙_}
 use mathlib.Core.List.{List}
@@ -44,6 +44,10 @@ pub start-fits : (o : List Float) (vc : ℕ) (e : Ends) (k : ℕ) (b : Bool) →
 start-fits o vc e k b f q = record { fit = f; inside = start-lt vc (e .«start_index») k b (f .starts) q }
 
 -- ---- the traverse count
+pub ahead-lt : (vc a b : ℕ) → 0 < vc → ahead vc a b < vc
+unfolding ahead
+ahead-lt vc a b h = wrap-lt vc (b + (vc - a)) h
+
 module _ (o : List Float) (vc : ℕ) (e : Ends) (t : Tolerance) (i n : ℕ) (d : Bool) where
   pub traverse-ahead : n ≡ ahead vc i (e .«end_index») → d ≡ decided e n t → not d ≡ true → n ≡ traverse o vc e t i
   unfolding traverse

@@ -1,7 +1,9 @@
 // The view between two points of an outline: the Rust's `from_slice_points`.
 ghost use mathlib.Core.Path.{_≡_};
+ghost use Rattle.outline.specs.Outline.{Near};
+ghost use Rattle.view.specs.Create.{WalkFit};
 ghost use Rattle.view_start.specs.Span.{EndsFit};
-ghost use Rattle.view_start.specs.SlicePoints.{SpanFit, WalkOver, runningVertex, collapses, walkView, slicedOver, sliceView};
+ghost use Rattle.view_start.specs.SlicePoints.{SpanFit, runningVertex, walkOver, collapses, walkedView, slicedView, sliceView};
 use crate::span;
 use crate::span::Ends;
 use crate::span::Span;

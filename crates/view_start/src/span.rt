@@ -85,7 +85,11 @@ fn traverse_from(outline: &[f64], vc: usize, e: Ends, t: Tolerance, i: usize) ->
     if !is_decided(e, n, t) {
         return n;
     }
-    if start_nearer(outline, vc, i, e) { 0 } else { vc }
+    if start_nearer(outline, vc, i, e) {
+        0
+    } else {
+        vc
+    }
 }
 
 // Where the view starts and how far it reaches.

@@ -1,0 +1,51 @@
+-- Laws by which the views from a new start are proved: a callee's answer in place of its definition.
+use Prim.Native.Nat.{ℕ, _-_}
+use mathlib.Core.Bool.{Bool, true, false}
+use mathlib.Core.Path.{_≡_, sym, ap, subst, _∙_}
+use mathlib.Core.List.{List}
+use native.Mathlib.Omega.{arith}
+use lib.Ieee.{Float}
+use Rattle.basis.specs.Number.{Tolerance}
+use Rattle.outline.specs.declared.point.Point.{Point}
+use Rattle.outline.specs.declared.point.Vertex.{Vertex}
+use Rattle.outline.specs.Points.{posOf}
+use Rattle.outline.specs.Outline.{Segment, outlineAt}
+use Rattle.view.specs.declared.data.ViewData.{ViewData}
+use Rattle.view.specs.declared.create.OneSegment.{OneSegment}
+use Rattle.view.specs.declared.create.OneSegment.the-variants as one
+use Rattle.view.specs.Create.{WalkFit, createView}
+use Rattle.view_start.specs.declared.span.Ends.{Ends}
+use Rattle.view_start.specs.declared.span.Span.{Span}
+use Rattle.view_start.specs.declared.slice_points.Splits.{Splits}
+use Rattle.view_start.specs.Span.{EndsFit, endsOf, spanOf}
+use Rattle.view_start.specs.SlicePoints.{sliceView}
+use Rattle.view_start.specs.SlicePointsLaws.{span-fits}
+use Rattle.view_start.specs.NewStart.{roundEnds, lastEnds, roundWalk, roundView, newStartView}
+
+module _ (o : List Float) (vc i : ℕ) (p : Point) (e : Ends) (g : Segment o vc i) where
+  pub round-ends : e ≡ roundEnds i p → EndsFit o vc e
+  round-ends q = subst (EndsFit o vc) (sym q) (record { whole = g .whole; starts = g .inside; ends = g .inside })
+
+  pub last-ends : e ≡ lastEnds o vc i p → EndsFit o vc e
+  last-ends q = subst (EndsFit o vc) (sym q) (record { whole = g .whole; starts = g .inside; ends = omega arith })
+
+  pub round-fits : (t : Tolerance) (s : Splits) (m : Span) → e ≡ roundEnds i p → m ≡ spanOf o vc e t → WalkFit o vc (roundWalk vc (m .«start_index») p s)
+  round-fits t s m f q = let h = span-fits o vc e t m (round-ends f) q in record { whole = g .whole; inside = h .starts; walks = omega arith }
+
+module _ (o : List Float) (vc i : ℕ) (p : Point) (t : Tolerance) (s : Splits) where
+  pub last-by : (v : Vertex) (q : Point) → v ≡ outlineAt o vc (vc - 1) → q ≡ posOf v → endsOf false i p (vc - 1) q ≡ lastEnds o vc i p
+  last-by v q f g = ap (λ (x : Point). endsOf false i p (vc - 1) x) (g ∙ ap (λ (u : Vertex). posOf u) f)
+
+  pub round-by : (e : Ends) (m : Span) (v : ViewData) → e ≡ roundEnds i p → m ≡ spanOf o vc e t → v ≡ createView o vc (roundWalk vc (m .«start_index») p s) t → v ≡ roundView o vc i p t s
+  unfolding roundView
+  round-by e m v f g q = cc
+
+  pub new-closed : (closed : Bool) (v : ViewData) → closed ≡ true → v ≡ roundView o vc i p t s → one.View v ≡ newStartView o vc closed i p t s
+  unfolding newStartView
+  new-closed closed v c q = rw c (ap one.View q)
+
+  pub new-open : (closed : Bool) (e : Ends) (r : OneSegment) → closed ≡ false → e ≡ lastEnds o vc i p → r ≡ sliceView o vc e t s → r ≡ newStartView o vc closed i p t s
+  unfolding newStartView
+  new-open closed e r c f q = rw c (q ∙ ap (λ (x : Ends). sliceView o vc x t s) f)
+
+pub ruleset news = (round-ends, last-ends, round-fits, last-by, round-by, new-closed, new-open)
