@@ -4,3 +4,5 @@ pub mod SlicePoints
 pub mod SlicePointsLaws
 pub mod NewStart
 pub mod NewStartLaws
+pub mod SpanTheorems
+pub mod StartTheorems

@@ -1,0 +1,165 @@
+-- Theorems about `SlicePoints` and `NewStart`, so that a reader can trust them. No code is proved by them.
+use Prim.Native.Nat.{ℕ, _+_, _-_, _≤_, _<_}
+use mathlib.Core.Bool.{Bool, true, false, _&&_}
+use mathlib.Core.Path.{_≡_, refl, sym, ap, ap₂, subst, _∙_}
+use mathlib.Core.Logic.{_⊎_, inl, inr}
+use mathlib.Core.List.{List}
+use native.Mathlib.Omega.{arith}
+use lib.Dec.{leb, ltb, eqb}
+use lib.Ieee.{Float}
+use borrow.Author.Tests.{eqb-true, eqb-false, eq-eqb, ne-eqb}
+use Rattle.basis.specs.Choice.{by-test}
+use Rattle.basis.specs.All.{allOf, all-at}
+use Rattle.basis.specs.Number.{+0, Tolerance, within, tolerable, allWithin}
+use Rattle.outline.specs.declared.point.Point.{Point}
+use Rattle.outline.specs.declared.point.Vertex.{Vertex}
+use Rattle.outline.specs.Points.{posOf, withBulge, atPoint, pointNumbers, vertexNumbers, pointsAgree}
+use Rattle.outline.specs.Outline.{Whole, Segment, vertexAt, wrap, outlineAt}
+use Rattle.outline.specs.OutlineLaws.{wrap-lt, wrap-same, wrap-less}
+use Rattle.view.specs.declared.data.ViewData.{ViewData}
+use Rattle.view.specs.declared.create.Walk.{Walk}
+use Rattle.view.specs.declared.create.OneSegment.{OneSegment}
+use Rattle.view.specs.declared.create.OneSegment.the-variants as one
+use Rattle.view.specs.View.{Fit, vertexOf, viewNumbers}
+use Rattle.view.specs.Create.{WalkFit, viewOf, nearVertex, bulgeBefore, createView, singleView, entireOffset, entireView}
+use Rattle.view.specs.ViewTheorems.{OneBulge, forward-first, forward-inner, forward-last, forward-beyond, create-on-vertex, create-between, create-fits, create-bulges, outline-passes, create-numbers, single-fits, single-bulges, single-numbers}
+use Rattle.view_start.specs.declared.span.Ends.{Ends}
+use Rattle.view_start.specs.declared.span.Span.{Span}
+use Rattle.view_start.specs.declared.slice_points.Splits.{Splits}
+use Rattle.view_start.specs.Span.{EndsFit, ahead, movesOn, spanOf}
+use Rattle.view_start.specs.SpanLaws.{ahead-lt}
+use Rattle.view_start.specs.SlicePoints.{SpanFit, runningVertex, walkOver, collapses, walkedView, slicedView, sliceView}
+use Rattle.view_start.specs.SlicePointsLaws.{span-fits, walk-fits}
+use Rattle.view_start.specs.NewStart.{roundEnds, lastEnds, roundWalk, roundView, newStartView}
+use Rattle.view_start.specs.NewStartLaws.{last-ends, round-ends}
+use Rattle.view_start.specs.SpanTheorems.{ahead-arrives, ahead-none, span-starts, moved-stands}
+
+running-pass : (q : Float → Bool) (o : List Float) (vc : ℕ) (s : Span) (split : Vertex) → Whole o vc → allOf q o ≡ true → allOf q (vertexNumbers split) ≡ true
+    → allOf q (vertexNumbers (runningVertex o vc s split)) ≡ true
+unfolding runningVertex
+running-pass q o vc s split whole a b = by-test (s .moved) (λ m. rw m (outline-passes q o vc (s .«start_index») whole a)) (λ m. rw m b)
+
+-- ---- what holds of every view between two points: it was made by one of the two constructors
+
+module _ (o : List Float) (vc : ℕ) (w : Walk) (t : Tolerance) where
+  -- where a walk gives a view, it is `create`'s
+  walked-is : (v : ViewData) → walkedView o vc w t ≡ one.View v → createView o vc w t ≡ v
+  unfolding walkedView
+  walked-is v is = by-test (collapses o vc w t) (λ c. let z : one.Collapsed ≡ one.View v = rw c at is in cc) (λ c. let z : one.View (createView o vc w t) ≡ one.View v = rw c at is in cc)
+
+module _ (o : List Float) (vc : ℕ) (e : Ends) (t : Tolerance) (p : Splits) (v : ViewData) (is : sliceView o vc e t p ≡ one.View v) where
+  by-maker : {P : Type 0} → ((s : Span) → s ≡ spanOf o vc e t → singleView (s .«start_index») (p .«end_part») (e .«end_point») t ≡ one.View v → P)
+      → ((s : Span) → s ≡ spanOf o vc e t → (s .«traverse_count» ≡ 0 → ⊥) → createView o vc (walkOver o vc e s p) t ≡ v → P) → P
+  unfolding sliceView slicedView
+  by-maker single walk =
+      by-test (eqb (s .«traverse_count») 0)
+      (λ z. single s refl (rw z at is))
+      (λ z. walk s refl (eqb-false _ 0 z) (walked-is o vc (walkOver o vc e s p) t v (rw z at is)))
+    where
+      s : Span
+      s = spanOf o vc e t
+
+  module _ (f : EndsFit o vc e) where
+    -- What `from_slice_points` gives fits the outline again: its start is below vc and its offset at most vc.
+    pub slice-fits : Fit o vc v
+    unfolding walkOver
+    slice-fits =
+        by-maker
+        (λ s q m. let g = span-fits o vc e t s f q in single-fits (s .«start_index») (p .«end_part») (e .«end_point») t v m o vc (f .whole) (g .starts))
+        (λ s q n m. let g = span-fits o vc e t s f q in
+        subst (Fit o vc) m (create-fits o vc (walkOver o vc e s p) t (walk-fits o vc e s p _ g n refl) (g .starts) (g .reaches)))
+
+    -- Its two bulges are one where its offset is 0.
+    pub slice-bulges : OneBulge v
+    slice-bulges =
+        by-maker (λ s q m. single-bulges (s .«start_index») (p .«end_part») (e .«end_point») t v m)
+        (λ s q n m. subst OneBulge m (create-bulges o vc (walkOver o vc e s p) t (walk-fits o vc e s p _ (span-fits o vc e t s f q) n refl)))
+
+  -- Its numbers were handed in: a test that all of these pass, as `within`, they pass.
+  pub slice-numbers : (q : Float → Bool) → Whole o vc → allOf q o ≡ true → allOf q (vertexNumbers (p .«start_vertex»)) ≡ true → allOf q (vertexNumbers (p .«end_part»)) ≡ true
+      → allOf q (pointNumbers (e .«end_point»)) ≡ true → allOf q (viewNumbers v) ≡ true
+  unfolding walkOver
+  slice-numbers q whole a b c d =
+      by-maker (λ s r m. single-numbers q (s .«start_index») (p .«end_part») (e .«end_point») t v m c d)
+      (λ s r n m. subst (λ (u : ViewData). allOf q (viewNumbers u) ≡ true) m
+      (create-numbers q o vc (walkOver o vc e s p) t whole a (running-passes s) (all-at q (vertexNumbers (p .«end_part»)) 2 +0 c (omega arith)) d))
+    where
+      running-passes : (s : Span) → allOf q (vertexNumbers (runningVertex o vc s (p .«start_vertex»))) ≡ true
+      running-passes s = running-pass q o vc s (p .«start_vertex») whole a b
+
+-- ---- once round a closed outline
+module _ (o : List Float) (vc i : ℕ) (p : Point) (t : Tolerance) (s : Splits) (g : Segment o vc i) where
+  -- where it starts
+  abbrev pub startOf : ℕ
+  startOf = spanOf o vc (roundEnds i p) t .«start_index»
+
+  start-below : startOf < vc
+  start-below = span-starts o vc (roundEnds i p) t (round-ends o vc i p _ g refl)
+
+  -- Where the point stands on the first vertex of its segment, the offset is vc − 1 and the end bulge that of the vertex before;
+  pub round-on-vertex : nearVertex o vc startOf p t ≡ true → roundView o vc i p t s ≡ viewOf startOf (vc - 1) (s .«start_vertex») (outlineAt o vc (startOf + (vc - 1)) .bulge) p
+  unfolding roundView createView bulgeBefore
+  round-on-vertex e = rw (e, ne-eqb (vc - 1) 0 (omega arith))
+
+  -- elsewhere the offset is vc and the end bulge the split's.
+  pub round-between : nearVertex o vc startOf p t ≡ false → roundView o vc i p t s ≡ viewOf startOf vc (s .«start_vertex») (s .«start_bulge») p
+  unfolding roundView createView
+  round-between e = rw e
+
+  -- what holds of both holds of the view
+  rounded : (P : ViewData → Type 0) → P (viewOf startOf (vc - 1) (s .«start_vertex») (outlineAt o vc (startOf + (vc - 1)) .bulge) p)
+      → P (viewOf startOf vc (s .«start_vertex») (s .«start_bulge») p) → P (roundView o vc i p t s)
+  rounded P y n = by-test (nearVertex o vc startOf p t) (λ e. subst P (sym (round-on-vertex e)) y) (λ e. subst P (sym (round-between e)) n)
+
+  -- So it goes once round: its offset is vc − 1 or vc.
+  pub round-offset : (roundView o vc i p t s .«end_index_offset» ≡ vc - 1) ⊎ (roundView o vc i p t s .«end_index_offset» ≡ vc)
+  round-offset = rounded (λ (v : ViewData). (v .«end_index_offset» ≡ vc - 1) ⊎ (v .«end_index_offset» ≡ vc)) (inl refl) (inr refl)
+
+  -- It fits the outline again, and its two bulges are one where its offset is 0.
+  pub round-fits-again : Fit o vc (roundView o vc i p t s)
+  round-fits-again =
+      rounded (Fit o vc) (record { whole = g .whole; starts = start-below; reaches = omega arith }) (record { whole = g .whole; starts = start-below; reaches = omega arith })
+
+  pub round-bulges : OneBulge (roundView o vc i p t s)
+  round-bulges = rounded OneBulge (λ z. absurd (omega arith)) (λ z. absurd (omega arith))
+
+  -- Its first vertex is the split's,
+  pub round-first : vertexOf o vc (roundView o vc i p t s) 0 ≡ s .«start_vertex»
+  unfolding vertexOf
+  round-first = rounded (λ (v : ViewData). vertexOf o vc v 0 ≡ s .«start_vertex») (forward-first o vc _ 0 refl) (forward-first o vc _ 0 refl)
+
+  kept : (k j : ℕ) → k ≡ j → withBulge (outlineAt o vc (startOf + k)) (outlineAt o vc (startOf + j) .bulge) ≡ outlineAt o vc (startOf + k)
+  kept k j e = ap (λ (n : ℕ). withBulge (outlineAt o vc (startOf + k)) (outlineAt o vc (startOf + n) .bulge)) (sym e)
+
+  -- the next are the outline's, bulge included, started at that segment,
+  pub round-vertices : (k : ℕ) → 0 < k → k < vc → vertexOf o vc (roundView o vc i p t s) k ≡ outlineAt o vc (startOf + k)
+  unfolding vertexOf
+  round-vertices k h l =
+      rounded (λ (v : ViewData). vertexOf o vc v k ≡ outlineAt o vc (startOf + k))
+      (by-test (eqb k (vc - 1))
+      (λ e. forward-last o vc _ k h (eqb-true k (vc - 1) e) ∙ kept k (vc - 1) (eqb-true k (vc - 1) e))
+      (λ e. forward-inner o vc _ k h (omega (arith, eqb-false k (vc - 1) e))))
+      (forward-inner o vc _ k h l)
+
+  -- where the point stands between two vertices, the segment's own vertex follows with the split's bulge,
+  pub round-own-vertex : nearVertex o vc startOf p t ≡ false → vertexOf o vc (roundView o vc i p t s) vc ≡ withBulge (vertexAt o startOf) (s .«start_bulge»)
+  unfolding vertexOf outlineAt
+  round-own-vertex e =
+      ap (λ (v : ViewData). vertexOf o vc v vc) (round-between e) ∙ forward-last o vc _ vc (omega arith) refl
+      ∙ ap (λ (n : ℕ). withBulge (vertexAt o n) (s .«start_bulge»)) (wrap-less vc (startOf + vc) (omega arith) (omega (arith, start-below)) ∙ omega arith)
+
+  -- and the last is the point.
+  pub round-last : vertexOf o vc (roundView o vc i p t s) (roundView o vc i p t s .«end_index_offset» + 1) ≡ atPoint p +0
+  unfolding vertexOf
+  round-last =
+      rounded (λ (v : ViewData). vertexOf o vc v (v .«end_index_offset» + 1) ≡ atPoint p +0) (forward-beyond o vc _ _ (omega arith)) (forward-beyond o vc _ _ (omega arith))
+
+  -- So every vertex of the outline but the segment's own stands in it, at as many places on as it is ahead, and at no other between the ends.
+  pub round-has : (j : ℕ) → j < vc → (startOf ≡ j → ⊥) → vertexOf o vc (roundView o vc i p t s) (ahead vc startOf j) ≡ vertexAt o j
+  unfolding outlineAt
+  round-has j h n =
+      round-vertices (ahead vc startOf j) (positive (λ z. n (ahead-none vc startOf j start-below h z))) (ahead-lt vc startOf j (omega arith))
+      ∙ ap (vertexAt o) (ahead-arrives vc startOf j start-below h)
+    where
+      positive : {m : ℕ} → (m ≡ 0 → ⊥) → 0 < m
+      positive {m} e = omega (arith, e)
