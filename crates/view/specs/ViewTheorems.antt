@@ -304,7 +304,7 @@ module _ (p : Float → Bool) where
   bulge-passes : (u : Vertex) → allOf p (vertexNumbers u) ≡ true → p (u .bulge) ≡ true
   bulge-passes u a = all-at p (vertexNumbers u) 2 nan a (omega arith)
 
-  place-passes : (u : Vertex) → allOf p (vertexNumbers u) ≡ true → allOf p (pointNumbers (posOf u)) ≡ true
+  pub place-passes : (u : Vertex) → allOf p (vertexNumbers u) ≡ true → allOf p (pointNumbers (posOf u)) ≡ true
   unfolding allOf
   place-passes u a = simp (all-at p (vertexNumbers u) 0 nan a (omega arith), all-at p (vertexNumbers u) 1 nan a (omega arith))
 

@@ -7,9 +7,10 @@ use mathlib.Core.List.{List}
 use native.Mathlib.Omega.{arith}
 use lib.Dec.{leb, ltb, eqb}
 use lib.Ieee.{Float}
-use borrow.Author.Tests.{eqb-true, eqb-false, eq-eqb, ne-eqb}
+use borrow.Author.Tests.{eqb-true, eqb-false, ne-eqb, lt-ltb}
 use Rattle.basis.specs.Choice.{by-test}
 use Rattle.basis.specs.All.{allOf, all-at}
+use Rattle.basis.specs.OrderLaws.{finite-within, agree-self}
 use Rattle.basis.specs.Number.{+0, Tolerance, within, tolerable, allWithin}
 use Rattle.outline.specs.declared.point.Point.{Point}
 use Rattle.outline.specs.declared.point.Vertex.{Vertex}
@@ -22,17 +23,17 @@ use Rattle.view.specs.declared.create.OneSegment.{OneSegment}
 use Rattle.view.specs.declared.create.OneSegment.the-variants as one
 use Rattle.view.specs.View.{Fit, vertexOf, viewNumbers}
 use Rattle.view.specs.Create.{WalkFit, viewOf, nearVertex, bulgeBefore, createView, singleView, entireOffset, entireView}
-use Rattle.view.specs.ViewTheorems.{OneBulge, forward-first, forward-inner, forward-last, forward-beyond, create-on-vertex, create-between, create-fits, create-bulges, outline-passes, create-numbers, single-fits, single-bulges, single-numbers}
+use Rattle.view.specs.ViewTheorems.{OneBulge, forward-first, forward-inner, forward-last, forward-beyond, create-on-vertex, create-between, create-fits, create-bulges, outline-passes, place-passes, create-numbers, single-fits, single-bulges, single-numbers}
 use Rattle.view_start.specs.declared.span.Ends.{Ends}
 use Rattle.view_start.specs.declared.span.Span.{Span}
 use Rattle.view_start.specs.declared.slice_points.Splits.{Splits}
-use Rattle.view_start.specs.Span.{EndsFit, ahead, movesOn, spanOf}
+use Rattle.view_start.specs.Span.{EndsFit, canMove, movesOn, startIndex, ahead, decided, traverse, spanWith, spanOf}
 use Rattle.view_start.specs.SpanLaws.{ahead-lt}
-use Rattle.view_start.specs.SlicePoints.{SpanFit, runningVertex, walkOver, collapses, walkedView, slicedView, sliceView}
+use Rattle.view_start.specs.SlicePoints.{SpanFit, runningVertex, walkFrom, walkOver, collapses, walkedView, slicedView, sliceView}
 use Rattle.view_start.specs.SlicePointsLaws.{span-fits, walk-fits}
 use Rattle.view_start.specs.NewStart.{roundEnds, lastEnds, roundWalk, roundView, newStartView}
 use Rattle.view_start.specs.NewStartLaws.{last-ends, round-ends}
-use Rattle.view_start.specs.SpanTheorems.{ahead-arrives, ahead-none, span-starts, moved-stands}
+use Rattle.view_start.specs.SpanTheorems.{ahead-up, ahead-arrives, ahead-none, span-starts, moved-stands}
 
 running-pass : (q : Float → Bool) (o : List Float) (vc : ℕ) (s : Span) (split : Vertex) → Whole o vc → allOf q o ≡ true → allOf q (vertexNumbers split) ≡ true
     → allOf q (vertexNumbers (runningVertex o vc s split)) ≡ true
@@ -163,3 +164,111 @@ module _ (o : List Float) (vc i : ℕ) (p : Point) (t : Tolerance) (s : Splits) 
     where
       positive : {m : ℕ} → (m ≡ 0 → ⊥) → 0 < m
       positive {m} e = omega (arith, e)
+
+-- ---- from a new start, open or closed
+module _ (o : List Float) (vc : ℕ) (closed : Bool) (i : ℕ) (p : Point) (t : Tolerance) (s : Splits) (v : ViewData) (is : newStartView o vc closed i p t s ≡ one.View v) where
+  by-outline : {P : Type 0} → (roundView o vc i p t s ≡ v → P) → (sliceView o vc (lastEnds o vc i p) t s ≡ one.View v → P) → P
+  unfolding newStartView
+  by-outline round last =
+      by-test closed (λ c. round (let z : one.View (roundView o vc i p t s) ≡ one.View v = rw c at is in cc)) (λ c. last (rw c at is))
+
+  -- What `from_new_start` gives fits the outline again,
+  pub new-start-fits : Segment o vc i → Fit o vc v
+  new-start-fits g =
+      by-outline (λ e. subst (Fit o vc) e (round-fits-again o vc i p t s g))
+      (λ e. slice-fits o vc (lastEnds o vc i p) t s v e (last-ends o vc i p _ g refl))
+
+  -- its two bulges are one where its offset is 0,
+  pub new-start-bulges : Segment o vc i → OneBulge v
+  new-start-bulges g =
+      by-outline (λ e. subst OneBulge e (round-bulges o vc i p t s g))
+      (λ e. slice-bulges o vc (lastEnds o vc i p) t s v e (last-ends o vc i p _ g refl))
+
+  -- and its numbers were handed in.
+  pub new-start-numbers : (q : Float → Bool) → Whole o vc → allOf q o ≡ true → q (s .«start_bulge») ≡ true → allOf q (vertexNumbers (s .«start_vertex»)) ≡ true
+      → allOf q (vertexNumbers (s .«end_part»)) ≡ true → allOf q (pointNumbers p) ≡ true → allOf q (viewNumbers v) ≡ true
+  unfolding roundView
+  new-start-numbers q whole a b c d f =
+      by-outline (λ e. subst (λ (u : ViewData). allOf q (viewNumbers u) ≡ true) e (create-numbers q o vc _ t whole a c b f))
+      (λ e. slice-numbers o vc (lastEnds o vc i p) t s v e q whole a c d (place-passes q _ (outline-passes q o vc (vc - 1) whole a)))
+
+-- ---- An outline started at its own first vertex is the whole outline, `from_entire_pline`, where the split keeps that vertex.
+
+-- view data is its fields
+fields : {i j n m : ℕ} {u w : Vertex} {b c : Float} {p q : Point} → i ≡ j → n ≡ m → u ≡ w → b ≡ c → p ≡ q → viewOf i n u b p ≡ viewOf j m w c q
+fields e f g h k = cc
+
+module _ (o : List Float) (vc : ℕ) (t : Tolerance) (s : Splits) (whole : Whole o vc) (numbers : allWithin o ≡ true) (in-range : tolerable t ≡ true) where
+  -- each vertex agrees with itself
+  near-self : (i : ℕ) → nearVertex o vc i (posOf (outlineAt o vc i)) t ≡ true
+  unfolding nearVertex pointsAgree
+  near-self i =
+      let a = outline-passes within o vc i whole numbers in
+      let x = agree-self t (outlineAt o vc i .x) (finite-within _ (all-at within _ 0 +0 a (omega arith))) in-range in
+      let y = agree-self t (outlineAt o vc i .y) (finite-within _ (all-at within _ 1 +0 a (omega arith))) in-range in
+      rw (x, y)
+
+  same-vertex : (i j : ℕ) → wrap vc i ≡ wrap vc j → outlineAt o vc i ≡ outlineAt o vc j
+  unfolding outlineAt
+  same-vertex i j e = ap (vertexAt o) e
+
+  -- once round from vertex 0 is vertex 0, and one before the last is two before vertex 0
+  comes-back : outlineAt o vc 0 ≡ outlineAt o vc (vc - 1 + 1)
+  comes-back = same-vertex 0 (vc - 1 + 1) (wrap-same vc 0 (omega arith) ∙ sym (wrap-less vc (vc - 1 + 1) (omega arith) (omega arith) ∙ omega arith))
+
+  before-last : outlineAt o vc (vc - 1 + (vc - 1)) ≡ outlineAt o vc (vc - 2)
+  before-last = same-vertex (vc - 1 + (vc - 1)) (vc - 2) (wrap-less vc (vc - 1 + (vc - 1)) (omega arith) (omega arith) ∙ sym (wrap-same vc (vc - 2) (omega arith) ∙ omega arith))
+
+  module _ (keeps : s .«start_vertex» ≡ outlineAt o vc 0) where
+    abbrev first : Point
+    first = posOf (outlineAt o vc 0)
+
+    -- A closed outline: from every segment whose start comes to be vertex 0. That is segment 0 itself, and the last, whose end it is.
+    pub own-start-closed : (i : ℕ) → Segment o vc i → spanOf o vc (roundEnds i first) t .«start_index» ≡ 0 → newStartView o vc true i first t s ≡ one.View (entireView o vc true)
+    unfolding newStartView entireView entireOffset
+    own-start-closed i g z =
+        ap one.View
+        (round-on-vertex o vc i first t s g (subst (λ (k : ℕ). nearVertex o vc k first t ≡ true) (sym z) (near-self 0))
+        ∙ fields z refl keeps (ap (λ (k : ℕ). outlineAt o vc k .bulge) (omega arith)) (ap (λ (u : Vertex). posOf u) comes-back))
+
+    module _ (stays : movesOn o vc (lastEnds o vc 0 first) t ≡ false) where
+      -- its last vertex is vc − 1 segments on
+      traverses : traverse o vc (lastEnds o vc 0 first) t 0 ≡ vc - 1
+      unfolding traverse decided
+      traverses = by-test (eqb (ahead vc 0 (vc - 1)) 0) (λ e. rw e far) (λ e. rw e far)
+        where
+          far : ahead vc 0 (vc - 1) ≡ vc - 1
+          far = ahead-up vc 0 (vc - 1) (omega arith) (omega arith) (omega arith) ∙ omega arith
+
+      spans : spanOf o vc (lastEnds o vc 0 first) t ≡ spanWith false 0 (vc - 1)
+      unfolding spanOf startIndex
+      spans = rw stays (ap (spanWith false 0) traverses)
+
+      abbrev walk : Walk
+      walk = walkFrom (lastEnds o vc 0 first) (spanWith false 0 (vc - 1)) (s .«start_vertex») (s .«end_part»)
+
+      -- two vertices that do not agree: the first is not on the second
+      apart : (n : ℕ) → n ≡ 1 → pointsAgree t (posOf (s .«start_vertex»)) (posOf (outlineAt o vc n)) ≡ false
+      unfolding movesOn canMove nearVertex
+      apart n e =
+          let k : ltb 0 (vc - 1) ≡ true = lt-ltb 0 (vc - 1) (omega arith) in
+          let far : pointsAgree t first (posOf (outlineAt o vc 1)) ≡ false = rw k at stays in
+          rw (e, keeps) far
+
+      stands : collapses o vc walk t ≡ false
+      unfolding collapses
+      stands = by-test (eqb (vc - 1) 1) (λ e. rw (e, near-self (vc - 1)) (apart (vc - 1) (eqb-true (vc - 1) 1 e))) (λ e. rw e)
+
+      ends : bulgeBefore o vc walk ≡ outlineAt o vc (vc - 2) .bulge
+      unfolding bulgeBefore
+      ends =
+          by-test (eqb (vc - 1 - 1) 0)
+          (λ e. let z : vc - 2 ≡ 0 = omega (arith, eqb-true (vc - 1 - 1) 0 e) in rw (e, keeps, z))
+          (λ e. rw e (ap (λ (u : Vertex). u .bulge) before-last))
+
+      -- An open outline: from segment 0, where vertex 1 does not agree with vertex 0, so that the start does not move.
+      pub own-start-open : newStartView o vc false 0 first t s ≡ one.View (entireView o vc false)
+      unfolding newStartView sliceView slicedView walkOver runningVertex walkedView createView entireView entireOffset
+      own-start-open =
+          rw (spans, ne-eqb (vc - 1) 0 (omega arith), stands, near-self (vc - 1))
+          (ap one.View (fields refl (omega arith) keeps ends (ap (λ (n : ℕ). posOf (outlineAt o vc n)) (omega arith))))
