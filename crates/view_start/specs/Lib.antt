@@ -6,3 +6,6 @@ pub mod NewStart
 pub mod NewStartLaws
 pub mod SpanTheorems
 pub mod StartTheorems
+pub mod Asked
+pub mod RustText
+pub mod RustTheorems

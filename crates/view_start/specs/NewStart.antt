@@ -25,6 +25,10 @@ roundEnds i p = endsOf true i p i p
 abbrev pub lastEnds : List Float → ℕ → ℕ → Point → Ends
 lastEnds o vc i p = endsOf false i p (vc - 1) (posOf (outlineAt o vc (vc - 1)))
 
+-- the two points whose span tells the host what to split
+abbrev pub newEnds : List Float → ℕ → Bool → ℕ → Point → Ends
+newEnds o vc closed i p = cond closed (roundEnds i p) (lastEnds o vc i p)
+
 -- what `create` is given for the way round, from the segment i of the start, after it moved: one split serves both ends
 abbrev pub roundWalk : ℕ → ℕ → Point → Splits → Walk
 roundWalk vc i p s =

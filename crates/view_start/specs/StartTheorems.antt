@@ -89,28 +89,35 @@ module _ (o : List Float) (vc : ℕ) (e : Ends) (t : Tolerance) (p : Splits) (v 
       running-passes s = running-pass q o vc s (p .«start_vertex») whole a b
 
 -- ---- once round a closed outline
-module _ (o : List Float) (vc i : ℕ) (p : Point) (t : Tolerance) (s : Splits) (g : Segment o vc i) where
-  -- where it starts
-  abbrev pub startOf : ℕ
-  startOf = spanOf o vc (roundEnds i p) t .«start_index»
 
-  start-below : startOf < vc
-  start-below = span-starts o vc (roundEnds i p) t (round-ends o vc i p _ g refl)
+-- where it starts
+abbrev pub startOf : List Float → ℕ → ℕ → Point → Tolerance → ℕ
+startOf o vc i p t = spanOf o vc (roundEnds i p) t .«start_index»
+
+pub start-below : (o : List Float) (vc i : ℕ) (p : Point) (t : Tolerance) → Segment o vc i → startOf o vc i p t < vc
+start-below o vc i p t g = span-starts o vc (roundEnds i p) t (round-ends o vc i p _ g refl)
+
+module _ (o : List Float) (vc i : ℕ) (p : Point) (t : Tolerance) (s : Splits) (g : Segment o vc i) where
+  abbrev start : ℕ
+  start = startOf o vc i p t
+
+  below : start < vc
+  below = start-below o vc i p t g
 
   -- Where the point stands on the first vertex of its segment, the offset is vc − 1 and the end bulge that of the vertex before;
-  pub round-on-vertex : nearVertex o vc startOf p t ≡ true → roundView o vc i p t s ≡ viewOf startOf (vc - 1) (s .«start_vertex») (outlineAt o vc (startOf + (vc - 1)) .bulge) p
+  pub round-on-vertex : nearVertex o vc start p t ≡ true → roundView o vc i p t s ≡ viewOf start (vc - 1) (s .«start_vertex») (outlineAt o vc (start + (vc - 1)) .bulge) p
   unfolding roundView createView bulgeBefore
   round-on-vertex e = rw (e, ne-eqb (vc - 1) 0 (omega arith))
 
   -- elsewhere the offset is vc and the end bulge the split's.
-  pub round-between : nearVertex o vc startOf p t ≡ false → roundView o vc i p t s ≡ viewOf startOf vc (s .«start_vertex») (s .«start_bulge») p
+  pub round-between : nearVertex o vc start p t ≡ false → roundView o vc i p t s ≡ viewOf start vc (s .«start_vertex») (s .«start_bulge») p
   unfolding roundView createView
   round-between e = rw e
 
   -- what holds of both holds of the view
-  rounded : (P : ViewData → Type 0) → P (viewOf startOf (vc - 1) (s .«start_vertex») (outlineAt o vc (startOf + (vc - 1)) .bulge) p)
-      → P (viewOf startOf vc (s .«start_vertex») (s .«start_bulge») p) → P (roundView o vc i p t s)
-  rounded P y n = by-test (nearVertex o vc startOf p t) (λ e. subst P (sym (round-on-vertex e)) y) (λ e. subst P (sym (round-between e)) n)
+  rounded : (P : ViewData → Type 0) → P (viewOf start (vc - 1) (s .«start_vertex») (outlineAt o vc (start + (vc - 1)) .bulge) p)
+      → P (viewOf start vc (s .«start_vertex») (s .«start_bulge») p) → P (roundView o vc i p t s)
+  rounded P y n = by-test (nearVertex o vc start p t) (λ e. subst P (sym (round-on-vertex e)) y) (λ e. subst P (sym (round-between e)) n)
 
   -- So it goes once round: its offset is vc − 1 or vc.
   pub round-offset : (roundView o vc i p t s .«end_index_offset» ≡ vc - 1) ⊎ (roundView o vc i p t s .«end_index_offset» ≡ vc)
@@ -119,7 +126,7 @@ module _ (o : List Float) (vc i : ℕ) (p : Point) (t : Tolerance) (s : Splits) 
   -- It fits the outline again, and its two bulges are one where its offset is 0.
   pub round-fits-again : Fit o vc (roundView o vc i p t s)
   round-fits-again =
-      rounded (Fit o vc) (record { whole = g .whole; starts = start-below; reaches = omega arith }) (record { whole = g .whole; starts = start-below; reaches = omega arith })
+      rounded (Fit o vc) (record { whole = g .whole; starts = below; reaches = omega arith }) (record { whole = g .whole; starts = below; reaches = omega arith })
 
   pub round-bulges : OneBulge (roundView o vc i p t s)
   round-bulges = rounded OneBulge (λ z. absurd (omega arith)) (λ z. absurd (omega arith))
@@ -129,25 +136,25 @@ module _ (o : List Float) (vc i : ℕ) (p : Point) (t : Tolerance) (s : Splits) 
   unfolding vertexOf
   round-first = rounded (λ (v : ViewData). vertexOf o vc v 0 ≡ s .«start_vertex») (forward-first o vc _ 0 refl) (forward-first o vc _ 0 refl)
 
-  kept : (k j : ℕ) → k ≡ j → withBulge (outlineAt o vc (startOf + k)) (outlineAt o vc (startOf + j) .bulge) ≡ outlineAt o vc (startOf + k)
-  kept k j e = ap (λ (n : ℕ). withBulge (outlineAt o vc (startOf + k)) (outlineAt o vc (startOf + n) .bulge)) (sym e)
+  kept : (k j : ℕ) → k ≡ j → withBulge (outlineAt o vc (start + k)) (outlineAt o vc (start + j) .bulge) ≡ outlineAt o vc (start + k)
+  kept k j e = ap (λ (n : ℕ). withBulge (outlineAt o vc (start + k)) (outlineAt o vc (start + n) .bulge)) (sym e)
 
   -- the next are the outline's, bulge included, started at that segment,
-  pub round-vertices : (k : ℕ) → 0 < k → k < vc → vertexOf o vc (roundView o vc i p t s) k ≡ outlineAt o vc (startOf + k)
+  pub round-vertices : (k : ℕ) → 0 < k → k < vc → vertexOf o vc (roundView o vc i p t s) k ≡ outlineAt o vc (start + k)
   unfolding vertexOf
   round-vertices k h l =
-      rounded (λ (v : ViewData). vertexOf o vc v k ≡ outlineAt o vc (startOf + k))
+      rounded (λ (v : ViewData). vertexOf o vc v k ≡ outlineAt o vc (start + k))
       (by-test (eqb k (vc - 1))
       (λ e. forward-last o vc _ k h (eqb-true k (vc - 1) e) ∙ kept k (vc - 1) (eqb-true k (vc - 1) e))
       (λ e. forward-inner o vc _ k h (omega (arith, eqb-false k (vc - 1) e))))
       (forward-inner o vc _ k h l)
 
   -- where the point stands between two vertices, the segment's own vertex follows with the split's bulge,
-  pub round-own-vertex : nearVertex o vc startOf p t ≡ false → vertexOf o vc (roundView o vc i p t s) vc ≡ withBulge (vertexAt o startOf) (s .«start_bulge»)
+  pub round-own-vertex : nearVertex o vc start p t ≡ false → vertexOf o vc (roundView o vc i p t s) vc ≡ withBulge (vertexAt o start) (s .«start_bulge»)
   unfolding vertexOf outlineAt
   round-own-vertex e =
       ap (λ (v : ViewData). vertexOf o vc v vc) (round-between e) ∙ forward-last o vc _ vc (omega arith) refl
-      ∙ ap (λ (n : ℕ). withBulge (vertexAt o n) (s .«start_bulge»)) (wrap-less vc (startOf + vc) (omega arith) (omega (arith, start-below)) ∙ omega arith)
+      ∙ ap (λ (n : ℕ). withBulge (vertexAt o n) (s .«start_bulge»)) (wrap-less vc (start + vc) (omega arith) (omega (arith, below)) ∙ omega arith)
 
   -- and the last is the point.
   pub round-last : vertexOf o vc (roundView o vc i p t s) (roundView o vc i p t s .«end_index_offset» + 1) ≡ atPoint p +0
@@ -156,11 +163,11 @@ module _ (o : List Float) (vc i : ℕ) (p : Point) (t : Tolerance) (s : Splits) 
       rounded (λ (v : ViewData). vertexOf o vc v (v .«end_index_offset» + 1) ≡ atPoint p +0) (forward-beyond o vc _ _ (omega arith)) (forward-beyond o vc _ _ (omega arith))
 
   -- So every vertex of the outline but the segment's own stands in it, at as many places on as it is ahead, and at no other between the ends.
-  pub round-has : (j : ℕ) → j < vc → (startOf ≡ j → ⊥) → vertexOf o vc (roundView o vc i p t s) (ahead vc startOf j) ≡ vertexAt o j
+  pub round-has : (j : ℕ) → j < vc → (start ≡ j → ⊥) → vertexOf o vc (roundView o vc i p t s) (ahead vc start j) ≡ vertexAt o j
   unfolding outlineAt
   round-has j h n =
-      round-vertices (ahead vc startOf j) (positive (λ z. n (ahead-none vc startOf j start-below h z))) (ahead-lt vc startOf j (omega arith))
-      ∙ ap (vertexAt o) (ahead-arrives vc startOf j start-below h)
+      round-vertices (ahead vc start j) (positive (λ z. n (ahead-none vc start j below h z))) (ahead-lt vc start j (omega arith))
+      ∙ ap (vertexAt o) (ahead-arrives vc start j below h)
     where
       positive : {m : ℕ} → (m ≡ 0 → ⊥) → 0 < m
       positive {m} e = omega (arith, e)
@@ -195,8 +202,8 @@ module _ (o : List Float) (vc : ℕ) (closed : Bool) (i : ℕ) (p : Point) (t : 
 -- ---- An outline started at its own first vertex is the whole outline, `from_entire_pline`, where the split keeps that vertex.
 
 -- view data is its fields
-fields : {i j n m : ℕ} {u w : Vertex} {b c : Float} {p q : Point} → i ≡ j → n ≡ m → u ≡ w → b ≡ c → p ≡ q → viewOf i n u b p ≡ viewOf j m w c q
-fields e f g h k = cc
+pub view-fields : {i j n m : ℕ} {u w : Vertex} {b c : Float} {p q : Point} → i ≡ j → n ≡ m → u ≡ w → b ≡ c → p ≡ q → viewOf i n u b p ≡ viewOf j m w c q
+view-fields e f g h k = cc
 
 module _ (o : List Float) (vc : ℕ) (t : Tolerance) (s : Splits) (whole : Whole o vc) (numbers : allWithin o ≡ true) (in-range : tolerable t ≡ true) where
   -- each vertex agrees with itself
@@ -229,7 +236,7 @@ module _ (o : List Float) (vc : ℕ) (t : Tolerance) (s : Splits) (whole : Whole
     own-start-closed i g z =
         ap one.View
         (round-on-vertex o vc i first t s g (subst (λ (k : ℕ). nearVertex o vc k first t ≡ true) (sym z) (near-self 0))
-        ∙ fields z refl keeps (ap (λ (k : ℕ). outlineAt o vc k .bulge) (omega arith)) (ap (λ (u : Vertex). posOf u) comes-back))
+        ∙ view-fields z refl keeps (ap (λ (k : ℕ). outlineAt o vc k .bulge) (omega arith)) (ap (λ (u : Vertex). posOf u) comes-back))
 
     module _ (stays : movesOn o vc (lastEnds o vc 0 first) t ≡ false) where
       -- its last vertex is vc − 1 segments on
@@ -271,4 +278,4 @@ module _ (o : List Float) (vc : ℕ) (t : Tolerance) (s : Splits) (whole : Whole
       unfolding newStartView sliceView slicedView walkOver runningVertex walkedView createView entireView entireOffset
       own-start-open =
           rw (spans, ne-eqb (vc - 1) 0 (omega arith), stands, near-self (vc - 1))
-          (ap one.View (fields refl (omega arith) keeps ends (ap (λ (n : ℕ). posOf (outlineAt o vc n)) (omega arith))))
+          (ap one.View (view-fields refl (omega arith) keeps ends (ap (λ (n : ℕ). posOf (outlineAt o vc n)) (omega arith))))
