@@ -7,5 +7,6 @@ pub mod NewStartLaws
 pub mod SpanTheorems
 pub mod StartTheorems
 pub mod Asked
+pub mod AskedTheorems
 pub mod RustText
 pub mod RustTheorems
