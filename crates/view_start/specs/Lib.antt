@@ -10,3 +10,4 @@ pub mod Asked
 pub mod AskedTheorems
 pub mod RustText
 pub mod RustTheorems
+pub mod StartExamples
