@@ -18,6 +18,10 @@ use Rattle.view_entries.specs.CreateEntry.{createRows, createRefusal}
 use Rattle.view_entries.specs.SingleEntry.{singleRows, singleRefusal}
 use Rattle.view_entries.specs.EntireEntry.{entireRows, entireRefusal}
 use Rattle.verdict_entries.specs.ValidateEntry.{validateRows, validateRefusal}
+use Rattle.view_start.specs.declared.span.Ends.{Ends}
+use Rattle.view_start_entries.specs.SpanEntry.{spanRows, spanRefusal}
+use Rattle.view_start_entries.specs.SliceEntry.{sliceRows, sliceRefusal}
+use Rattle.view_start_entries.specs.NewStartEntry.{newStartRows, newStartRefusal}
 use Rattle.cut.specs.Cuts as cuts
 use Rattle.cut_entries.specs.CutOrder.{cutOrderRows, cutOrderRefusal}
 use Rattle.candidate_entries.specs.Candidates.{candOpenRows, guardRows, candidatesRefusal}
@@ -58,6 +62,19 @@ entire-lowest o vc closed = lowest (entireRows o vc closed) tt
 pub validate-lowest : (o : List Float) (vc : ℕ) (v : View) (startOn endOn : ℕ) → Lowest (validateRows o vc v startOn endOn) (validateRefusal o vc v startOn endOn)
 unfolding validateRefusal
 validate-lowest o vc v startOn endOn = lowest (validateRows o vc v startOn endOn) tt
+
+pub span-lowest : (o : List Float) (vc closed : ℕ) (e : Ends) (t : Tolerance) → Lowest (spanRows o vc closed e t) (spanRefusal o vc closed e t)
+unfolding spanRefusal
+span-lowest o vc closed e t = lowest (spanRows o vc closed e t) tt
+
+pub slice-lowest : (o : List Float) (vc closed : ℕ) (e : Ends) (t : Tolerance) (start end : Split) → Lowest (sliceRows o vc closed e t start end) (sliceRefusal o vc closed e t start end)
+unfolding sliceRefusal
+slice-lowest o vc closed e t start end = lowest (sliceRows o vc closed e t start end) tt
+
+pub new-start-lowest : (o : List Float) (vc closed i : ℕ) (p : Point) (t : Tolerance) (start end : Split)
+    → Lowest (newStartRows o vc closed i p t start end) (newStartRefusal o vc closed i p t start end)
+unfolding newStartRefusal
+new-start-lowest o vc closed i p t start end = lowest (newStartRows o vc closed i p t start end) tt
 
 pub order-lowest : (g : cuts.Given) (source numbers points : ℕ) → Lowest (cutOrderRows g source numbers points) (cutOrderRefusal g source numbers points)
 unfolding cutOrderRefusal
