@@ -4,3 +4,4 @@ pub mod StartRowsLaws
 pub mod SpanEntry
 pub mod SliceEntry
 pub mod NewStartEntry
+pub mod StartEntryTheorems
