@@ -44,6 +44,7 @@ enum mask_refusal {
     MASK_REFUSED_STARTS = 8,    /* the starts of the classes fall back, or lie past the slices */
     MASK_REFUSED_ROOM = 9,      /* a list lent to be written is shorter than the need */
     MASK_REFUSED_STEPS = 10,    /* a walk or a chain took too many steps: proved never to happen */
+    MASK_REFUSED_BACKWARD = 15, /* an open outline with its start index above its end index */
     MASK_REFUSED_RANGE = 18,    /* a whole coordinate is out of range */
     MASK_REFUSED_LOOPS = 19     /* more than 4096 outlines in a report */
 };
@@ -173,6 +174,59 @@ mask_view_answer mask_from_entire_pline(const double *outline, size_t outline_le
 mask_verdict_answer mask_validate_for_source(const double *outline, size_t outline_len, size_t vc,
                                              mask_view view, uint32_t start_on_segment,
                                              uint32_t end_on_segment);
+
+/*
+ * Views that start anywhere. A point comes with the index of the segment that it is on.
+ * `closed` is 1 for a closed outline, 0 for an open one, whose last index has the segment
+ * that runs back to vertex 0. The host splits two segments, and `mask_slice_span` tells
+ * it which:
+ *   start_split  of the segment `start_index` of the span, at the start point
+ *   end_split    with a traverse count of 0, of that segment from the running vertex on,
+ *                at the end point: the running vertex is the start split's split vertex,
+ *                or the segment's own first vertex where the start moved; else of the
+ *                segment at the end index, at the end point
+ * A split that is not used can be any numbers in range: the start's where the start
+ * moved, the end's where the end agrees with the first vertex of its segment and the
+ * traverse count is not 0.
+ */
+typedef struct mask_span_answer {
+    uint32_t refusal;
+    uint32_t moved;        /* 1 where the start stood on the end of its segment and moved on */
+    size_t start_index;    /* the start's segment, after it moved */
+    size_t traverse_count; /* how many segments on the end is: 0 to vc */
+} mask_span_answer;
+
+/*
+ * The segment on which the view between two points starts, and how many segments on it
+ * ends. On an open outline a start moves only where its index is below the end's. Where
+ * both points are on one segment of a closed outline and do not agree, the view stays on
+ * it where the start is nearer to its first vertex, and goes all the way round else.
+ * Refusals 1, 2, 3, 4, 5, 6, 15.
+ */
+mask_span_answer mask_slice_span(const double *outline, size_t outline_len, size_t vc,
+                                 uint32_t closed, size_t start_index, mask_point start_point,
+                                 size_t end_index, mask_point end_point, double tolerance);
+
+/*
+ * The view from the start point to the end point. There is none where nothing lies
+ * between them. Refusals 1, 2, 3, 4, 5, 6, 15.
+ */
+mask_view_answer mask_from_slice_points(const double *outline, size_t outline_len, size_t vc,
+                                        uint32_t closed, size_t start_index,
+                                        mask_point start_point, size_t end_index,
+                                        mask_point end_point, double tolerance,
+                                        mask_split start_split, mask_split end_split);
+
+/*
+ * The view that starts an outline at a point of it. A closed outline is followed once
+ * round: its span is that from the point to the point, and `end_split` is not used. An
+ * open one is followed to its last vertex, with the span to that vertex at the last
+ * index; there is no view where the point is that vertex. Refusals 1, 2, 3, 4, 5, 6.
+ */
+mask_view_answer mask_from_new_start(const double *outline, size_t outline_len, size_t vc,
+                                     uint32_t closed, size_t start_index,
+                                     mask_point start_point, double tolerance,
+                                     mask_split start_split, mask_split end_split);
 
 /*
  * The cuts of one outline. `source` says which it is, 1 or 2, and `outline` is that

@@ -1,7 +1,7 @@
 //! A call of an entry, as words. Every number, count and code is one 64-bit word; an f64 is its
 //! bits. So one form serves the archive, the original, the damage, the record and the print.
 
-/// The ten entries, in the order of the header.
+/// The entries that are compared. Their numbers are those of the record, so a new one comes last.
 #[derive(Debug, Clone, Copy, PartialEq, Eq, PartialOrd, Ord)]
 pub enum Entry {
     ViewVertex,
@@ -14,9 +14,12 @@ pub enum Entry {
     Prune,
     Stitch,
     AreaPass,
+    SliceSpan,
+    FromSlicePoints,
+    FromNewStart,
 }
 
-pub const ENTRIES: [Entry; 10] = [
+pub const ENTRIES: [Entry; 13] = [
     Entry::ViewVertex,
     Entry::Create,
     Entry::CreateOnSingleSegment,
@@ -27,6 +30,9 @@ pub const ENTRIES: [Entry; 10] = [
     Entry::Prune,
     Entry::Stitch,
     Entry::AreaPass,
+    Entry::SliceSpan,
+    Entry::FromSlicePoints,
+    Entry::FromNewStart,
 ];
 
 /// What a parameter's words are.
@@ -171,6 +177,66 @@ const STITCH: Shape = &[
 
 const AREA_PASS: Shape = &[("areas", Numbers), ("loops", Count), ("limit", Number)];
 
+const SLICE_SPAN: Shape = &[
+    ("outline", Numbers),
+    ("vc", Count),
+    ("closed", Code),
+    ("start_index", Count),
+    ("start_point.x", Number),
+    ("start_point.y", Number),
+    ("end_index", Count),
+    ("end_point.x", Number),
+    ("end_point.y", Number),
+    ("tolerance", Number),
+];
+
+const FROM_SLICE_POINTS: Shape = &[
+    ("outline", Numbers),
+    ("vc", Count),
+    ("closed", Code),
+    ("start_index", Count),
+    ("start_point.x", Number),
+    ("start_point.y", Number),
+    ("end_index", Count),
+    ("end_point.x", Number),
+    ("end_point.y", Number),
+    ("tolerance", Number),
+    ("start_split.updated_start.x", Number),
+    ("start_split.updated_start.y", Number),
+    ("start_split.updated_start.bulge", Number),
+    ("start_split.split_vertex.x", Number),
+    ("start_split.split_vertex.y", Number),
+    ("start_split.split_vertex.bulge", Number),
+    ("end_split.updated_start.x", Number),
+    ("end_split.updated_start.y", Number),
+    ("end_split.updated_start.bulge", Number),
+    ("end_split.split_vertex.x", Number),
+    ("end_split.split_vertex.y", Number),
+    ("end_split.split_vertex.bulge", Number),
+];
+
+const FROM_NEW_START: Shape = &[
+    ("outline", Numbers),
+    ("vc", Count),
+    ("closed", Code),
+    ("start_index", Count),
+    ("start_point.x", Number),
+    ("start_point.y", Number),
+    ("tolerance", Number),
+    ("start_split.updated_start.x", Number),
+    ("start_split.updated_start.y", Number),
+    ("start_split.updated_start.bulge", Number),
+    ("start_split.split_vertex.x", Number),
+    ("start_split.split_vertex.y", Number),
+    ("start_split.split_vertex.bulge", Number),
+    ("end_split.updated_start.x", Number),
+    ("end_split.updated_start.y", Number),
+    ("end_split.updated_start.bulge", Number),
+    ("end_split.split_vertex.x", Number),
+    ("end_split.split_vertex.y", Number),
+    ("end_split.split_vertex.bulge", Number),
+];
+
 const CUT_ROOM: Shape = &[("cut_at", Counts), ("cut", Numbers)];
 const CANDIDATE_ROOM: Shape = &[("cand_at", Counts), ("cand", Numbers), ("probe", Numbers)];
 const SLICE_ROOM: Shape = &[("slice_at", Counts), ("slice", Numbers)];
@@ -200,6 +266,9 @@ impl Entry {
             Entry::Prune => "mask_prune",
             Entry::Stitch => "mask_stitch",
             Entry::AreaPass => "mask_area_pass",
+            Entry::SliceSpan => "mask_slice_span",
+            Entry::FromSlicePoints => "mask_from_slice_points",
+            Entry::FromNewStart => "mask_from_new_start",
         }
     }
 
@@ -216,6 +285,9 @@ impl Entry {
             Entry::Prune => PRUNE,
             Entry::Stitch => STITCH,
             Entry::AreaPass => AREA_PASS,
+            Entry::SliceSpan => SLICE_SPAN,
+            Entry::FromSlicePoints => FROM_SLICE_POINTS,
+            Entry::FromNewStart => FROM_NEW_START,
         }
     }
 
@@ -243,6 +315,8 @@ impl Entry {
             Entry::Prune => &[1, 2, 3, 5, 6, 7, 9],
             Entry::Stitch => &[1, 2, 3, 4, 5, 6, 7, 8, 9],
             Entry::AreaPass => &[1, 4, 5, 9],
+            Entry::SliceSpan | Entry::FromSlicePoints => &[1, 2, 3, 4, 5, 6, 15],
+            Entry::FromNewStart => &[1, 2, 3, 4, 5, 6],
         }
     }
 
@@ -251,8 +325,8 @@ impl Entry {
         match self {
             Entry::ViewVertex | Entry::Prune => 5,
             Entry::Create | Entry::CreateOnSingleSegment | Entry::FromEntirePline => 11,
-            Entry::ValidateForSource => 11,
-            Entry::Stitch => 4,
+            Entry::ValidateForSource | Entry::FromSlicePoints | Entry::FromNewStart => 11,
+            Entry::Stitch | Entry::SliceSpan => 4,
             Entry::CutOrder | Entry::Candidates | Entry::AreaPass => 2,
         }
     }

@@ -4,7 +4,7 @@
 //! geometry gives.
 
 use crate::call::{Call, Entry, Outcome, words_of};
-use crate::cases::{self, CandidateLists, CreateCase, Shared, ViewCase};
+use crate::cases::{self, CandidateLists, CreateCase, Place, Shared, ViewCase};
 use crate::random::Random;
 use crate::tally::{Family, Tally};
 use crate::theirs::{self, PruneSource};
@@ -26,6 +26,9 @@ pub fn scenario(tally: &mut Tally, rng: &mut Random) {
             Entry::Prune,
             Entry::Stitch,
             Entry::AreaPass,
+            Entry::SliceSpan,
+            Entry::FromSlicePoints,
+            Entry::FromNewStart,
         ] {
             let call = any_call(rng, entry);
             tally.compare(FAMILY, &call);
@@ -50,7 +53,73 @@ pub fn any_call(rng: &mut Random, entry: Entry) -> Call {
         Entry::Prune => prune(rng),
         Entry::Stitch => stitch(rng),
         Entry::AreaPass => area_pass(rng),
+        Entry::SliceSpan => {
+            let points = TwoPoints::new(rng);
+            cases::slice_span(&points.outline, points.closed, points.ends, points.t)
+        }
+        Entry::FromSlicePoints => {
+            let points = TwoPoints::new(rng);
+            let splits = [any_split(rng), any_split(rng)];
+            cases::from_slice_points(
+                &points.outline,
+                points.closed,
+                points.ends,
+                points.t,
+                splits,
+            )
+        }
+        Entry::FromNewStart => {
+            let points = TwoPoints::new(rng);
+            let splits = [any_split(rng), any_split(rng)];
+            cases::from_new_start(
+                &points.outline,
+                points.closed,
+                points.ends[0],
+                points.t,
+                splits,
+            )
+        }
     }
+}
+
+/// Two points of an outline, at or near its vertices or anywhere.
+struct TwoPoints {
+    outline: Vec<f64>,
+    closed: bool,
+    ends: [Place; 2],
+    t: f64,
+}
+
+impl TwoPoints {
+    fn new(rng: &mut Random) -> TwoPoints {
+        let t = tolerance(rng);
+        let outline = outline(rng, t, 2);
+        let vc = outline.len() / 3;
+        let closed = rng.once_in(2);
+        let mut indexes = [rng.below(vc), rng.below(vc)];
+        if !closed {
+            indexes.sort_unstable();
+        }
+        let ends = indexes.map(|index| {
+            let vertex = position(&outline, index + rng.below(2));
+            let point = match rng.below(4) {
+                0 => [number(rng), number(rng)],
+                _ => near_point(rng, &vertex, t),
+            };
+            Place { index, point }
+        });
+        TwoPoints {
+            outline,
+            closed,
+            ends,
+            t,
+        }
+    }
+}
+
+fn any_split(rng: &mut Random) -> [f64; 6] {
+    let (part, split) = (vertex(rng), vertex(rng));
+    [part[0], part[1], part[2], split[0], split[1], split[2]]
 }
 
 fn tolerance(rng: &mut Random) -> f64 {

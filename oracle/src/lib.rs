@@ -26,6 +26,8 @@ pub mod realistic;
 #[cfg(watched)]
 pub mod record;
 #[cfg(watched)]
+pub mod starts;
+#[cfg(watched)]
 pub mod straight;
 #[cfg(watched)]
 pub mod tally;

@@ -2,9 +2,9 @@
 
 use oracle::call::Outcome;
 use oracle::random::Random;
-use oracle::record::Record;
+use oracle::record::{Origin, Record};
 use oracle::tally::{Tally, quiet_caught_panics};
-use oracle::{damaged, findings, hostile, limits, ours, print, realistic, refusal, theirs};
+use oracle::{damaged, findings, hostile, limits, ours, print, realistic, refusal, starts, theirs};
 use std::process::ExitCode;
 
 const USAGE: &str = "usage:
@@ -47,6 +47,9 @@ fn scenario(tally: &mut Tally, seed: u64, number: u64) {
     if number % 500 == 0 {
         limits::scenario(tally, &mut rng);
     }
+    if number % 100 == 50 {
+        starts::scenario(tally, &mut rng);
+    }
 }
 
 fn compare(count: &str, seed: &str) -> Option<ExitCode> {
@@ -87,7 +90,14 @@ fn record(file: &str, count: &str, seed: &str) -> Option<ExitCode> {
             break;
         }
     }
-    let record = tally.record.take()?;
+    let mut record = tally.record.take()?;
+    for call in starts::corners() {
+        let (expected, origin) = match refusal::expected(&call) {
+            0 => (theirs::answer(&call), Origin::Original),
+            number => (Outcome::refused(&call, number), Origin::Table),
+        };
+        record.add(&call, &expected, origin);
+    }
     let bytes = record.bytes();
     if let Err(fault) = std::fs::write(file, &bytes) {
         eprintln!("compare: {file}: {fault}");

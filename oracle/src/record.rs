@@ -1,15 +1,15 @@
 //! Writes compared cases to a file of words. RECORD.md describes the layout.
 
-use crate::call::{Call, ENTRIES, Outcome};
+use crate::call::{Call, ENTRIES, Entry, Outcome};
 use crate::print::input_words;
 use crate::random::Random;
-use crate::tally::Family;
+use crate::tally::{FAMILIES, Family, NUMBERS};
 
 /// "MASKVEC1", as bytes in the order of the file.
 const MAGIC: u64 = u64::from_le_bytes(*b"MASKVEC1");
 
 /// The longest case kept, in words, by entry.
-const LONGEST: [usize; 10] = [70, 90, 60, 50, 70, 140, 210, 190, 300, 60];
+const LONGEST: [usize; ENTRIES.len()] = [70, 90, 60, 50, 70, 140, 210, 190, 300, 60, 60, 80, 80];
 
 /// `mask_validate_for_source` gives 2 for an outline that is too long, and for no other. So one long
 /// case is kept.
@@ -22,24 +22,32 @@ pub enum Origin {
     Table = 1,
 }
 
+/// The family whose calls of an entry are as they occur.
+fn usual(entry: Entry) -> Family {
+    match entry {
+        Entry::SliceSpan | Entry::FromSlicePoints | Entry::FromNewStart => Family::Starts,
+        _ => Family::Realistic,
+    }
+}
+
 /// Keeps some of the cases offered: as many of each entry, from every family, with every refusal.
 pub struct Record {
     /// How many are still wanted, by entry, family and refusal number.
-    wanted: [[[usize; 10]; 4]; 10],
+    wanted: [[[usize; NUMBERS]; FAMILIES.len()]; ENTRIES.len()],
     cases: Vec<Vec<u64>>,
     choice: Random,
 }
 
 impl Record {
-    /// Room for about `count` cases: one in ten for each entry. Of those three in ten are realistic,
+    /// Room for as many cases of each entry, a tenth of `count`. Of those three in ten are as they occur,
     /// three hostile, four damaged; and the damaged ones are shared out over the refusal numbers.
     pub fn new(count: usize, seed: u64) -> Record {
         let each = count.div_ceil(10);
         let accepted = each * 3 / 10;
-        let mut wanted = [[[0; 10]; 4]; 10];
+        let mut wanted = [[[0; NUMBERS]; FAMILIES.len()]; ENTRIES.len()];
         for entry in ENTRIES {
             let of_entry = &mut wanted[entry.number()];
-            of_entry[Family::Realistic as usize][0] = accepted;
+            of_entry[usual(entry) as usize][0] = accepted;
             of_entry[Family::Hostile as usize][0] = accepted;
             let damaged = &mut of_entry[Family::Damaged as usize];
             let numbers = entry.refusals();
@@ -68,6 +76,11 @@ impl Record {
         }
         *left -= 1;
         self.cases.push(words);
+    }
+
+    /// A case that is kept whatever there is of its kind.
+    pub fn add(&mut self, call: &Call, expected: &Outcome, origin: Origin) {
+        self.cases.push(case_words(call, expected, origin));
     }
 
     /// Whether every place is taken.

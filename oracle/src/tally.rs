@@ -13,14 +13,19 @@ pub enum Family {
     Hostile,
     Damaged,
     Limits,
+    Starts,
 }
 
-pub const FAMILIES: [Family; 4] = [
+pub const FAMILIES: [Family; 5] = [
     Family::Realistic,
     Family::Hostile,
     Family::Damaged,
     Family::Limits,
+    Family::Starts,
 ];
+
+/// One more than the largest refusal number.
+pub const NUMBERS: usize = 16;
 
 /// Differences that are written out. The others are only counted.
 const SHOWN: u64 = 20;
@@ -40,8 +45,8 @@ pub fn quiet_caught_panics() {
 
 #[derive(Default)]
 pub struct Tally {
-    compared: [[u64; 10]; 4],
-    refused: [[u64; 11]; 10],
+    compared: [[u64; ENTRIES.len()]; FAMILIES.len()],
+    refused: [[u64; NUMBERS]; ENTRIES.len()],
     ended: [u64; 4],
     extra: BTreeMap<&'static str, u64>,
     explained: BTreeMap<&'static str, u64>,
@@ -163,8 +168,8 @@ impl Tally {
     /// Prints the counts. Gives the number of unexplained differences.
     pub fn report(&self) -> u64 {
         println!(
-            "{:30} {:>10} {:>10} {:>10} {:>10} {:>10}",
-            "entry calls compared", "realistic", "hostile", "damaged", "limits", "all"
+            "{:30} {:>10} {:>10} {:>10} {:>10} {:>10} {:>10}",
+            "entry calls compared", "realistic", "hostile", "damaged", "limits", "starts", "all"
         );
         for entry in ENTRIES {
             self.report_row(entry.name(), |family| {

@@ -41,6 +41,8 @@ pub enum Refusal {
     Room,
     /// 10: a walk or a chain took too many steps. It is proved that this never happens.
     Steps,
+    /// 15: on an open outline the start index is above the end index.
+    Backward,
     /// 18: a whole coordinate is out of range.
     Range,
     /// 19: a report has more than 4,096 outlines.
@@ -64,6 +66,7 @@ impl Refusal {
             8 => Refusal::Starts,
             9 => Refusal::Room,
             10 => Refusal::Steps,
+            15 => Refusal::Backward,
             18 => Refusal::Range,
             19 => Refusal::Loops,
             other => Refusal::Other(other),
@@ -96,6 +99,7 @@ impl Refusal {
             ),
             Refusal::Room => (9, "lent room is smaller than the need"),
             Refusal::Steps => (10, "a walk or a chain took too many steps"),
+            Refusal::Backward => (15, "an open outline's start index is above its end index"),
             Refusal::Range => (18, "a whole coordinate is out of range"),
             Refusal::Loops => (19, "too many outlines in a report"),
             Refusal::Other(number) => (number, "a reason that this wrapper does not know"),
@@ -130,7 +134,7 @@ mod tests {
         for number in 1..=40 {
             let refusal = Refusal::from_number(number).unwrap();
             assert_eq!(refusal.number(), number);
-            let known = number <= 10 || number == 18 || number == 19;
+            let known = number <= 10 || [15, 18, 19].contains(&number);
             assert_eq!(matches!(refusal, Refusal::Other(_)), !known);
         }
     }
@@ -138,7 +142,7 @@ mod tests {
     #[test]
     fn every_refusal_has_a_sentence_of_its_own() {
         let mut sentences: Vec<String> = (1..=11)
-            .chain(18..=19)
+            .chain([15, 18, 19])
             .map(|number| Refusal::from_number(number).unwrap().to_string())
             .collect();
         assert_eq!(
@@ -151,7 +155,7 @@ mod tests {
         );
         sentences.sort();
         sentences.dedup();
-        assert_eq!(sentences.len(), 13);
+        assert_eq!(sentences.len(), 14);
     }
 
     #[test]
