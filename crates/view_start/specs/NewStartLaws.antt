@@ -1,5 +1,5 @@
 -- Laws by which the views from a new start are proved: a callee's answer in place of its definition.
-use Prim.Native.Nat.{ℕ, _-_}
+use Prim.Native.Nat.{ℕ, _-_, _<_}
 use mathlib.Core.Bool.{Bool, true, false}
 use mathlib.Core.Path.{_≡_, sym, ap, subst, _∙_}
 use mathlib.Core.List.{List}
@@ -11,6 +11,7 @@ use Rattle.outline.specs.declared.point.Vertex.{Vertex}
 use Rattle.outline.specs.Points.{posOf}
 use Rattle.outline.specs.Outline.{Segment, outlineAt}
 use Rattle.view.specs.declared.data.ViewData.{ViewData}
+use Rattle.view.specs.declared.create.Walk.{Walk}
 use Rattle.view.specs.declared.create.OneSegment.{OneSegment}
 use Rattle.view.specs.declared.create.OneSegment.the-variants as one
 use Rattle.view.specs.Create.{WalkFit, createView}
@@ -29,8 +30,11 @@ module _ (o : List Float) (vc i : ℕ) (p : Point) (e : Ends) (g : Segment o vc 
   pub last-ends : e ≡ lastEnds o vc i p → EndsFit o vc e
   last-ends q = subst (EndsFit o vc) (sym q) (record { whole = g .whole; starts = g .inside; ends = omega arith })
 
-  pub round-fits : (t : Tolerance) (s : Splits) (m : Span) → e ≡ roundEnds i p → m ≡ spanOf o vc e t → WalkFit o vc (roundWalk vc (m .«start_index») p s)
-  round-fits t s m f q = let h = span-fits o vc e t m (round-ends f) q in record { whole = g .whole; inside = h .starts; walks = omega arith }
+  pub round-inside : (t : Tolerance) (m : Span) → e ≡ roundEnds i p → m ≡ spanOf o vc e t → m .«start_index» < vc
+  round-inside t m f q = span-fits o vc e t m (round-ends f) q .starts
+
+pub round-fits : (o : List Float) (vc i : ℕ) (w : Walk) → Segment o vc i → w .«intersect_index» < vc → 0 < w .«traverse_count» → WalkFit o vc w
+round-fits o vc i w g h k = record { whole = g .whole; inside = h; walks = k }
 
 module _ (o : List Float) (vc i : ℕ) (p : Point) (t : Tolerance) (s : Splits) where
   pub last-by : (v : Vertex) (q : Point) → v ≡ outlineAt o vc (vc - 1) → q ≡ posOf v → endsOf false i p (vc - 1) q ≡ lastEnds o vc i p
@@ -48,4 +52,4 @@ module _ (o : List Float) (vc i : ℕ) (p : Point) (t : Tolerance) (s : Splits) 
   unfolding newStartView
   new-open closed e r c f q = rw c (q ∙ ap (λ (x : Ends). sliceView o vc x t s) f)
 
-pub ruleset news = (round-ends, last-ends, round-fits, last-by, round-by, new-closed, new-open)
+pub ruleset news = (round-ends, last-ends, round-inside, round-fits, last-by, round-by, new-closed, new-open)

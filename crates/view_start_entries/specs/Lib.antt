@@ -5,3 +5,4 @@ pub mod SpanEntry
 pub mod SliceEntry
 pub mod NewStartEntry
 pub mod StartEntryTheorems
+pub mod StartEntryExamples
