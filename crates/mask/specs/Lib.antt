@@ -1,4 +1,4 @@
 pub mod Accept
 pub mod Pipeline
 pub mod OneAnswer
-pub mod Lowest
+pub mod First

@@ -11,9 +11,10 @@ use lib.ListN.{length, getD}
 use Rattle.basis.specs.Choice.{by-test}
 use Rattle.basis.specs.EachLaws.{each-at}
 use Rattle.basis.specs.Refuse.{Row, firstOf, answer, countFor}
-use Rattle.basis.specs.RefuseLaws.{Clear, clear, clear-left, clear-right, none-clear, length-ok, one-answer}
+use Rattle.basis.specs.RefuseLaws.{Clear, clear, clear-left, clear-right, none-clear, length-ok, one-answer, first-found, first-later}
 use Rattle.stitch_run.specs.Demand3Theorems.{no-rounds-fault}
-use Rattle.stitch_run.specs.Stitch.{Given, sliceOffset, sumBelow, weightAt, needFor, needOf}
+use Rattle.stitch_run.specs.Stitch.{Given, sumBelow, weightAt, needFor, needOf}
+use Rattle.slice.specs.Slice.{codesAt}
 use Rattle.stitch.specs.Lent.{Lists}
 use Rattle.stitch_entries.specs.StitchRows.{listRows, codeRows, numberRows, offsetsInside, indexRows, roomRows}
 use Rattle.stitch_entries.specs.StitchEntry.{shapeRows, guardRows, stitchRefusal, stitchNumber}
@@ -21,7 +22,6 @@ use Rattle.fields.specs.Fields.{size}
 use Rattle.record.specs.Form.{form1}
 use Rattle.record.specs.Record.{headIn, stitchOf, stitchIn, frameRows, lengthIn, takenRows, countRows, readRefusal}
 use Rattle.record.specs.Record as reading
-use Rattle.record.specs.RecordLaws.{first-found, first-later}
 use Rattle.record_replay.specs.declared.replay.ReplayAnswer.{ReplayAnswer}
 use Rattle.record_replay.specs.Replayed.{heldIn, formNumber, replayNumber, ReplayLeft}
 
@@ -104,7 +104,7 @@ module _ (b : List ℕ) (z : formNumber b ≡ 0) where
           ∙ mul-div-right (g .slices) (omega arith)
 
       weight-small : (i : ℕ) → i < g .slices → weightAt (g .sliceAt) i ≤ 65
-      unfolding weightAt sliceOffset offsetsInside
+      unfolding weightAt codesAt offsetsInside
       weight-small i h =
           omega (
             arith,

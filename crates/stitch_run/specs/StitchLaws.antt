@@ -8,14 +8,15 @@ use native.Mathlib.Numerals.{add-two}
 use native.Mathlib.Omega.{arith}
 use lib.ListN.{length}
 use lib.Ieee.{Float}
-use Rattle.basis.specs.Number.{Tolerance}
+use Rattle.basis.specs.declared.number.Tolerance.{Tolerance}
 use Rattle.outline.specs.declared.point.Vertex.{Vertex}
 use Rattle.outline.specs.Points.{posOf, withBulge, pointsAgree}
 use Rattle.view.specs.declared.data.ViewData.{ViewData}
 use Rattle.view.specs.View.{vertexOf, vertexCount}
 use Rattle.select.specs.SelectTheorems.{selected-among}
 use Rattle.stitch_vertices.specs.Vertices.{addVertex, addFirst, addView, dropLast}
-use Rattle.stitch_run.specs.Stitch.{Given, sliceOffset, sliceView, sliceOutline, sliceCount, sliceVertex, addSlice, rulesOf, weightAt}
+use Rattle.stitch_run.specs.Stitch.{Given, sliceOutline, sliceCount, sliceVertex, addSlice, rulesOf, weightAt}
+use Rattle.slice.specs.Slice.{sliceView, sliceOffset}
 use Rattle.stitch_run.specs.RunLaws.{Among}
 use Rattle.stitch_run.specs.NeedLaws.{Grows}
 
