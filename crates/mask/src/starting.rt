@@ -1,6 +1,7 @@
 // Views that start anywhere.
 ghost use mathlib.Core.Path.{_≡_};
 ghost use lib.Dec.{eqb};
+ghost use Rattle.basis.specs.Number.{toleranceOf};
 ghost use Rattle.view_start.specs.Span.{endsOf};
 ghost use Rattle.view_start_entries.specs.SpanEntry.{spanAnswer};
 ghost use Rattle.view_start_entries.specs.SliceEntry.{sliceAnswer};
@@ -22,7 +23,7 @@ pub extern "C" fn mask_slice_span(
     end_point: Point,
     tolerance: f64,
 ) -> SpanAnswer
-    ensures { λ r. ⌜ r ≡ spanAnswer (now (outline .entry)) vc closed (endsOf (eqb closed 1) «start_index» «start_point» «end_index» «end_point») tolerance ⌝ }
+    ensures { λ r. ⌜ r ≡ spanAnswer (now (outline .entry)) vc closed (endsOf (eqb closed 1) «start_index» «start_point» «end_index» «end_point») (toleranceOf tolerance) ⌝ }
 {
     view_start_entries::span::entry(
         outline,
@@ -50,7 +51,7 @@ pub extern "C" fn mask_from_slice_points(
     start_split: Split,
     end_split: Split,
 ) -> ViewAnswer
-    ensures { λ r. ⌜ r ≡ sliceAnswer (now (outline .entry)) vc closed (endsOf (eqb closed 1) «start_index» «start_point» «end_index» «end_point») tolerance «start_split» «end_split» ⌝ }
+    ensures { λ r. ⌜ r ≡ sliceAnswer (now (outline .entry)) vc closed (endsOf (eqb closed 1) «start_index» «start_point» «end_index» «end_point») (toleranceOf tolerance) «start_split» «end_split» ⌝ }
 {
     view_start_entries::slice_points::entry(
         outline,
@@ -78,7 +79,7 @@ pub extern "C" fn mask_from_new_start(
     start_split: Split,
     end_split: Split,
 ) -> ViewAnswer
-    ensures { λ r. ⌜ r ≡ newStartAnswer (now (outline .entry)) vc closed «start_index» «start_point» tolerance «start_split» «end_split» ⌝ }
+    ensures { λ r. ⌜ r ≡ newStartAnswer (now (outline .entry)) vc closed «start_index» «start_point» (toleranceOf tolerance) «start_split» «end_split» ⌝ }
 {
     view_start_entries::new_start::entry(
         outline,

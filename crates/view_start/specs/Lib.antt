@@ -1,12 +1,10 @@
 pub mod Span
-pub mod SpanLaws
 pub mod SlicePoints
-pub mod SlicePointsLaws
 pub mod NewStart
-pub mod NewStartLaws
+pub mod Asked
+pub mod SpanLaws
 pub mod SpanTheorems
 pub mod StartTheorems
-pub mod Asked
 pub mod AskedTheorems
 pub mod RustText
 pub mod RustTheorems

@@ -3,7 +3,7 @@ use Prim.Native.Nat.{ℕ, _-_, _<_}
 use mathlib.Core.Bool.{Bool, true, false, cond}
 use mathlib.Core.List.{List}
 use lib.Ieee.{Float}
-use Rattle.basis.specs.Number.{Tolerance}
+use Rattle.basis.specs.declared.number.Tolerance.{Tolerance}
 use Rattle.outline.specs.declared.point.Point.{Point}
 use Rattle.outline.specs.Points.{posOf}
 use Rattle.outline.specs.Outline.{Whole, outlineAt}

@@ -8,7 +8,7 @@ use lib.Dec.{leb, ltb, eqb}
 use lib.Ieee.{Float}
 use borrow.Author.Tests.{leb-true, leb-false, eqb-true, eqb-false, lt-ltb, le-ltb, eq-eqb, ne-eqb}
 use Rattle.basis.specs.Choice.{by-test}
-use Rattle.basis.specs.Number.{Tolerance}
+use Rattle.basis.specs.declared.number.Tolerance.{Tolerance}
 use Rattle.basis.specs.OrderLaws.{agree-sym}
 use Rattle.outline.specs.declared.point.Point.{Point}
 use Rattle.outline.specs.declared.point.Vertex.{Vertex}
@@ -24,10 +24,9 @@ use Rattle.view_start.specs.declared.span.Ends.{Ends}
 use Rattle.view_start.specs.declared.span.Span.{Span}
 use Rattle.view_start.specs.declared.slice_points.Splits.{Splits}
 use Rattle.view_start.specs.Span.{EndsFit, endsOf, canMove, movesOn, startIndex, ahead, decided, startNearer, traverse, spanWith, spanOf}
-use Rattle.view_start.specs.SpanLaws.{start-lt}
+use Rattle.view_start.specs.SpanLaws.{start-lt, last-ends}
 use Rattle.view_start.specs.SlicePoints.{runningVertex, walkFrom, walkOver, collapses, walkedView, slicedView, sliceView}
 use Rattle.view_start.specs.NewStart.{roundEnds, lastEnds, newEnds, roundView, newStartView}
-use Rattle.view_start.specs.NewStartLaws.{last-ends}
 use Rattle.view_start.specs.StartTheorems.{view-fields, startOf, start-below, round-on-vertex, round-between}
 use Rattle.view_start.specs.SpanTheorems.{ahead-up, ahead-round}
 use Rattle.view_start.specs.Asked.{Asked, Parts, asked, startAsked, endAsked, handedIn}
@@ -36,7 +35,7 @@ use Rattle.view_start.specs.RustText as rust
 -- points agree either way round
 agree-swap : (t : Tolerance) (p q : Point) → pointsAgree t p q ≡ pointsAgree t q p
 unfolding pointsAgree
-agree-swap t p q = ap₂ _&&_ (agree-sym t (p .x) (q .x)) (agree-sym t (p .y) (q .y))
+agree-swap t p q = ap₂ _&&_ (agree-sym (t .position) (p .x) (q .x)) (agree-sym (t .position) (p .y) (q .y))
 
 -- ---- the Rust's indexes are the wrapped ones
 module _ (vc i : ℕ) (inside : i < vc) where

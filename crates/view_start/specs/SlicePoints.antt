@@ -1,10 +1,10 @@
 -- Request K5: the view between two points of an outline, the Rust's `from_slice_points`, "with splits supplied as for slicing".
-use Prim.Native.Nat.{ℕ, _≤_, _<_}
+use Prim.Native.Nat.{ℕ}
 use mathlib.Core.Bool.{Bool, cond, _&&_}
 use mathlib.Core.List.{List}
 use lib.Dec.{eqb}
 use lib.Ieee.{Float}
-use Rattle.basis.specs.Number.{Tolerance}
+use Rattle.basis.specs.declared.number.Tolerance.{Tolerance}
 use Rattle.outline.specs.declared.point.Vertex.{Vertex}
 use Rattle.outline.specs.Points.{posOf, pointsAgree}
 use Rattle.outline.specs.Outline.{outlineAt}
@@ -15,13 +15,7 @@ use Rattle.view.specs.Create.{nearVertex, createView, singleView}
 use Rattle.view_start.specs.declared.span.Ends.{Ends}
 use Rattle.view_start.specs.declared.span.Span.{Span}
 use Rattle.view_start.specs.declared.slice_points.Splits.{Splits}
-use Rattle.view_start.specs.Span.{EndsFit, spanOf}
-
--- a span of two points: from a segment of the outline, at most once round it
-pub record SpanFit (o : List Float) (vc : ℕ) (e : Ends) (s : Span) : Type 0 where
-  pub fit : EndsFit o vc e
-  pub starts : s .«start_index» < vc
-  pub reaches : s .«traverse_count» ≤ vc
+use Rattle.view_start.specs.Span.{spanOf}
 
 -- the vertex that the view runs on from: a start that moved is on the outline's own vertex, any other is split off at the start point
 unfoldable pub runningVertex : List Float → ℕ → Span → Vertex → Vertex

@@ -5,7 +5,7 @@ use mathlib.Core.Bool.{Bool, not, cond, _&&_, _||_}
 use mathlib.Core.List.{List}
 use lib.Dec.{ltb, eqb}
 use lib.Ieee.{Float, lt}
-use Rattle.basis.specs.Number.{Tolerance}
+use Rattle.basis.specs.declared.number.Tolerance.{Tolerance}
 use Rattle.outline.specs.declared.point.Point.{Point}
 use Rattle.outline.specs.Points.{posOf, pointsAgree, distSquared}
 use Rattle.outline.specs.Outline.{Whole, wrap, outlineAt}
@@ -85,3 +85,9 @@ pub record Both (vc a b : ℕ) : Type 0 where
 pub record StartFit (o : List Float) (vc : ℕ) (e : Ends) (i : ℕ) : Type 0 where
   pub fit : EndsFit o vc e
   pub inside : i < vc
+
+-- a span of two points: from a segment of the outline, at most once round it
+pub record SpanFit (o : List Float) (vc : ℕ) (e : Ends) (s : Span) : Type 0 where
+  pub fit : EndsFit o vc e
+  pub starts : s .«start_index» < vc
+  pub reaches : s .«traverse_count» ≤ vc

@@ -1,70 +1,58 @@
--- Laws by which the span is proved: a callee's answer in place of its definition.
-use Prim.Native.Nat.{ℕ, _+_, _-_, _<_}
-use mathlib.Core.Bool.{Bool, true, false, not}
-use mathlib.Core.Path.{_≡_, sym, ap, subst, _∙_}
+-- Laws of the span and of what stands on it.
+use Prim.Native.Nat.{ℕ, _+_, _-_, _≤_, _<_}
+use mathlib.Core.Bool.{Bool, true, false}
+use mathlib.Core.Path.{_≡_, refl, sym, subst}
 use mathlib.Core.List.{List}
 use native.Mathlib.Omega.{arith}
-use lib.Ieee.{Float, lt}
-use borrow.Author.Tests.{eq-eqb, ne-eqb, not-true, not-false}
-use Rattle.basis.specs.Number.{Tolerance}
+use lib.Ieee.{Float}
+use Rattle.basis.specs.Choice.{by-test}
+use Rattle.basis.specs.declared.number.Tolerance.{Tolerance}
 use Rattle.outline.specs.declared.point.Point.{Point}
-use Rattle.outline.specs.declared.point.Vertex.{Vertex}
-use Rattle.outline.specs.Points.{posOf, pointsAgree, distSquared}
-use Rattle.outline.specs.Outline.{outlineAt}
+use Rattle.outline.specs.Outline.{Segment}
 use Rattle.outline.specs.OutlineLaws.{wrap-lt}
+use Rattle.view.specs.declared.create.Walk.{Walk}
+use Rattle.view.specs.Create.{WalkFit}
 use Rattle.view_start.specs.declared.span.Ends.{Ends}
-use Rattle.view_start.specs.Span.{EndsFit, StartFit, movesOn, startIndex, ahead, decided, startNearer, traverse, spanWith, spanOf}
+use Rattle.view_start.specs.declared.span.Span.{Span}
+use Rattle.view_start.specs.declared.slice_points.Splits.{Splits}
+use Rattle.view_start.specs.Span.{EndsFit, SpanFit, startIndex, ahead, decided, startNearer, traverse, spanOf}
+use Rattle.view_start.specs.SlicePoints.{walkOver}
+use Rattle.view_start.specs.NewStart.{roundEnds, lastEnds}
 
-module _ (e : Ends) (n : ℕ) (t : Tolerance) where
-  pub decided-far : (n ≡ 0 → ⊥) → false ≡ decided e n t
-  unfolding decided
-  decided-far h = rw (ne-eqb n 0 h)
-
-  pub decided-open : n ≡ 0 → not (e .closed) ≡ true → false ≡ decided e n t
-  unfolding decided
-  decided-open z h = rw (eq-eqb n 0 z, not-true (e .closed) h)
-
-  pub decided-by : (b : Bool) → n ≡ 0 → not (e .closed) ≡ false → b ≡ pointsAgree t (e .«start_point») (e .«end_point») → not b ≡ decided e n t
-  unfolding decided
-  decided-by b z h q = rw (eq-eqb n 0 z, not-false (e .closed) h) (ap not q)
-
--- the two squared distances are worked out from one vertex
-pub nearer-by : (o : List Float) (vc i : ℕ) (e : Ends) (v : Vertex) (p : Point) (x y : Float)
-    → v ≡ outlineAt o vc i → p ≡ posOf v → x ≡ distSquared p (e .«start_point») → y ≡ distSquared p (e .«end_point») → lt x y ≡ startNearer o vc i e
-unfolding startNearer
-nearer-by o vc i e v p x y f g h k = cc
-
--- ---- the start
+-- a start is on a segment of the outline, moved or not
 pub start-lt : (vc i k : ℕ) (b : Bool) → i < vc → k ≡ startIndex vc i b → k < vc
 unfolding startIndex
 start-lt vc i k true h e = subst (λ (n : ℕ). n < vc) (sym e) (wrap-lt vc (i + 1) (omega arith))
 start-lt vc i k false h e = subst (λ (n : ℕ). n < vc) (sym e) h
 
-pub start-fits : (o : List Float) (vc : ℕ) (e : Ends) (k : ℕ) (b : Bool) → EndsFit o vc e → k ≡ startIndex vc (e .«start_index») b → StartFit o vc e k
-start-fits o vc e k b f q = record { fit = f; inside = start-lt vc (e .«start_index») k b (f .starts) q }
-
--- ---- the traverse count
+-- a segment is less than once round ahead
 pub ahead-lt : (vc a b : ℕ) → 0 < vc → ahead vc a b < vc
 unfolding ahead
 ahead-lt vc a b h = wrap-lt vc (b + (vc - a)) h
 
-module _ (o : List Float) (vc : ℕ) (e : Ends) (t : Tolerance) (i n : ℕ) (d : Bool) where
-  pub traverse-ahead : n ≡ ahead vc i (e .«end_index») → d ≡ decided e n t → not d ≡ true → n ≡ traverse o vc e t i
+module _ (o : List Float) (vc : ℕ) (e : Ends) (t : Tolerance) where
+  traverse-most : (i : ℕ) → 0 < vc → traverse o vc e t i ≤ vc
   unfolding traverse
-  traverse-ahead f g h = let q : decided e (ahead vc i (e .«end_index»)) t ≡ false = ap (λ (k : ℕ). decided e k t) (sym f) ∙ sym g ∙ not-true d h in rw q f
+  traverse-most i h =
+      by-test (decided e (ahead vc i (e .«end_index»)) t)
+      (λ d. by-test (startNearer o vc i e) (λ n. rw (d, n) (omega arith)) (λ n. rw (d, n) (omega arith)))
+      (λ d. rw d (omega (arith, ahead-lt vc i (e .«end_index») h)))
 
-  pub traverse-none : (b : Bool) → n ≡ ahead vc i (e .«end_index») → d ≡ decided e n t → not d ≡ false → b ≡ startNearer o vc i e → b ≡ true → 0 ≡ traverse o vc e t i
-  unfolding traverse
-  traverse-none b f g h k l = let q : decided e (ahead vc i (e .«end_index»)) t ≡ true = ap (λ (m : ℕ). decided e m t) (sym f) ∙ sym g ∙ not-false d h in rw (q, sym k ∙ l)
+  pub span-fits : (s : Span) → EndsFit o vc e → s ≡ spanOf o vc e t → SpanFit o vc e s
+  unfolding spanOf
+  span-fits s f q =
+      subst (SpanFit o vc e) (sym q)
+      (record { fit = f; starts = start-lt vc (e .«start_index») _ _ (f .starts) refl; reaches = traverse-most _ (omega arith) })
 
-  pub traverse-all : (b : Bool) → n ≡ ahead vc i (e .«end_index») → d ≡ decided e n t → not d ≡ false → b ≡ startNearer o vc i e → b ≡ false → vc ≡ traverse o vc e t i
-  unfolding traverse
-  traverse-all b f g h k l = let q : decided e (ahead vc i (e .«end_index»)) t ≡ true = ap (λ (m : ℕ). decided e m t) (sym f) ∙ sym g ∙ not-false d h in rw (q, sym k ∙ l)
+-- a walk over a span that leaves its segment
+pub walk-fits : (o : List Float) (vc : ℕ) (e : Ends) (s : Span) (p : Splits) (w : Walk) → SpanFit o vc e s → (s .«traverse_count» ≡ 0 → ⊥) → w ≡ walkOver o vc e s p → WalkFit o vc w
+unfolding walkOver
+walk-fits o vc e s p w f n q = subst (WalkFit o vc) (sym q) (record { whole = f .fit .whole; inside = f .fit .ends; walks = omega (arith, n) })
 
--- ---- the span
-pub span-by : (o : List Float) (vc : ℕ) (e : Ends) (t : Tolerance) (moved : Bool) (i n : ℕ)
-    → moved ≡ movesOn o vc e t → i ≡ startIndex vc (e .«start_index») moved → n ≡ traverse o vc e t i → spanWith moved i n ≡ spanOf o vc e t
-unfolding spanOf
-span-by o vc e t moved i n f g h = cc
+-- the points of a new start
+module _ (o : List Float) (vc i : ℕ) (p : Point) (e : Ends) (g : Segment o vc i) where
+  pub round-ends : e ≡ roundEnds i p → EndsFit o vc e
+  round-ends q = subst (EndsFit o vc) (sym q) (record { whole = g .whole; starts = g .inside; ends = g .inside })
 
-pub ruleset spans = (decided-far, decided-open, decided-by, nearer-by, start-fits, traverse-ahead, traverse-none, traverse-all, span-by)
+  pub last-ends : e ≡ lastEnds o vc i p → EndsFit o vc e
+  last-ends q = subst (EndsFit o vc) (sym q) (record { whole = g .whole; starts = g .inside; ends = omega arith })

@@ -8,7 +8,7 @@ use lib.Dec.{leb, ltb, eqb}
 use lib.Ieee.{Float}
 use borrow.Author.Tests.{leb-true, leb-false, ltb-true, eqb-true}
 use Rattle.basis.specs.Choice.{by-test, and-left, and-right}
-use Rattle.basis.specs.Number.{Tolerance}
+use Rattle.basis.specs.declared.number.Tolerance.{Tolerance}
 use Rattle.outline.specs.declared.point.Point.{Point}
 use Rattle.outline.specs.Points.{posOf, pointsAgree}
 use Rattle.outline.specs.Outline.{vertexAt, wrap, outlineAt}
@@ -16,8 +16,7 @@ use Rattle.outline.specs.OutlineLaws.{wrap-lt, wrap-same, wrap-less}
 use Rattle.view.specs.Create.{nearVertex}
 use Rattle.view_start.specs.declared.span.Ends.{Ends}
 use Rattle.view_start.specs.Span.{EndsFit, canMove, movesOn, startIndex, ahead, decided, startNearer, traverse, spanOf}
-use Rattle.view_start.specs.SpanLaws.{start-lt, ahead-lt}
-use Rattle.view_start.specs.SlicePointsLaws.{span-fits}
+use Rattle.view_start.specs.SpanLaws.{start-lt, ahead-lt, span-fits}
 
 -- one index is at most another, or it is above it
 by-order : {P : Type 0} (a b : ℕ) → (a ≤ b → P) → (b < a → P) → P

@@ -5,7 +5,8 @@ use mathlib.Core.Path.{_≡_, refl}
 use mathlib.Core.List.{List, [], _∷_}
 use lib.Ieee.{Float, fin, ofBits, add, sub, mul, lt}
 use lib.IntN.{pos, negsuc}
-use Rattle.basis.specs.Number.{+0, Tolerance, absF, agree}
+use Rattle.basis.specs.Number.{+0, absF, agree, toleranceOf}
+use Rattle.basis.specs.declared.number.Tolerance.{Tolerance}
 use Rattle.outline.specs.declared.point.Point.{Point}
 use Rattle.outline.specs.declared.point.Vertex.{Vertex}
 use Rattle.outline.specs.Points.{atPoint, pointsAgree, distSquared}
@@ -82,15 +83,12 @@ line = +0 ∷ +0 ∷ +0 ∷ four ∷ +0 ∷ +0 ∷ []
 abbrev three-of : Float → List Float
 three-of x = +0 ∷ +0 ∷ +0 ∷ four ∷ +0 ∷ +0 ∷ x ∷ +0 ∷ +0 ∷ []
 
--- a position tolerance, the same on every axis: 1/1024 and 1
-abbrev both : Float → Tolerance
-both x = x
-
+-- t = 1/1024 and t = 1
 abbrev fine : Tolerance
-fine = both (fin false 1 (negsuc 9))
+fine = toleranceOf (fin false 1 (negsuc 9))
 
 abbrev coarse : Tolerance
-coarse = both one
+coarse = toleranceOf one
 
 -- "split_vertex" of a straight segment is the point, and its first part starts where it did
 abbrev straight : Asked → Parts

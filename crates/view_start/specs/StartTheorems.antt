@@ -6,12 +6,13 @@ use mathlib.Core.Logic.{_⊎_, inl, inr}
 use mathlib.Core.List.{List}
 use native.Mathlib.Omega.{arith}
 use lib.Dec.{leb, ltb, eqb}
-use lib.Ieee.{Float}
+use lib.Ieee.{Float, lt}
 use borrow.Author.Tests.{eqb-true, eqb-false, ne-eqb, lt-ltb}
-use Rattle.basis.specs.Choice.{by-test}
+use Rattle.basis.specs.Choice.{by-test, and-left}
 use Rattle.basis.specs.All.{allOf, all-at}
 use Rattle.basis.specs.OrderLaws.{finite-within, agree-self}
-use Rattle.basis.specs.Number.{+0, Tolerance, within, tolerable, allWithin}
+use Rattle.basis.specs.Number.{+0, within, tolerable, allWithin}
+use Rattle.basis.specs.declared.number.Tolerance.{Tolerance}
 use Rattle.outline.specs.declared.point.Point.{Point}
 use Rattle.outline.specs.declared.point.Vertex.{Vertex}
 use Rattle.outline.specs.Points.{posOf, withBulge, atPoint, pointNumbers, vertexNumbers, pointsAgree}
@@ -28,11 +29,9 @@ use Rattle.view_start.specs.declared.span.Ends.{Ends}
 use Rattle.view_start.specs.declared.span.Span.{Span}
 use Rattle.view_start.specs.declared.slice_points.Splits.{Splits}
 use Rattle.view_start.specs.Span.{EndsFit, canMove, movesOn, startIndex, ahead, decided, traverse, spanWith, spanOf}
-use Rattle.view_start.specs.SpanLaws.{ahead-lt}
-use Rattle.view_start.specs.SlicePoints.{SpanFit, runningVertex, walkFrom, walkOver, collapses, walkedView, slicedView, sliceView}
-use Rattle.view_start.specs.SlicePointsLaws.{span-fits, walk-fits}
+use Rattle.view_start.specs.SpanLaws.{ahead-lt, span-fits, walk-fits, last-ends, round-ends}
+use Rattle.view_start.specs.SlicePoints.{runningVertex, walkFrom, walkOver, collapses, walkedView, slicedView, sliceView}
 use Rattle.view_start.specs.NewStart.{roundEnds, lastEnds, roundWalk, roundView, newStartView}
-use Rattle.view_start.specs.NewStartLaws.{last-ends, round-ends}
 use Rattle.view_start.specs.SpanTheorems.{ahead-up, ahead-arrives, ahead-none, span-starts, moved-stands}
 
 running-pass : (q : Float → Bool) (o : List Float) (vc : ℕ) (s : Span) (split : Vertex) → Whole o vc → allOf q o ≡ true → allOf q (vertexNumbers split) ≡ true
@@ -208,11 +207,12 @@ view-fields e f g h k = cc
 module _ (o : List Float) (vc : ℕ) (t : Tolerance) (s : Splits) (whole : Whole o vc) (numbers : allWithin o ≡ true) (in-range : tolerable t ≡ true) where
   -- each vertex agrees with itself
   near-self : (i : ℕ) → nearVertex o vc i (posOf (outlineAt o vc i)) t ≡ true
-  unfolding nearVertex pointsAgree
+  unfolding nearVertex pointsAgree tolerable
   near-self i =
       let a = outline-passes within o vc i whole numbers in
-      let x = agree-self t (outlineAt o vc i .x) (finite-within _ (all-at within _ 0 +0 a (omega arith))) in-range in
-      let y = agree-self t (outlineAt o vc i .y) (finite-within _ (all-at within _ 1 +0 a (omega arith))) in-range in
+      let above = and-left (lt +0 (t .position)) _ in-range in
+      let x = agree-self (t .position) (outlineAt o vc i .x) (finite-within _ (all-at within _ 0 +0 a (omega arith))) above in
+      let y = agree-self (t .position) (outlineAt o vc i .y) (finite-within _ (all-at within _ 1 +0 a (omega arith))) above in
       rw (x, y)
 
   same-vertex : (i j : ℕ) → wrap vc i ≡ wrap vc j → outlineAt o vc i ≡ outlineAt o vc j

@@ -2,8 +2,8 @@
 ghost use mathlib.Core.Path.{_≡_};
 ghost use Rattle.outline.specs.Outline.{Near};
 ghost use Rattle.view.specs.Create.{WalkFit};
-ghost use Rattle.view_start.specs.Span.{EndsFit};
-ghost use Rattle.view_start.specs.SlicePoints.{SpanFit, runningVertex, walkOver, collapses, walkedView, slicedView, sliceView};
+ghost use Rattle.view_start.specs.Span.{EndsFit, SpanFit};
+ghost use Rattle.view_start.specs.SlicePoints.{runningVertex, walkOver, collapses, walkedView, slicedView, sliceView};
 use crate::span;
 use crate::span::Ends;
 use crate::span::Span;

@@ -1,6 +1,5 @@
 pub mod Answers
 pub mod StartRows
-pub mod StartRowsLaws
 pub mod SpanEntry
 pub mod SliceEntry
 pub mod NewStartEntry

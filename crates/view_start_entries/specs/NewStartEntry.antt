@@ -7,7 +7,8 @@ use lib.ListN.{length}
 use lib.Dec.{leb, eqb}
 use lib.Ieee.{Float}
 use borrow.Author.Tests.{leb-false}
-use Rattle.basis.specs.Number.{Tolerance, allWithin}
+use Rattle.basis.specs.Number.{allWithin}
+use Rattle.basis.specs.declared.number.Tolerance.{Tolerance}
 use Rattle.basis.specs.Refuse.{Row, row, firstOf, answer}
 use Rattle.basis.specs.RefuseLaws.{clear, length-ok, size-ok}
 use Rattle.outline.specs.declared.point.Point.{Point}

@@ -5,7 +5,7 @@ use mathlib.Core.List.{List, _++_}
 use lib.ListN.{length}
 use lib.Ieee.{Float}
 use borrow.Author.Tests.{leb-false}
-use Rattle.basis.specs.Number.{Tolerance}
+use Rattle.basis.specs.declared.number.Tolerance.{Tolerance}
 use Rattle.basis.specs.Refuse.{Row, firstOf, answer}
 use Rattle.basis.specs.RefuseLaws.{clear, length-ok, size-ok}
 use Rattle.view.specs.declared.create.OneSegment.{OneSegment}

@@ -6,7 +6,8 @@ use mathlib.Core.List.{List, [], _∷_, _++_}
 use lib.ListN.{length}
 use lib.Ieee.{Float}
 use borrow.Author.Tests.{leb-false}
-use Rattle.basis.specs.Number.{Tolerance, allWithin}
+use Rattle.basis.specs.Number.{allWithin}
+use Rattle.basis.specs.declared.number.Tolerance.{Tolerance}
 use Rattle.basis.specs.Refuse.{Row, row, firstOf, answer}
 use Rattle.basis.specs.RefuseLaws.{clear, length-ok, size-ok}
 use Rattle.view_start.specs.declared.span.Ends.{Ends}

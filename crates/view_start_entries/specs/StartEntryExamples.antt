@@ -6,7 +6,8 @@ use mathlib.Core.List.{List, [], _∷_}
 use lib.Ieee.{Float, nan, fin, ofBits, lt, le}
 use lib.IntN.{pos, negsuc}
 use Rattle.basis.specs.All.{allOf}
-use Rattle.basis.specs.Number.{+0, Tolerance, absF, within, tolerable}
+use Rattle.basis.specs.Number.{+0, absF, within, tolerable, toleranceOf}
+use Rattle.basis.specs.declared.number.Tolerance.{Tolerance}
 use Rattle.basis.specs.Refuse.{firstOf, lengthFault, sizeFault}
 use Rattle.outline.specs.declared.point.Point.{Point}
 use Rattle.outline.specs.declared.point.Vertex.{Vertex}
@@ -30,7 +31,7 @@ abbrev p : Point
 p = record { x = fin false 1 (pos 0); y = +0 }
 
 abbrev t : Tolerance
-t = fin false 1 (negsuc 9)
+t = toleranceOf (fin false 1 (negsuc 9))
 
 abbrev split : Float → Split
 split bulge = record { «updated_start» = record { x = +0; y = +0; bulge = +0 }; «split_vertex» = record { x = +0; y = +0; bulge = bulge } }

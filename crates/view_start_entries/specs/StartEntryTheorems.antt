@@ -9,7 +9,8 @@ use lib.Ieee.{Float}
 use borrow.Author.Tests.{lt-leb, le-ltb, not-false}
 use Rattle.basis.specs.Choice.{codeOf}
 use Rattle.basis.specs.All.{allOf, all-at, all-append}
-use Rattle.basis.specs.Number.{+0, Tolerance, within, allWithin}
+use Rattle.basis.specs.Number.{+0, within, allWithin}
+use Rattle.basis.specs.declared.number.Tolerance.{Tolerance}
 use Rattle.basis.specs.Refuse.{answer, choiceFault}
 use Rattle.basis.specs.RefuseLaws.{clear, none-clear, ok-length, ok-size, answer-accepted}
 use Rattle.outline.specs.declared.point.Point.{Point}

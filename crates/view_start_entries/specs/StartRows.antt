@@ -5,7 +5,8 @@ use mathlib.Core.List.{List, [], _∷_, _++_}
 use lib.ListN.{length}
 use lib.Dec.{ltb, leb}
 use lib.Ieee.{Float}
-use Rattle.basis.specs.Number.{Tolerance, allWithin, tolerable}
+use Rattle.basis.specs.Number.{allWithin, tolerable}
+use Rattle.basis.specs.declared.number.Tolerance.{Tolerance}
 use Rattle.basis.specs.Refuse.{Row, row, lengthFault, sizeFault, choiceFault}
 use Rattle.outline.specs.Points.{pointNumbers, vertexNumbers}
 use Rattle.view_entries.specs.declared.input.Split.{Split}

@@ -1,4 +1,5 @@
 ghost use mathlib.Core.Path.{_≡_};
+ghost use Rattle.basis.specs.Number.{toleranceOf};
 ghost use Rattle.view_start_entries.specs.NewStartEntry.{newStartRefusal, newStartAnswer};
 use crate::faults;
 use basis::number::Tolerance;
@@ -27,6 +28,26 @@ fn refusal(
     refuse::or_else(r, vc <= i, 6)
 }
 
+fn made(
+    outline: &[f64],
+    vc: usize,
+    closed: u32,
+    i: usize,
+    p: Point,
+    t: Tolerance,
+    start: Split,
+    end: Split,
+) -> ViewAnswer
+    ensures { λ r. ⌜ r ≡ newStartAnswer (now (outline .entry)) vc closed i p t start end ⌝ }
+{
+    let number = refusal(outline, vc, closed, i, p, t, start, end);
+    if number != 0 {
+        return answer::view_refused(number);
+    }
+    let s = faults::splits_of(start, end);
+    answer::segment_made(new_start::from_new_start(outline, vc, closed == 1, i, p, t, s))
+}
+
 // The view that starts a closed outline at a point of it and goes once round, or leads from a point of an open one to its last vertex; none where that point is the last vertex.
 pub fn entry(
     outline: &[f64],
@@ -34,13 +55,16 @@ pub fn entry(
     closed: u32,
     start_index: usize,
     start_point: Point,
-    t: Tolerance,
+    tolerance: f64,
     start_split: Split,
     end_split: Split,
 ) -> ViewAnswer
-    ensures { λ r. ⌜ r ≡ newStartAnswer (now (outline .entry)) vc closed «start_index» «start_point» t «start_split» «end_split» ⌝ }
+    ensures { λ r. ⌜ r ≡ newStartAnswer (now (outline .entry)) vc closed «start_index» «start_point» (toleranceOf tolerance) «start_split» «end_split» ⌝ }
 {
-    let number = refusal(
+    let t = Tolerance {
+        position: tolerance,
+    };
+    made(
         outline,
         vc,
         closed,
@@ -49,18 +73,5 @@ pub fn entry(
         t,
         start_split,
         end_split,
-    );
-    if number != 0 {
-        return answer::view_refused(number);
-    }
-    let p = faults::splits_of(start_split, end_split);
-    answer::segment_made(new_start::from_new_start(
-        outline,
-        vc,
-        closed == 1,
-        start_index,
-        start_point,
-        t,
-        p,
-    ))
+    )
 }

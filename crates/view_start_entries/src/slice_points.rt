@@ -1,5 +1,6 @@
 ghost use mathlib.Core.Path.{_≡_};
 ghost use lib.Dec.{eqb};
+ghost use Rattle.basis.specs.Number.{toleranceOf};
 ghost use Rattle.view_start.specs.Span.{endsOf};
 ghost use Rattle.view_start_entries.specs.SliceEntry.{sliceRefusal, sliceAnswer};
 use crate::faults;
@@ -57,11 +58,11 @@ pub fn entry(
     start_point: Point,
     end_index: usize,
     end_point: Point,
-    t: Tolerance,
+    tolerance: f64,
     start_split: Split,
     end_split: Split,
 ) -> ViewAnswer
-    ensures { λ r. ⌜ r ≡ sliceAnswer (now (outline .entry)) vc closed (endsOf (eqb closed 1) «start_index» «start_point» «end_index» «end_point») t «start_split» «end_split» ⌝ }
+    ensures { λ r. ⌜ r ≡ sliceAnswer (now (outline .entry)) vc closed (endsOf (eqb closed 1) «start_index» «start_point» «end_index» «end_point») (toleranceOf tolerance) «start_split» «end_split» ⌝ }
 {
     let e = Ends {
         closed: closed == 1,
@@ -69,6 +70,9 @@ pub fn entry(
         start_point,
         end_index,
         end_point,
+    };
+    let t = Tolerance {
+        position: tolerance,
     };
     made(outline, vc, closed, e, t, start_split, end_split)
 }

@@ -1,5 +1,6 @@
 ghost use mathlib.Core.Path.{_≡_};
 ghost use lib.Dec.{eqb};
+ghost use Rattle.basis.specs.Number.{toleranceOf};
 ghost use Rattle.view_start.specs.Span.{endsOf};
 ghost use Rattle.view_start_entries.specs.SpanEntry.{spanRefusal, spanAnswer};
 use crate::answer;
@@ -38,9 +39,9 @@ pub fn entry(
     start_point: Point,
     end_index: usize,
     end_point: Point,
-    t: Tolerance,
+    tolerance: f64,
 ) -> SpanAnswer
-    ensures { λ r. ⌜ r ≡ spanAnswer (now (outline .entry)) vc closed (endsOf (eqb closed 1) «start_index» «start_point» «end_index» «end_point») t ⌝ }
+    ensures { λ r. ⌜ r ≡ spanAnswer (now (outline .entry)) vc closed (endsOf (eqb closed 1) «start_index» «start_point» «end_index» «end_point») (toleranceOf tolerance) ⌝ }
 {
     let e = Ends {
         closed: closed == 1,
@@ -48,6 +49,9 @@ pub fn entry(
         start_point,
         end_index,
         end_point,
+    };
+    let t = Tolerance {
+        position: tolerance,
     };
     told(outline, vc, closed, e, t)
 }

@@ -1,6 +1,6 @@
 use Rattle.basis.specs.Choice.{cases}
 use Rattle.view_start.specs.SlicePoints.{slicedView}
-use Rattle.view_start.specs.SlicePointsLaws.{slices}
+use Rattle.view_start.proofs.Slices.{slices}
 use borrow.Author.Needs.{needs}
 use Rattle.view_start.proofs.slice_points.sliced.Statement.{statement}
 use Rattle.view_start.proofs.slice_points.sliced.Tie as tie

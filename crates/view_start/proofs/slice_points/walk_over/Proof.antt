@@ -1,4 +1,4 @@
-use Rattle.view_start.specs.SlicePointsLaws.{slices}
+use Rattle.view_start.proofs.Slices.{slices}
 use borrow.Author.Needs.{needs}
 use Rattle.view_start.proofs.slice_points.walk_over.Statement.{statement}
 use Rattle.view_start.proofs.slice_points.walk_over.Tie as tie

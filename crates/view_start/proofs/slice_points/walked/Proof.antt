@@ -1,6 +1,6 @@
 use Rattle.basis.specs.Choice.{cases}
 use Rattle.view_start.specs.SlicePoints.{walkedView}
-use Rattle.view_start.specs.SlicePointsLaws.{slices}
+use Rattle.view_start.proofs.Slices.{slices}
 use borrow.Author.Needs.{needs}
 use Rattle.view_start.proofs.slice_points.walked.Statement.{statement}
 use Rattle.view_start.proofs.slice_points.walked.Tie as tie

@@ -1,6 +1,6 @@
 use borrow.Author.Needs.{needs}
 use Rattle.view_start_entries.specs.StartRows.{backFault}
-use Rattle.view_start_entries.specs.StartRowsLaws.{backs}
+use Rattle.view_start_entries.proofs.Rows.{backs}
 use Rattle.view_start_entries.proofs.faults.runs_back.Statement.{statement}
 use Rattle.view_start_entries.proofs.faults.runs_back.Tie as tie
 

@@ -1,6 +1,6 @@
 use mathlib.Core.Path.{refl}
 use Rattle.view_start_entries.specs.SliceEntry.{sliceRefusal}
-use Rattle.view_start_entries.specs.StartRowsLaws.{one-row}
+use Rattle.view_start_entries.proofs.Rows.{one-row}
 use Rattle.basis.specs.RefuseLaws.{first-from, then-rows}
 use borrow.Author.Needs.{needs}
 use Rattle.view_start_entries.proofs.slice_points.refusal.Statement.{statement}

@@ -1,5 +1,5 @@
 use Rattle.view_start_entries.specs.SpanEntry.{spanRefusal}
-use Rattle.view_start_entries.specs.StartRowsLaws.{ones}
+use Rattle.view_start_entries.proofs.Rows.{ones}
 use Rattle.basis.specs.RefuseLaws.{parts}
 use borrow.Author.Needs.{needs}
 use Rattle.view_start_entries.proofs.span.refusal.Statement.{statement}

@@ -1,4 +1,4 @@
--- Laws by which the refusals are proved.
+-- Laws by which the refusals are proved: a part of one row, and number 15.
 use Prim.Native.Nat.{ℕ}
 use mathlib.Core.Bool.{Bool, true, false, not}
 use mathlib.Core.Path.{_≡_}

@@ -1,11 +1,10 @@
 -- Laws by which the views from a new start are proved: a callee's answer in place of its definition.
 use Prim.Native.Nat.{ℕ, _-_, _<_}
 use mathlib.Core.Bool.{Bool, true, false}
-use mathlib.Core.Path.{_≡_, sym, ap, subst, _∙_}
+use mathlib.Core.Path.{_≡_, ap, _∙_}
 use mathlib.Core.List.{List}
-use native.Mathlib.Omega.{arith}
 use lib.Ieee.{Float}
-use Rattle.basis.specs.Number.{Tolerance}
+use Rattle.basis.specs.declared.number.Tolerance.{Tolerance}
 use Rattle.outline.specs.declared.point.Point.{Point}
 use Rattle.outline.specs.declared.point.Vertex.{Vertex}
 use Rattle.outline.specs.Points.{posOf}
@@ -18,20 +17,13 @@ use Rattle.view.specs.Create.{WalkFit, createView}
 use Rattle.view_start.specs.declared.span.Ends.{Ends}
 use Rattle.view_start.specs.declared.span.Span.{Span}
 use Rattle.view_start.specs.declared.slice_points.Splits.{Splits}
-use Rattle.view_start.specs.Span.{EndsFit, endsOf, spanOf}
+use Rattle.view_start.specs.Span.{endsOf, spanOf}
 use Rattle.view_start.specs.SlicePoints.{sliceView}
-use Rattle.view_start.specs.SlicePointsLaws.{span-fits}
+use Rattle.view_start.specs.SpanLaws.{span-fits, round-ends, last-ends}
 use Rattle.view_start.specs.NewStart.{roundEnds, lastEnds, roundWalk, roundView, newStartView}
 
-module _ (o : List Float) (vc i : ℕ) (p : Point) (e : Ends) (g : Segment o vc i) where
-  pub round-ends : e ≡ roundEnds i p → EndsFit o vc e
-  round-ends q = subst (EndsFit o vc) (sym q) (record { whole = g .whole; starts = g .inside; ends = g .inside })
-
-  pub last-ends : e ≡ lastEnds o vc i p → EndsFit o vc e
-  last-ends q = subst (EndsFit o vc) (sym q) (record { whole = g .whole; starts = g .inside; ends = omega arith })
-
-  pub round-inside : (t : Tolerance) (m : Span) → e ≡ roundEnds i p → m ≡ spanOf o vc e t → m .«start_index» < vc
-  round-inside t m f q = span-fits o vc e t m (round-ends f) q .starts
+pub round-inside : (o : List Float) (vc i : ℕ) (p : Point) (e : Ends) (t : Tolerance) (m : Span) → Segment o vc i → e ≡ roundEnds i p → m ≡ spanOf o vc e t → m .«start_index» < vc
+round-inside o vc i p e t m g f q = span-fits o vc e t m (round-ends o vc i p e g f) q .starts
 
 pub round-fits : (o : List Float) (vc i : ℕ) (w : Walk) → Segment o vc i → w .«intersect_index» < vc → 0 < w .«traverse_count» → WalkFit o vc w
 round-fits o vc i w g h k = record { whole = g .whole; inside = h; walks = k }

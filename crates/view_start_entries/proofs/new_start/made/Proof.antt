@@ -1,8 +1,8 @@
 use Rattle.view_start_entries.specs.NewStartEntry.{newStartLaws}
 use Rattle.basis.specs.RefuseLaws.{answers}
 use borrow.Author.Needs.{needs}
-use Rattle.view_start_entries.proofs.new_start.entry.Statement.{statement}
-use Rattle.view_start_entries.proofs.new_start.entry.Tie as tie
+use Rattle.view_start_entries.proofs.new_start.made.Statement.{statement}
+use Rattle.view_start_entries.proofs.new_start.made.Tie as tie
 
 refusal-requires : tie.Need-refusal-requires
 refusal-requires c κs = search needs
@@ -25,8 +25,8 @@ segment-made-requires c κs = search needs
 returns-2 : tie.Need-returns-2
 returns-2 c = search (needs, answers, newStartLaws)
 
-pub entry-spec : {M : Type 1} → statement M
-entry-spec =
+pub made-spec : {M : Type 1} → statement M
+made-spec =
     tie.close
     (tie.spec
     refusal-requires
