@@ -6,10 +6,9 @@ use mathlib.Core.List.{List, [], _∷_, _++_, map, append-assoc, append-nil}
 use native.Mathlib.Nat.{mul-div-right}
 use native.Mathlib.Omega.{arith}
 use borrow.Author.Tests.{ltb-true, ltb-false, leb-true, le-ltb, le-leb, eq-eqb, eqb-true, not-false}
-use lib.Dec.{T, ltb, eqb}
+use lib.Dec.{ltb, eqb}
 use lib.ListN.{length, getD, take, drop, length-append, length-map}
 use lib.Seq.{take-at, drop-at, drop-drop}
-use lib.Ieee.{binary64, fits}
 use Rattle.basis.specs.Choice.{by-test, or-left, or-right}
 use Rattle.basis.specs.Each.{placesBelow}
 use Rattle.basis.specs.EachLaws.{each-at}
@@ -17,6 +16,7 @@ use Rattle.basis.specs.Number.{allWithin}
 use Rattle.basis.specs.Refuse.{row, firstOf, sourceFault, countFor}
 use Rattle.basis.specs.RefuseLaws.{Clear, clear, clear-left, none-clear, choice-ok}
 use Rattle.stitch_run.specs.Stitch.{Given}
+use Rattle.stitch_run.specs.Doubles.{Doubles}
 use Rattle.stitch_entries.specs.StitchRows.{sourcesKnown, startsInside, offsetsInside, startsFault}
 use Rattle.fields.specs.Fields.{size, bytesOf, valueOf, pack, unpack, numOf, bitsOf}
 use Rattle.fields.specs.FieldLaws.{unpack-pack, fitted-append, fitted-length, length-pack}
@@ -30,14 +30,7 @@ use Rattle.record_write.specs.Writer.{keepRows, lengthFor, lengthGiven, 
 use Rattle.record_write.specs.Ready.{Keeps}
 use Rattle.record_write.specs.KeepLaws.{codes-clear, numbers-clear, indexes-clear, keeps}
 use Rattle.record_write.specs.Columns.{codes-back, numbers-back}
-use Rattle.record_write.specs.Fits.{Held, all-plain, bits-all-below, below-append, CodesFit, vertices-fitted, slices-fitted}
-
--- every f64 of a stitch is one that the format holds, as all in memory are
-pub record HeldGiven (g : Given) : Type 0 where
-  pub tolerance : T (fits binary64 (g .tolerance))
-  pub first : Held (g .outline1)
-  pub second : Held (g .outline2)
-  pub numbers : Held (g .slice)
+use Rattle.record_write.specs.Fits.{all-plain, bits-all-below, below-append, CodesFit, vertices-fitted, slices-fitted}
 
 -- lists with room for what is read back
 pub record RoomFor (g : Given) (r1 r2 r3 r4 : ℕ) : Type 0 where
@@ -46,18 +39,18 @@ pub record RoomFor (g : Given) (r1 r2 r3 r4 : ℕ) : Type 0 where
   pub codes : 4 * g .slices ≤ r3
   pub numbers : 6 * g .slices ≤ r4
 
-module _ (g : Given) (ok : Clear (keepRows g)) (held : HeldGiven g) where
+module _ (g : Given) (ok : Clear (keepRows g)) (held : Doubles g) where
   kept : Keeps g (lengthGiven form1 g)
   kept = keeps g ok (lengthGiven form1 g) (omega arith)
 
   plain1 : AllPlain (g .outline1)
-  plain1 = all-plain (held .first) (not-false (allWithin (g .outline1)) (numbers-clear g ok .1 .0))
+  plain1 = all-plain (g .outline1) (held .first) (not-false (allWithin (g .outline1)) (numbers-clear g ok .1 .0))
 
   plain2 : AllPlain (g .outline2)
-  plain2 = all-plain (held .second) (not-false (allWithin (g .outline2)) (numbers-clear g ok .1 .1 .0))
+  plain2 = all-plain (g .outline2) (held .second) (not-false (allWithin (g .outline2)) (numbers-clear g ok .1 .1 .0))
 
   plain3 : AllPlain (g .slice)
-  plain3 = all-plain (held .numbers) (not-false (allWithin (g .slice)) (numbers-clear g ok .1 .1 .1 .0))
+  plain3 = all-plain (g .slice) (held .numbers) (not-false (allWithin (g .slice)) (numbers-clear g ok .1 .1 .1 .0))
 
   plain-tolerance : Plain (g .tolerance)
   plain-tolerance = record { held = held .tolerance; number = kept .tolerance }
@@ -313,7 +306,7 @@ pub record ReadsBack (g : Given) : Type 0 where
   pub same : stitchIn form1 (recordOf form1 g) ≡ g
   pub accepted : (r1 r2 r3 r4 : ℕ) → RoomFor g r1 r2 r3 r4 → readRefusal form1 (recordOf form1 g) r1 r2 r3 r4 ≡ 0
 
-pub write-then-read : (g : Given) (room : ℕ) → writeRefusal form1 g room ≡ 0 → HeldGiven g → ReadsBack g
+pub write-then-read : (g : Given) (room : ℕ) → writeRefusal form1 g room ≡ 0 → Doubles g → ReadsBack g
 unfolding writeRefusal
 write-then-read g room z held =
     let ok = clear-left (keepRows g) (row (ltb room (lengthGiven form1 g)) 9 ∷ []) (clear (keepRows g ++ (row (ltb room (lengthGiven form1 g)) 9 ∷ [])) tt z) in

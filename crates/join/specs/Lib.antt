@@ -1,0 +1,4 @@
+pub mod Join
+pub mod WholeLaws
+pub mod RoundLaws
+pub mod SumLaws
