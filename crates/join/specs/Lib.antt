@@ -4,3 +4,6 @@ pub mod RoundLaws
 pub mod SumLaws
 pub mod SpanLaws
 pub mod BoxLaws
+pub mod OfferLaws
+pub mod RangeLaws
+pub mod JoinTheorems

@@ -1,0 +1,92 @@
+-- Request K13, of every stitch whose numbers document 01 lets through: at every join of every loop returned, and at its closing, on each axis.
+use Prim.Native.Nat.{ℕ, _+_, _≤_}
+use mathlib.Core.Bool.{true, false}
+use mathlib.Core.Path.{_≡_, refl, ap}
+use mathlib.Core.List.{List, [], _∷_, _++_, flatMap, List·Memᴰ, List·Memᴰ·head, List·Memᴰ·tail}
+use native.Mathlib.Omega.{arith}
+use lib.Dec.{lit≤}
+use Rattle.basis.specs.Choice.{clash, and-left, and-right}
+use Rattle.basis.specs.All.{All, all-imp, all-both}
+use Rattle.basis.specs.Number.{Tolerance, inSpan}
+use Rattle.outline.specs.declared.point.Point.{Point}
+use Rattle.outline.specs.declared.point.Vertex.{Vertex}
+use Rattle.outline.specs.Points.{posOf, inBox}
+use Rattle.stitch_vertices.specs.Vertices.{dropLast}
+use Rattle.stitch_run.specs.Run.{Chain, Ending, closed, tooSmall, noCandidate, noSelection, spent}
+use Rattle.stitch_run.specs.Stitch.{Given, sliceVertex, startPoint, offersTo, addSlice, rulesOf, runOf, loopOf, loopsOf}
+use Rattle.stitch_run.specs.Demand3.{firstSlice}
+use Rattle.stitch_run.specs.StitchLaws.{among}
+use Rattle.join.specs.Join.{twoToMinus, Within, toleranceX, toleranceY, Near, AtJoins, Joined, Behind}
+use Rattle.join.specs.BoxLaws.{box-near}
+use Rattle.join.specs.OfferLaws.{Taken, ClosedJoins, joins-imp, run-joins}
+use Rattle.join.specs.RangeLaws.{VertexIn, StitchIn, slice-in, drop-in, add-slice-in}
+
+-- the box on each axis, with its own tolerance
+box-axes : (t : Tolerance) (e p : Point) → inBox t e p ≡ true → (inSpan (toleranceX t) (e .x) (p .x) ≡ true) × (inSpan (toleranceY t) (e .y) (p .y) ≡ true)
+unfolding inBox
+box-axes t e p h = (and-left _ _ h, and-right (inSpan (toleranceX t) (e .x) (p .x)) _ h)
+
+module _ (g : Given) (a : StitchIn g) where
+  -- ---- one join
+
+  abbrev AllIn : List Vertex → Type 0
+  AllIn = All VertexIn
+
+  -- a slice that was offered to vertices in range
+  offered-near : (vs : List Vertex) (j : ℕ) → Taken (rulesOf g) AllIn vs j → Joined g (twoToMinus 24) vs j
+  unfolding rulesOf offersTo startPoint
+  offered-near [] j t = clash false (t .offer) refl
+  offered-near (last ∷ vs) j t =
+      let p = slice-in g a j 0 (t .slice) in
+      let e = t .kept .0 in
+      let b = box-axes (g .tolerance) (posOf last) (posOf (sliceVertex g j 0)) (t .offer) in
+      record { x = box-near _ _ _ (a .tolerance-x) (e .x) (p .x) (b .0); y = box-near _ _ _ (a .tolerance-y) (e .y) (p .y) (b .1) }
+
+  -- ---- every closed chain
+
+  run-taken : All (ClosedJoins (Taken (rulesOf g) AllIn)) (runOf g)
+  unfolding runOf rulesOf
+  run-taken = run-joins (rulesOf g) (among g) AllIn (λ i h. add-slice-in g a i [] h tt) (λ vs j h p. add-slice-in g a j (dropLast vs) h (drop-in vs p))
+
+  pub chains-near : All (ClosedJoins (Joined g (twoToMinus 24))) (runOf g)
+  chains-near =
+      all-imp _ _ (λ c h e. joins-imp (Taken (rulesOf g) AllIn) (Joined g (twoToMinus 24)) offered-near (firstSlice c) (c .rounds) (h e)) (runOf g) run-taken
+
+-- ---- every loop returned
+
+module _ (g : Given) (excess : ℕ) where
+  -- the loop of a chain of the run, where it is closed
+  loop-behind : (c : Chain (List Vertex)) (e : Ending) → c .ending ≡ e → List·Memᴰ c (runOf g) → ClosedJoins (Joined g excess) c → All (Behind g excess) (loopOf e (c .built))
+  unfolding loopOf
+  loop-behind c closed q m h = (record { chain = c; ran = m; gives = ap (λ (e : Ending). loopOf e (c .built)) q; joined = h q }, tt)
+  loop-behind c tooSmall q m h = tt
+  loop-behind c noCandidate q m h = tt
+  loop-behind c noSelection q m h = tt
+  loop-behind c spent q m h = tt
+
+  loops-behind : (l : List (Chain (List Vertex))) → ((c : Chain (List Vertex)) → List·Memᴰ c l → List·Memᴰ c (runOf g)) → All (ClosedJoins (Joined g excess)) l
+      → All (Behind g excess) (loopsOf l)
+  unfolding loopsOf flatMap
+  loops-behind [] m h = tt
+  loops-behind (c ∷ l) m h =
+      all-both (Behind g excess) (loopOf (c .ending) (c .built)) (loopsOf l) (loop-behind c (c .ending) refl (m c (List·Memᴰ·head refl)) (h .0))
+      (loops-behind l (λ d k. m d (List·Memᴰ·tail k)) (h .1))
+
+-- a larger figure holds too
+more : (a t c d : ℕ) → c ≤ d → a ≤ t + c → a ≤ t + d
+more a t c d h k = omega arith
+
+looser : (g : Given) (c d : ℕ) → c ≤ d → (vs : List Vertex) (j : ℕ) → Joined g c vs j → Joined g d vs j
+looser g c d h [] j n = n
+looser g c d h (last ∷ vs) j n = record { x = more _ _ c d h (n .x); y = more _ _ c d h (n .y) }
+
+module _ (g : Given) (a : StitchIn g) where
+  -- The sharper figure: the axis tolerance plus 2^-24, since the start of a slice and the last vertex of a chain are both in range.
+  pub loops-near : All (Behind g (twoToMinus 24)) (loopsOf (runOf g))
+  loops-near = loops-behind g (twoToMinus 24) (runOf g) (λ c m. m) (chains-near g a)
+
+  -- "by at most the axis tolerance plus 2^-23, on each axis"
+  pub loops-within : All (Behind g (twoToMinus 23)) (loopsOf (runOf g))
+  loops-within =
+      loops-behind g (twoToMinus 23) (runOf g) (λ c m. m)
+      (all-imp _ _ (λ c h e. joins-imp _ _ (looser g (twoToMinus 24) (twoToMinus 23) (lit≤ tt)) (firstSlice c) (c .rounds) (h e)) (runOf g) (chains-near g a))
