@@ -72,7 +72,7 @@ module _ (g : Given) (excess : ℕ) where
       all-both (Behind g excess) (loopOf (c .ending) (c .built)) (loopsOf l) (loop-behind c (c .ending) refl (m c (List·Memᴰ·head refl)) (h .0))
       (loops-behind l (λ d k. m d (List·Memᴰ·tail k)) (h .1))
 
--- a larger figure holds too
+-- a larger figure holds as well
 more : (a t c d : ℕ) → c ≤ d → a ≤ t + c → a ≤ t + d
 more a t c d h k = omega arith
 

@@ -7,3 +7,4 @@ pub mod BoxLaws
 pub mod OfferLaws
 pub mod RangeLaws
 pub mod JoinTheorems
+pub mod JoinExamples

@@ -1,0 +1,157 @@
+-- No figure below 2^-24 holds: a stitch that document 01 lets through, computed, whose loop closes the tolerance and 2^-24 off, on both axes.
+use Prim.Native.Nat.{ℕ, _+_, _≤_}
+use mathlib.Core.Bool.{true, false}
+use mathlib.Core.Path.{_≡_, refl, ap, subst}
+use mathlib.Core.List.{List, [], _∷_, _++_, flatMap, List·Memᴰ, List·Memᴰ·eq-of-singleton}
+use lib.Arith.{add-le-cancel-left}
+use lib.Dec.{T, lit≤, lit<}
+use lib.IntN.{natAbs, _-ℤ_}
+use lib.Ieee.{Float, binary64, ofBits, neg, add, sub, lt, le, fits}
+use lib.Ieee.Bits.{ofBits-fits}
+use Rattle.basis.specs.All.{All, allOf}
+use Rattle.basis.specs.Number.{+0, limit, absF, agree, inSpan, within, tolerable}
+use Rattle.outline.specs.declared.point.Vertex.{Vertex}
+use Rattle.outline.specs.Points.{pointsAgree, inBox}
+use Rattle.outline.specs.Outline.{vertexAt, wrap, outlineAt}
+use Rattle.view.specs.View.{forwardAt, turnedAt, invertedAt, vertexOf}
+use Rattle.select.specs.Select.{classOf, preferenceOf, suitsOf, firstThat, orElse, choose, choicesOf, pickOf, selectOf}
+use Rattle.stitch_vertices.specs.Vertices.{addVertex, addFirst, addView, dropLast}
+use Rattle.stitch_run.specs.Run.{Chain, closed, ends, passing, free, candidate, candidatesOf, taken, answered, asked, nextOf, roundOf, opened, onward, ended}
+use Rattle.stitch_run.specs.Run.{stopped, walk, chainFrom, added, begun, turn, turns, run, slicesOf}
+use Rattle.stitch_run.specs.Stitch.{Given, given, ofFirst, sliceOffset, sliceEnd, sliceView, sliceOutline, sliceCount, sliceVertex, startPoint, addSlice}
+use Rattle.stitch_run.specs.Stitch.{offersTo, rulesOf, runOf, loopOf, loopsOf}
+use Rattle.stitch_run.specs.Demand3.{firstSlice}
+use Rattle.stitch_run.specs.Doubles.{Double, Doubles}
+use Rattle.join.specs.Join.{scaled, whole, twoToMinus, Within, AtJoins, Joined, Behind}
+use Rattle.join.specs.BoxLaws.{InRange, in-range, in-tolerance}
+use Rattle.join.specs.RangeLaws.{Looked, OutlineIn, StitchIn}
+
+-- ---- the numbers
+
+-- t = 3 · 2^-24
+abbrev t : Float
+t = ofBits binary64 0x3e88_0000_0000_0000
+
+-- the end, 2^29: e + t is half way between two f64, and is rounded away from e
+abbrev e : Float
+e = ofBits binary64 0x41c0_0000_0000_0000
+
+-- the start, 2^29 + 2^-22
+abbrev p : Float
+p = ofBits binary64 0x41c0_0000_0000_0002
+
+abbrev eight : Float
+eight = ofBits binary64 0x4020_0000_0000_0000
+
+-- ---- the stitch: one slice of outline 1, from (p, p) by (0, 8) and (8, 0) to (e, e)
+
+abbrev at : Float → Float → List Float
+at x y = x ∷ y ∷ +0 ∷ []
+
+abbrev pub tight : Given
+tight =
+    given (at e e ++ at +0 eight ++ at eight +0) 3 (at +0 +0 ++ at eight eight) 2
+    (1 ∷ 0 ∷ 0 ∷ 2 ∷ []) (at p p ++ (+0 ∷ e ∷ e ∷ [])) 1
+    (record { pline2 = 1; «pline1_overlapping» = 1; «pline2_overlapping» = 1 }) 0 t
+
+abbrev vertex : Float → Float → Vertex
+vertex x y = record { x = x; y = y; bulge = +0 }
+
+-- its vertices, newest first
+abbrev built : List Vertex
+built = vertex e e ∷ vertex eight +0 ∷ vertex +0 eight ∷ vertex p p ∷ []
+
+-- its one chain: in its one round the slice was offered to itself, and closed the chain
+abbrev chain : Chain (List Vertex)
+chain = record { rounds = record { slice = 0; built = built; offered = 0 ∷ []; next = ends closed } ∷ []; ending = closed; built = built }
+
+pub tight-run : runOf tight ≡ chain ∷ []
+unfolding ofBits neg add sub lt le absF agree inSpan pointsAgree inBox vertexAt wrap outlineAt forwardAt turnedAt invertedAt vertexOf addVertex addFirst addView dropLast ofFirst sliceOffset sliceEnd sliceView sliceOutline sliceCount sliceVertex startPoint addSlice offersTo classOf preferenceOf suitsOf firstThat orElse choose choicesOf pickOf selectOf passing free candidate candidatesOf taken answered asked nextOf roundOf opened onward ended stopped walk chainFrom added begun turn turns run rulesOf runOf
+tight-run = refl
+
+-- ---- how far it is off
+
+pub tight-apart : natAbs (whole p -ℤ whole e) ≡ natAbs (whole t) + twoToMinus 24
+unfolding scaled ofBits
+tight-apart = refl
+
+tight-start : startPoint tight 0 .x ≡ p
+unfolding startPoint sliceVertex vertexOf forwardAt invertedAt sliceOutline sliceCount sliceView ofFirst vertexAt
+tight-start = refl
+
+-- The closing of the chain, on the first axis.
+closing : (excess : ℕ) → AtJoins (Joined tight excess) (firstSlice chain) (chain .rounds) → Within t excess p e
+unfolding slicesOf
+closing excess h = subst (λ (x : Float). Within t excess x e) tight-start (h .x)
+
+-- Whatever figure holds of this loop is 2^-24 at least.
+pub tight-least : (excess : ℕ) → All (Behind tight excess) (loopsOf (runOf tight)) → twoToMinus 24 ≤ excess
+unfolding loopsOf loopOf flatMap
+tight-least excess h =
+    let b : Behind tight excess _ = subst (λ (l : List (Chain (List Vertex))). All (Behind tight excess) (loopsOf l)) tight-run h .0 in
+    let c : b .chain ≡ chain = List·Memᴰ·eq-of-singleton (subst (λ (l : List (Chain (List Vertex))). List·Memᴰ (b .chain) l) tight-run (b .ran)) in
+    let w = closing excess (subst (λ (d : Chain (List Vertex)). AtJoins (Joined tight excess) (firstSlice d) (d .rounds)) c (b .joined)) in
+    add-le-cancel-left (natAbs (whole t)) (subst (λ (n : ℕ). n ≤ natAbs (whole t) + excess) tight-apart w)
+
+-- ---- document 01 lets it through
+
+pub tight-doubles : Doubles tight
+tight-doubles =
+    record {
+      tolerance = ofBits-fits binary64 0x3e88_0000_0000_0000;
+      first = (at-e, (at-e, (at-0, (at-0, (at-8, (at-0, (at-8, (at-0, (at-0, tt)))))))));
+      second = (at-0, (at-0, (at-0, (at-8, (at-8, (at-0, tt))))));
+      numbers = (at-p, (at-p, (at-0, (at-0, (at-e, (at-e, tt))))));
+    }
+  where
+    at-0 : Double +0
+    at-0 = ofBits-fits binary64 0
+
+    at-8 : Double eight
+    at-8 = ofBits-fits binary64 0x4020_0000_0000_0000
+
+    at-e : Double e
+    at-e = ofBits-fits binary64 0x41c0_0000_0000_0000
+
+    at-p : Double p
+    at-p = ofBits-fits binary64 0x41c0_0000_0000_0002
+
+tight-in : StitchIn tight
+unfolding allOf within tolerable absF lt le ofBits
+tight-in =
+    let d = tight-doubles in
+    record {
+      first = record { size = record { triples = refl; least = lit≤ tt; most = lit≤ tt }; looked = record { doubles = d .first; pass = refl } };
+      second = record { size = record { triples = refl; least = lit≤ tt; most = lit≤ tt }; looked = record { doubles = d .second; pass = refl } };
+      sixes = refl;
+      looked = record { doubles = d .numbers; pass = refl };
+      tolerance-x = in-tolerance t (d .tolerance) refl;
+      tolerance-y = in-tolerance t (d .tolerance) refl;
+    }
+
+-- So no figure below 2^-24 holds of every stitch.
+pub no-less : (excess : ℕ) → ((g : Given) → StitchIn g → All (Behind g excess) (loopsOf (runOf g))) → twoToMinus 24 ≤ excess
+no-less excess h = tight-least excess (h tight tight-in)
+
+-- ---- where 2^-23 would come from: the box around 2^30 takes a number beyond it
+
+-- 3 · 2^-23 and 2^30 + 2^-21
+abbrev wide : Float
+wide = ofBits binary64 0x3e98_0000_0000_0000
+
+abbrev beyond : Float
+beyond = ofBits binary64 0x41d0_0000_0000_0002
+
+pub beyond-taken : inSpan wide limit beyond ≡ true
+unfolding inSpan add sub neg lt le ofBits
+beyond-taken = refl
+
+-- the tolerance and 2^-23 off,
+pub beyond-apart : natAbs (whole beyond -ℤ whole limit) ≡ natAbs (whole wide) + twoToMinus 23
+unfolding scaled ofBits
+beyond-apart = refl
+
+-- but number 5 refuses it.
+pub beyond-refused : within beyond ≡ false
+unfolding within absF le ofBits
+beyond-refused = refl
