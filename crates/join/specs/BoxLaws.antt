@@ -1,23 +1,22 @@
 -- Document 01's numbers as whole numbers, and what its box says of their distance.
 use Prim.Native.Nat.{ℕ, zero, suc, _+_, _*_, _^_, _≤_, _<_}
 use mathlib.Core.Bool.{Bool, true, false}
-use mathlib.Core.Path.{_≡_, refl, sym, ap, subst, _∙_}
+use mathlib.Core.Path.{_≡_, refl, sym, ap, subst}
 use native.Mathlib.Nat.{lt-of-le-of-lt, add-le-add, mul-pos}
 use native.Mathlib.Omega.{arith}
 use borrow.Author.Tests.{ltb-true}
 use lib.Dec.{T, lit≤, lit<}
 use lib.IntN.{ℤ, pos, negsuc, negℤ, natAbs}
 use lib.Pow.{pow-pos}
-use lib.Ieee.{Float, nan, inf, fin, Format, binary64, ofBits, fits, low, up, down, add, sub, lt, le}
+use lib.Ieee.{Float, nan, inf, fin, Format, binary64, ofBits, fits, low, up, down, sub, lt, le}
 use lib.Ieee.Bits.{ofBits-fits}
-use lib.Ieee.Fits.{down-pos}
 use Rattle.basis.specs.Choice.{clash, and-left, and-right}
 use Rattle.basis.specs.Number.{+0, one, limit, absF, inSpan, within, tolerable}
-use Rattle.basis.specs.OrderLaws.{Finite, finite-within, lt-le}
+use Rattle.basis.specs.OrderLaws.{finite-within}
 use Rattle.basis.specs.UnitLaws.{unitsOf, units-exact}
 use Rattle.stitch_run.specs.Doubles.{Double}
 use Rattle.join.specs.Join.{scaled, whole, twoToMinus, Within}
-use Rattle.join.specs.WholeLaws.{above, beneath, abs-parts, Number, fin-above, fin-beneath, le-whole}
+use Rattle.join.specs.WholeLaws.{above, beneath, Number, fin-top, fin-bottom, le-whole}
 use Rattle.join.specs.SpanLaws.{Positive, span-any, span-near}
 
 -- ---- numbers that number 5 lets through
@@ -72,7 +71,7 @@ in-range (fin s m e) d h =
     let l = le-whole x limit (record { held = unsigned s m e d; finite = tt }) limit-number h in
     record {
       number = record { held = d; finite = tt };
-      small = subst (λ (n : ℕ). n ≤ 2 ^ (30 + 1074)) (sym (size-whole s m e)) (at-most (whole x) (whole limit) (2 ^ (30 + 1074)) limit-whole l (fin-beneath binary64 m e false));
+      small = subst (λ (n : ℕ). n ≤ 2 ^ (30 + 1074)) (sym (size-whole s m e)) (at-most (whole x) (whole limit) (2 ^ (30 + 1074)) limit-whole l (fin-bottom binary64 m e false));
     }
 
 -- ---- tolerances that number 4 lets through
@@ -102,8 +101,8 @@ in-tolerance (fin false m e) d h =
     let a = ltb-true (0 * 1 * down e) (m * up e * 1) (and-left (lt +0 t) (le t one) h) in
     let b = le-whole t one n one-number (and-right (lt +0 t) (le t one) h) in
     record {
-      positive = record { number = n; some = rw (fin-above binary64 m e false) (some-units binary64 m e d (omega arith)); none = fin-beneath binary64 m e false };
-      small = subst (λ (i : ℕ). i ≤ 2 ^ 1074) (sym (size-whole false m e)) (at-most (whole t) (whole one) (2 ^ 1074) one-whole b (fin-beneath binary64 m e false));
+      positive = record { number = n; some = rw (fin-top binary64 m e false) (some-units binary64 m e d (omega arith)); none = fin-bottom binary64 m e false };
+      small = subst (λ (i : ℕ). i ≤ 2 ^ 1074) (sym (size-whole false m e)) (at-most (whole t) (whole one) (2 ^ 1074) one-whole b (fin-bottom binary64 m e false));
     }
 
 -- ---- the box

@@ -3,10 +3,12 @@ use Prim.Native.Nat.{ℕ, _+_, _≤_}
 use mathlib.Core.Bool.{true, false}
 use mathlib.Core.Path.{_≡_, refl, ap, subst}
 use mathlib.Core.List.{List, [], _∷_, _++_, flatMap, List·Memᴰ, List·Memᴰ·eq-of-singleton}
+use native.Mathlib.Omega.{arith}
 use lib.Arith.{add-le-cancel-left}
-use lib.Dec.{T, lit≤, lit<}
+use lib.Dec.{lit≤}
 use lib.IntN.{natAbs, _-ℤ_}
-use lib.Ieee.{Float, binary64, ofBits, neg, add, sub, lt, le, fits}
+use lib.ListN.{length}
+use lib.Ieee.{Float, binary64, ofBits, neg, add, sub, lt, le}
 use lib.Ieee.Bits.{ofBits-fits}
 use Rattle.basis.specs.All.{All, allOf}
 use Rattle.basis.specs.Number.{+0, limit, absF, agree, inSpan, within, tolerable}
@@ -23,8 +25,8 @@ use Rattle.stitch_run.specs.Stitch.{offersTo, rulesOf, runOf, loopOf, loopsOf}
 use Rattle.stitch_run.specs.Demand3.{firstSlice}
 use Rattle.stitch_run.specs.Doubles.{Double, Doubles}
 use Rattle.join.specs.Join.{scaled, whole, twoToMinus, Within, AtJoins, Joined, Behind}
-use Rattle.join.specs.BoxLaws.{InRange, in-range, in-tolerance}
-use Rattle.join.specs.RangeLaws.{Looked, OutlineIn, StitchIn}
+use Rattle.join.specs.BoxLaws.{in-tolerance}
+use Rattle.join.specs.RangeLaws.{StitchIn}
 
 -- ---- the numbers
 
@@ -84,14 +86,21 @@ closing : (excess : ℕ) → AtJoins (Joined tight excess) (firstSlice chain) (c
 unfolding slicesOf
 closing excess h = subst (λ (x : Float). Within t excess x e) tight-start (h .x)
 
--- Whatever figure holds of this loop is 2^-24 at least.
-pub tight-least : (excess : ℕ) → All (Behind tight excess) (loopsOf (runOf tight)) → twoToMinus 24 ≤ excess
-unfolding loopsOf loopOf flatMap
-tight-least excess h =
-    let b : Behind tight excess _ = subst (λ (l : List (Chain (List Vertex))). All (Behind tight excess) (loopsOf l)) tight-run h .0 in
+-- Whatever figure holds of a loop of this stitch is 2^-24 at least,
+pub tight-least : (excess : ℕ) (loop : List Vertex) → Behind tight excess loop → twoToMinus 24 ≤ excess
+tight-least excess loop b =
     let c : b .chain ≡ chain = List·Memᴰ·eq-of-singleton (subst (λ (l : List (Chain (List Vertex))). List·Memᴰ (b .chain) l) tight-run (b .ran)) in
     let w = closing excess (subst (λ (d : Chain (List Vertex)). AtJoins (Joined tight excess) (firstSlice d) (d .rounds)) c (b .joined)) in
     add-le-cancel-left (natAbs (whole t)) (subst (λ (n : ℕ). n ≤ natAbs (whole t) + excess) tight-apart w)
+
+-- and it has one.
+pub tight-loops : length (loopsOf (runOf tight)) ≡ 1
+unfolding loopsOf loopOf flatMap
+tight-loops = ap (λ (l : List (Chain (List Vertex))). length (loopsOf l)) tight-run
+
+pub first-least : (excess : ℕ) (loops : List (List Vertex)) → length loops ≡ 1 → All (Behind tight excess) loops → twoToMinus 24 ≤ excess
+first-least excess [] e h = absurd (omega arith)
+first-least excess (loop ∷ loops) e h = tight-least excess loop (h .0)
 
 -- ---- document 01 lets it through
 
@@ -131,7 +140,7 @@ tight-in =
 
 -- So no figure below 2^-24 holds of every stitch.
 pub no-less : (excess : ℕ) → ((g : Given) → StitchIn g → All (Behind g excess) (loopsOf (runOf g))) → twoToMinus 24 ≤ excess
-no-less excess h = tight-least excess (h tight tight-in)
+no-less excess h = first-least excess (loopsOf (runOf tight)) tight-loops (h tight tight-in)
 
 -- ---- where 2^-23 would come from: the box around 2^30 takes a number beyond it
 

@@ -1,10 +1,12 @@
 -- Request K13, of every stitch whose numbers document 01 lets through: at every join of every loop returned, and at its closing, on each axis.
-use Prim.Native.Nat.{ℕ, _+_, _≤_}
-use mathlib.Core.Bool.{true, false}
+use Prim.Native.Nat.{ℕ, _+_, _*_, _^_, _≤_}
+use mathlib.Core.Bool.{Bool, true, false}
 use mathlib.Core.Path.{_≡_, refl, ap}
-use mathlib.Core.List.{List, [], _∷_, _++_, flatMap, List·Memᴰ, List·Memᴰ·head, List·Memᴰ·tail}
+use mathlib.Core.List.{List, [], _∷_, flatMap, List·Memᴰ, List·Memᴰ·head, List·Memᴰ·tail}
 use native.Mathlib.Omega.{arith}
 use lib.Dec.{lit≤}
+use lib.IntN.{ℤ, natAbs}
+use lib.Ieee.{fin, binary64, up, down}
 use Rattle.basis.specs.Choice.{clash, and-left, and-right}
 use Rattle.basis.specs.All.{All, all-imp, all-both}
 use Rattle.basis.specs.Number.{Tolerance, inSpan}
@@ -13,13 +15,23 @@ use Rattle.outline.specs.declared.point.Vertex.{Vertex}
 use Rattle.outline.specs.Points.{posOf, inBox}
 use Rattle.stitch_vertices.specs.Vertices.{dropLast}
 use Rattle.stitch_run.specs.Run.{Chain, Ending, closed, tooSmall, noCandidate, noSelection, spent}
-use Rattle.stitch_run.specs.Stitch.{Given, sliceVertex, startPoint, offersTo, addSlice, rulesOf, runOf, loopOf, loopsOf}
+use Rattle.stitch_run.specs.Stitch.{Given, sliceVertex, startPoint, offersTo, rulesOf, runOf, loopOf, loopsOf}
 use Rattle.stitch_run.specs.Demand3.{firstSlice}
+use Rattle.stitch_run.specs.Doubles.{Double}
 use Rattle.stitch_run.specs.StitchLaws.{among}
-use Rattle.join.specs.Join.{twoToMinus, Within, toleranceX, toleranceY, Near, AtJoins, Joined, Behind}
+use Rattle.join.specs.Join.{whole, twoToMinus, toleranceX, toleranceY, Joined, Behind}
+use Rattle.join.specs.WholeLaws.{scaled-exact}
 use Rattle.join.specs.BoxLaws.{box-near}
 use Rattle.join.specs.OfferLaws.{Taken, ClosedJoins, joins-imp, run-joins}
 use Rattle.join.specs.RangeLaws.{VertexIn, StitchIn, slice-in, drop-in, add-slice-in}
+
+-- ---- the scale
+
+-- Every finite f64, m · 2 ^ e with m · up e / down e for its size, is a whole number of 2^-1074: the division in `scaled` leaves nothing.
+pub whole-exact : (s : Bool) (m : ℕ) (e : ℤ) → Double (fin s m e) → natAbs (whole (fin s m e)) * down e ≡ m * up e * 2 ^ 1074
+whole-exact s m e d = scaled-exact binary64 m e s d
+
+-- ---- one join
 
 -- the box on each axis, with its own tolerance
 box-axes : (t : Tolerance) (e p : Point) → inBox t e p ≡ true → (inSpan (toleranceX t) (e .x) (p .x) ≡ true) × (inSpan (toleranceY t) (e .y) (p .y) ≡ true)
@@ -27,8 +39,6 @@ unfolding inBox
 box-axes t e p h = (and-left _ _ h, and-right (inSpan (toleranceX t) (e .x) (p .x)) _ h)
 
 module _ (g : Given) (a : StitchIn g) where
-  -- ---- one join
-
   abbrev AllIn : List Vertex → Type 0
   AllIn = All VertexIn
 

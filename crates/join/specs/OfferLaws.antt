@@ -11,7 +11,7 @@ use Rattle.basis.specs.Choice.{and-right}
 use Rattle.basis.specs.All.{All, all-snoc}
 use Rattle.select.specs.declared.best.Selected.{Selected}
 use Rattle.select.specs.declared.best.Selected.the-variants.{Slice, NoSlice}
-use Rattle.stitch_run.specs.Run.{Rules, Ending, closed, tooSmall, noCandidate, noSelection, spent, Next, onto, ends, Round, Chain, Underway, Stitched}
+use Rattle.stitch_run.specs.Run.{Rules, Ending, closed, tooSmall, noCandidate, noSelection, Next, onto, ends, Round, Chain, Underway, Stitched}
 use Rattle.stitch_run.specs.Run.{free, candidate, candidatesOf, taken, answered, asked, nextOf, roundOf, opened, onward, ended, stopped, walk, chainFrom, added, begun, turn, turns, run, orderOf}
 use Rattle.stitch_run.specs.Demand3.{firstSlice}
 use Rattle.stitch_run.specs.TallyLaws.{passing-mem}
@@ -48,7 +48,6 @@ module _ {C : Type 0} where
 abbrev Chose : ℕ → Next → ℕ → Type 0
 Chose first (onto k) j = k ≡ j
 Chose first (ends e) j = (e ≡ closed) × (first ≡ j)
-
 
 module _ {C : Type 0} (R : Rules C) (among : Among R) where
   -- the slice was selected, so it is a candidate

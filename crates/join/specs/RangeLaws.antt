@@ -8,17 +8,17 @@ use lib.Dec.{eqb, ltb}
 use lib.ListN.{length, getD}
 use lib.Ieee.{Float, nan}
 use Rattle.basis.specs.All.{All, all-at, all-get}
-use Rattle.basis.specs.Number.{Tolerance, within, allWithin, tolerable}
+use Rattle.basis.specs.Number.{Tolerance, within, allWithin}
 use Rattle.outline.specs.declared.point.Vertex.{Vertex}
 use Rattle.outline.specs.Points.{posOf, withBulge, pointsAgree}
 use Rattle.outline.specs.Outline.{Whole, vertexAt, outlineAt}
 use Rattle.outline.specs.OutlineLaws.{wrap-lt}
 use Rattle.view.specs.declared.data.ViewData.{ViewData}
 use Rattle.view.specs.View.{forwardAt, turnedAt, invertedAt, vertexOf}
-use Rattle.stitch_vertices.specs.Vertices.{addVertex, addFirst, addView, dropLast}
+use Rattle.stitch_vertices.specs.Vertices.{addVertex, addFirst, dropLast}
 use Rattle.stitch_run.specs.Stitch.{Given, ofFirst, sliceOffset, sliceEnd, sliceView, sliceOutline, sliceCount, sliceVertex, addSlice}
 use Rattle.stitch_run.specs.StitchLaws.{slice-vertices}
-use Rattle.stitch_run.specs.Doubles.{Double, AllDouble, Doubles}
+use Rattle.stitch_run.specs.Doubles.{Double, AllDouble}
 use Rattle.join.specs.Join.{toleranceX, toleranceY}
 use Rattle.join.specs.BoxLaws.{InRange, InTolerance, in-range}
 

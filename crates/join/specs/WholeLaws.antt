@@ -6,10 +6,9 @@ use native.Mathlib.Nat.{zero-mul, mul-pos, mul-le-mul-right, le-of-mul-le-mul-ri
 use native.Mathlib.Omega.{arith}
 use lib.Dec.{T, ltb, ltb→lt, nltb→le}
 use lib.IntN.{ℤ, pos, negsuc, negℤ, natAbs, subℕ, _-ℤ_}
-use lib.Pow.{pow-pos}
 use lib.Ieee.{Float, nan, inf, fin, Format, low, up, down, fits, le}
 use lib.Ieee.Fits.{down-pos}
-use Rattle.basis.specs.OrderLaws.{Finite, over, left, le-yes}
+use Rattle.basis.specs.OrderLaws.{Finite, over, le-yes}
 use Rattle.basis.specs.UnitLaws.{unitsOf, units-exact}
 use Rattle.join.specs.Join.{scaled}
 
@@ -28,11 +27,11 @@ pub abs-parts : (a : ℤ) → natAbs a ≡ above a + beneath a
 abs-parts (pos n) = omega arith
 abs-parts (negsuc n) = omega arith
 
-pub neg-above : (n : ℕ) → above (negℤ (pos n)) ≡ 0
+neg-above : (n : ℕ) → above (negℤ (pos n)) ≡ 0
 neg-above zero = refl
 neg-above (suc n) = refl
 
-pub neg-beneath : (n : ℕ) → beneath (negℤ (pos n)) ≡ n
+neg-beneath : (n : ℕ) → beneath (negℤ (pos n)) ≡ n
 neg-beneath zero = refl
 neg-beneath (suc n) = refl
 
@@ -53,7 +52,13 @@ module _ (c : ℕ) where
   apart-le (negsuc a) (pos (suc b)) h k = omega arith
   apart-le (negsuc a) (negsuc b) h k = apart-sub (suc b) (suc a) (omega arith) (omega arith)
 
--- ---- the whole number of a finite value
+-- ---- a float's two parts
+
+abbrev pub topOf : Format → Float → ℕ
+topOf f x = above (scaled (low f) x)
+
+abbrev pub bottomOf : Format → Float → ℕ
+bottomOf f x = beneath (scaled (low f) x)
 
 -- a finite value of the format
 pub record Number (f : Format) (x : Float) : Type 0 where
@@ -61,24 +66,31 @@ pub record Number (f : Format) (x : Float) : Type 0 where
   pub finite : Finite x
 
 module _ (f : Format) (m : ℕ) (e : ℤ) where
-  pub fin-above : (s : Bool) → above (scaled (low f) (fin s m e)) ≡ over s (unitsOf f m e)
+  pub fin-top : (s : Bool) → topOf f (fin s m e) ≡ over s (unitsOf f m e)
   unfolding scaled
-  fin-above false = refl
-  fin-above true = neg-above (unitsOf f m e)
+  fin-top false = refl
+  fin-top true = neg-above (unitsOf f m e)
 
-  pub fin-beneath : (s : Bool) → beneath (scaled (low f) (fin s m e)) ≡ over (not s) (unitsOf f m e)
+  pub fin-bottom : (s : Bool) → bottomOf f (fin s m e) ≡ over (not s) (unitsOf f m e)
   unfolding scaled
-  fin-beneath false = refl
-  fin-beneath true = neg-beneath (unitsOf f m e)
+  fin-bottom false = refl
+  fin-bottom true = neg-beneath (unitsOf f m e)
 
-  -- nothing is lost: what is scaled, times the denominator, is the numerator times the power
-  pub over-exact : (s t : Bool) → T (fits f (fin s m e)) → over t (m * up e) * 2 ^ low f ≡ over t (unitsOf f m e) * down e
+  -- the division in `scaled` leaves nothing
+  over-exact : (s t : Bool) → T (fits f (fin s m e)) → over t (m * up e) * 2 ^ low f ≡ over t (unitsOf f m e) * down e
   over-exact s false h = sym (units-exact f s m e h)
   over-exact s true h = zero-mul (2 ^ low f) ∙ sym (zero-mul (down e))
 
+  pub scaled-exact : (s : Bool) → T (fits f (fin s m e)) → natAbs (scaled (low f) (fin s m e)) * down e ≡ m * up e * 2 ^ low f
+  scaled-exact s h = ap (λ (n : ℕ). n * down e) (abs-parts (scaled (low f) (fin s m e)) ∙ rw (fin-top s, fin-bottom s) (one s)) ∙ units-exact f s m e h
+    where
+      one : (s : Bool) → over s (unitsOf f m e) + over (not s) (unitsOf f m e) ≡ unitsOf f m e
+      one false = omega arith
+      one true = omega arith
+
 -- ---- the order
 
--- fractions a / e, .. of a common scale l
+-- two fractions over d and e, each in parts, scaled by l
 compare : (p p' q q' a a' b b' d e l : ℕ) → 0 < d → 0 < e → p * l ≡ a * e → p' * l ≡ a' * e → q * l ≡ b * d → q' * l ≡ b' * d
     → p * d + q' * e ≤ q * e + p' * d → a + b' ≤ b + a'
 compare p p' q q' a a' b b' d e l D E ep ep' eq eq' h =
@@ -86,15 +98,13 @@ compare p p' q q' a a' b b' d e l D E ep ep' eq eq' h =
     (omega (arith, mul-le-mul-right l h, ap (λ (n : ℕ). n * d) ep, ap (λ (n : ℕ). n * d) ep', ap (λ (n : ℕ). n * e) eq, ap (λ (n : ℕ). n * e) eq'))
     (mul-pos D E)
 
-module _ {f : Format} where
-  pub le-whole : (x y : Float) → Number f x → Number f y → le x y ≡ true
-      → above (scaled (low f) x) + beneath (scaled (low f) y) ≤ above (scaled (low f) y) + beneath (scaled (low f) x)
-  le-whole nan y p q h = absurd (p .finite)
-  le-whole (inf s) y p q h = absurd (p .finite)
-  le-whole (fin s m e) nan p q h = absurd (q .finite)
-  le-whole (fin s m e) (inf t) p q h = absurd (q .finite)
-  le-whole (fin s m e) (fin t n d) p q h =
-      rw (fin-above f m e s, fin-beneath f m e s, fin-above f n d t, fin-beneath f n d t)
-      (compare _ _ _ _ _ _ _ _ (down d) (down e) (2 ^ low f) (down-pos d) (down-pos e)
-      (over-exact f m e s s (p .held)) (over-exact f m e s (not s) (p .held)) (over-exact f n d t t (q .held)) (over-exact f n d t (not t) (q .held))
-      (le-yes m n e d s t h))
+pub le-whole : {f : Format} (x y : Float) → Number f x → Number f y → le x y ≡ true → topOf f x + bottomOf f y ≤ topOf f y + bottomOf f x
+le-whole nan y p q h = absurd (p .finite)
+le-whole (inf s) y p q h = absurd (p .finite)
+le-whole (fin s m e) nan p q h = absurd (q .finite)
+le-whole (fin s m e) (inf t) p q h = absurd (q .finite)
+le-whole {f} (fin s m e) (fin t n d) p q h =
+    rw (fin-top f m e s, fin-bottom f m e s, fin-top f n d t, fin-bottom f n d t)
+    (compare _ _ _ _ _ _ _ _ (down d) (down e) (2 ^ low f) (down-pos d) (down-pos e)
+    (over-exact f m e s s (p .held)) (over-exact f m e s (not s) (p .held)) (over-exact f n d t t (q .held)) (over-exact f n d t (not t) (q .held))
+    (le-yes m n e d s t h))
