@@ -1,7 +1,8 @@
 -- Document 01's numbers as whole numbers, and what its box says of their distance.
-use Prim.Native.Nat.{ℕ, zero, suc, _+_, _*_, _^_, _≤_, _<_}
+use Prim.Native.Nat.{ℕ, zero, suc, _+_, _-_, _*_, _^_, _≤_, _<_}
 use mathlib.Core.Bool.{Bool, true, false}
 use mathlib.Core.Path.{_≡_, refl, sym, ap, subst}
+use mathlib.Core.List.{List, [], _∷_}
 use native.Mathlib.Nat.{lt-of-le-of-lt, add-le-add, mul-pos}
 use native.Mathlib.Omega.{arith}
 use borrow.Author.Tests.{ltb-true}
@@ -10,21 +11,22 @@ use lib.IntN.{ℤ, pos, negsuc, negℤ, natAbs}
 use lib.Pow.{pow-pos}
 use lib.Ieee.{Float, nan, inf, fin, Format, binary64, ofBits, fits, low, up, down, sub, lt, le}
 use lib.Ieee.Bits.{ofBits-fits}
+use Rattle.basis.specs.All.{All, allOf}
 use Rattle.basis.specs.Choice.{clash, and-left, and-right}
-use Rattle.basis.specs.Number.{+0, one, limit, absF, inSpan, within, tolerable}
+use Rattle.basis.specs.Number.{+0, one, limit, absF, inSpan, within, allWithin, tolerable}
 use Rattle.basis.specs.OrderLaws.{finite-within}
 use Rattle.basis.specs.UnitLaws.{unitsOf, units-exact}
-use Rattle.stitch_run.specs.Doubles.{Double}
-use Rattle.join.specs.Join.{scaled, whole, twoToMinus, Within}
+use Rattle.stitch_run.specs.Doubles.{Double, AllDouble}
+use Rattle.join.specs.Join.{scaled, whole, twoToMinus, Small, Within}
 use Rattle.join.specs.WholeLaws.{above, beneath, Number, fin-top, fin-bottom, le-whole}
 use Rattle.join.specs.SpanLaws.{Positive, span-any, span-near}
 
 -- ---- numbers that number 5 lets through
 
--- "magnitude of any coordinate or bulge: 0 to 2^30"
-pub record InRange (x : Float) : Type 0 where
+-- a finite f64, at most 2^n in magnitude
+pub record InRange (n : ℕ) (x : Float) : Type 0 where
   pub number : Number binary64 x
-  pub small : natAbs (whole x) ≤ 2 ^ (30 + 1074)
+  pub small : Small n x
 
 limit-number : Number binary64 limit
 unfolding ofBits
@@ -62,7 +64,8 @@ unfolding scaled
 size-whole false m e = refl
 size-whole true m e = abs-neg (pos (unitsOf binary64 m e))
 
-pub in-range : (x : Float) → Double x → within x ≡ true → InRange x
+-- "magnitude of any coordinate or bulge: 0 to 2^30"
+pub in-range : (x : Float) → Double x → within x ≡ true → InRange 30 x
 unfolding within absF
 in-range nan d h = absurd (finite-within nan h)
 in-range (inf s) d h = absurd (finite-within (inf s) h)
@@ -73,6 +76,16 @@ in-range (fin s m e) d h =
       number = record { held = d; finite = tt };
       small = subst (λ (n : ℕ). n ≤ 2 ^ (30 + 1074)) (sym (size-whole s m e)) (at-most (whole x) (whole limit) (2 ^ (30 + 1074)) limit-whole l (fin-bottom binary64 m e false));
     }
+
+-- the same of a list
+pub looked : (l : List Float) → AllDouble l → allWithin l ≡ true → All (InRange 30) l
+unfolding allOf
+looked [] d h = tt
+looked (x ∷ l) d h = (in-range x (d .0) (and-left (within x) (allOf within l) h), looked l (d .1) (and-right (within x) (allOf within l) h))
+
+pub smaller : (n : ℕ) (l : List Float) → All (InRange 30) l → All (Small n) l → All (InRange n) l
+smaller n [] a h = tt
+smaller n (x ∷ l) a h = (record { number = a .0 .number; small = h .0 }, smaller n l (a .1) (h .1))
 
 -- ---- tolerances that number 4 lets through
 
@@ -111,16 +124,17 @@ in-tolerance (fin false m e) d h =
 both-below : (a b : ℕ) → a ≤ 2 ^ (30 + 1074) → b ≤ 2 ^ 1074 → a + b < 2 ^ (31 + 1074)
 both-below a b h k = lt-of-le-of-lt (add-le-add h k) (lit< tt)
 
-module _ (t e p : Float) (T : InTolerance t) (E : InRange e) where
-  -- p, whatever finite f64 it is, is at most t + 2 ^ -23 from e,
-  pub box-any : Number binary64 p → inSpan t e p ≡ true → Within t (twoToMinus 23) p e
-  unfolding inSpan
-  box-any P h =
-      span-any binary64 1051 (lit≤ tt) t e p (T .positive) (E .number) P (both-below _ _ (E .small) (T .small))
-      (and-left _ _ h) (and-right (le (sub binary64 e t) p) _ h)
+-- p, whatever finite f64 it is, is at most t + 2^-23 from e,
+pub box-any : (t e p : Float) → InTolerance t → InRange 30 e → Number binary64 p → inSpan t e p ≡ true → Within t (twoToMinus 23) p e
+unfolding inSpan
+box-any t e p pt pe pp h =
+    span-any binary64 1051 (lit≤ tt) t e p (pt .positive) (pe .number) pp (both-below _ _ (pe .small) (pt .small)) (and-left _ _ h) (and-right (le (sub binary64 e t) p) _ h)
 
-  -- and where p is in range too, at most t + 2 ^ -24.
-  pub box-near : InRange p → inSpan t e p ≡ true → Within t (twoToMinus 24) p e
-  unfolding inSpan
-  box-near P h =
-      span-near binary64 1050 (lit≤ tt) t e p (T .positive) (E .number) (P .number) (E .small) (P .small) (and-left _ _ h) (and-right (le (sub binary64 e t) p) _ h)
+-- and where both are at most 2^n, at most t + 2^(n - 54): half of a last place below 2^n. With n = 30 that is t + 2^-24.
+pub box-near : (n : ℕ) (t e p : Float) → n ≤ 30 → InTolerance t → InRange n e → InRange n p → inSpan t e p ≡ true → Within t (twoToMinus (54 - n)) p e
+unfolding inSpan
+box-near n t e p few pt pe pp h =
+    let k : ℕ = 1074 - (54 - n) in
+    let q : n + 1074 ≡ 53 + suc k = omega arith in
+    span-near binary64 k (omega arith) t e p (pt .positive) (pe .number) (pp .number)
+    (subst (λ (i : ℕ). natAbs (whole e) ≤ 2 ^ i) q (pe .small)) (subst (λ (i : ℕ). natAbs (whole p) ≤ 2 ^ i) q (pp .small)) (and-left _ _ h) (and-right (le (sub binary64 e t) p) _ h)

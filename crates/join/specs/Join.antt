@@ -5,6 +5,7 @@ use mathlib.Core.Path.{_≡_}
 use mathlib.Core.List.{List, [], _∷_, List·Memᴰ}
 use lib.IntN.{ℤ, pos, negℤ, natAbs, _-ℤ_}
 use lib.Ieee.{Float, nan, inf, fin, up, down}
+use Rattle.basis.specs.All.{All}
 use Rattle.basis.specs.Number.{Tolerance}
 use Rattle.outline.specs.declared.point.Point.{Point}
 use Rattle.outline.specs.declared.point.Vertex.{Vertex}
@@ -15,7 +16,7 @@ use Rattle.stitch_run.specs.Demand3.{firstSlice}
 
 -- ---- "State it in exact whole numbers by scaling every f64 by a common power of two."
 
--- x times 2 ^ n. Of a finite f64 and n = 1074 the division leaves nothing (`whole-exact`); a NaN and the infinities have no number.
+-- x times 2 ^ n. With n = 1074 the division leaves nothing of a finite f64 (`whole-exact`). A NaN and the infinities count as 0; no accepted call holds one.
 unfoldable pub scaled : ℕ → Float → ℤ
 scaled n nan = pos 0
 scaled n (inf s) = pos 0
@@ -29,6 +30,10 @@ whole x = scaled 1074 x
 -- 2 ^ -k as a whole number
 abbrev pub twoToMinus : ℕ → ℕ
 twoToMinus k = 2 ^ (1074 - k)
+
+-- x is at most 2 ^ n in magnitude
+abbrev pub Small : ℕ → Float → Type 0
+Small n x = natAbs (whole x) ≤ 2 ^ (n + 1074)
 
 -- ---- "differs .. by at most the axis tolerance plus" an excess, "on each axis"
 
@@ -67,3 +72,10 @@ module _ (g : Given) (excess : ℕ) where
     pub ran : List·Memᴰ chain (runOf g)
     pub gives : loopOf (chain .ending) (chain .built) ≡ loop ∷ []
     pub joined : AtJoins Joined (firstSlice chain) (chain .rounds)
+
+-- ---- a stitch whose numbers are all small: degrees are at most 2 ^ 9
+
+pub record AllSmall (n : ℕ) (g : Given) : Type 0 where
+  pub first : All (Small n) (g .outline1)
+  pub second : All (Small n) (g .outline2)
+  pub numbers : All (Small n) (g .slice)

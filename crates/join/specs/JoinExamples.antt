@@ -25,8 +25,8 @@ use Rattle.stitch_run.specs.Stitch.{offersTo, rulesOf, runOf, loopOf, loopsOf}
 use Rattle.stitch_run.specs.Demand3.{firstSlice}
 use Rattle.stitch_run.specs.Doubles.{Double, Doubles}
 use Rattle.join.specs.Join.{scaled, whole, twoToMinus, Within, AtJoins, Joined, Behind}
-use Rattle.join.specs.BoxLaws.{in-tolerance}
-use Rattle.join.specs.RangeLaws.{StitchIn}
+use Rattle.join.specs.BoxLaws.{looked, in-tolerance}
+use Rattle.join.specs.JoinTheorems.{Ranged}
 
 -- ---- the numbers
 
@@ -125,21 +125,24 @@ tight-doubles =
     at-p : Double p
     at-p = ofBits-fits binary64 0x41c0_0000_0000_0002
 
-tight-in : StitchIn tight
+tight-in : Ranged 30 tight
 unfolding allOf within tolerable absF lt le ofBits
 tight-in =
     let d = tight-doubles in
     record {
-      first = record { size = record { triples = refl; least = lit≤ tt; most = lit≤ tt }; looked = record { doubles = d .first; pass = refl } };
-      second = record { size = record { triples = refl; least = lit≤ tt; most = lit≤ tt }; looked = record { doubles = d .second; pass = refl } };
-      sixes = refl;
-      looked = record { doubles = d .numbers; pass = refl };
+      numbers =
+          record {
+            first = record { size = record { triples = refl; least = lit≤ tt; most = lit≤ tt }; numbers = looked (tight .outline1) (d .first) refl };
+            second = record { size = record { triples = refl; least = lit≤ tt; most = lit≤ tt }; numbers = looked (tight .outline2) (d .second) refl };
+            sixes = refl;
+            numbers = looked (tight .slice) (d .numbers) refl;
+          };
       tolerance-x = in-tolerance t (d .tolerance) refl;
       tolerance-y = in-tolerance t (d .tolerance) refl;
     }
 
 -- So no figure below 2^-24 holds of every stitch.
-pub no-less : (excess : ℕ) → ((g : Given) → StitchIn g → All (Behind g excess) (loopsOf (runOf g))) → twoToMinus 24 ≤ excess
+pub no-less : (excess : ℕ) → ((g : Given) → Ranged 30 g → All (Behind g excess) (loopsOf (runOf g))) → twoToMinus 24 ≤ excess
 no-less excess h = first-least excess (loopsOf (runOf tight)) tight-loops (h tight tight-in)
 
 -- ---- where 2^-23 would come from: the box around 2^30 takes a number beyond it

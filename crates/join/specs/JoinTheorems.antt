@@ -1,5 +1,5 @@
 -- Request K13, of every stitch whose numbers document 01 lets through: at every join of every loop returned, and at its closing, on each axis.
-use Prim.Native.Nat.{ℕ, _+_, _*_, _^_, _≤_}
+use Prim.Native.Nat.{ℕ, _+_, _-_, _*_, _^_, _≤_}
 use mathlib.Core.Bool.{Bool, true, false}
 use mathlib.Core.Path.{_≡_, refl, ap}
 use mathlib.Core.List.{List, [], _∷_, flatMap, List·Memᴰ, List·Memᴰ·head, List·Memᴰ·tail}
@@ -19,9 +19,9 @@ use Rattle.stitch_run.specs.Stitch.{Given, sliceVertex, startPoint, offersTo, r
 use Rattle.stitch_run.specs.Demand3.{firstSlice}
 use Rattle.stitch_run.specs.Doubles.{Double}
 use Rattle.stitch_run.specs.StitchLaws.{among}
-use Rattle.join.specs.Join.{whole, twoToMinus, toleranceX, toleranceY, Joined, Behind}
+use Rattle.join.specs.Join.{whole, twoToMinus, AllSmall, toleranceX, toleranceY, Joined, Behind}
 use Rattle.join.specs.WholeLaws.{scaled-exact}
-use Rattle.join.specs.BoxLaws.{box-near}
+use Rattle.join.specs.BoxLaws.{InRange, InTolerance, smaller, box-near}
 use Rattle.join.specs.OfferLaws.{Taken, ClosedJoins, joins-imp, run-joins}
 use Rattle.join.specs.RangeLaws.{VertexIn, StitchIn, slice-in, drop-in, add-slice-in}
 
@@ -38,29 +38,39 @@ box-axes : (t : Tolerance) (e p : Point) → inBox t e p ≡ true → (inSpan (t
 unfolding inBox
 box-axes t e p h = (and-left _ _ h, and-right (inSpan (toleranceX t) (e .x) (p .x)) _ h)
 
-module _ (g : Given) (a : StitchIn g) where
+-- What numbers 1, 2, 4 and 5 leave of a stitch; document 01's n is 30.
+pub record Ranged (n : ℕ) (g : Given) : Type 0 where
+  pub numbers : StitchIn (InRange n) g
+  pub tolerance-x : InTolerance (toleranceX (g .tolerance))
+  pub tolerance-y : InTolerance (toleranceY (g .tolerance))
+
+module _ (n : ℕ) (few : n ≤ 30) (g : Given) (a : Ranged n g) where
   abbrev AllIn : List Vertex → Type 0
-  AllIn = All VertexIn
+  AllIn = All (VertexIn (InRange n))
+
+  abbrev Took : List Vertex → ℕ → Type 0
+  Took = Taken (rulesOf g) AllIn
 
   -- a slice that was offered to vertices in range
-  offered-near : (vs : List Vertex) (j : ℕ) → Taken (rulesOf g) AllIn vs j → Joined g (twoToMinus 24) vs j
+  offered-near : (vs : List Vertex) (j : ℕ) → Took vs j → Joined g (twoToMinus (54 - n)) vs j
   unfolding rulesOf offersTo startPoint
   offered-near [] j t = clash false (t .offer) refl
   offered-near (last ∷ vs) j t =
-      let p = slice-in g a j 0 (t .slice) in
+      let p = slice-in (InRange n) g (a .numbers) j 0 (t .slice) in
       let e = t .kept .0 in
       let b = box-axes (g .tolerance) (posOf last) (posOf (sliceVertex g j 0)) (t .offer) in
-      record { x = box-near _ _ _ (a .tolerance-x) (e .x) (p .x) (b .0); y = box-near _ _ _ (a .tolerance-y) (e .y) (p .y) (b .1) }
+      record { x = box-near n _ _ _ few (a .tolerance-x) (e .x) (p .x) (b .0); y = box-near n _ _ _ few (a .tolerance-y) (e .y) (p .y) (b .1) }
 
   -- ---- every closed chain
 
-  run-taken : All (ClosedJoins (Taken (rulesOf g) AllIn)) (runOf g)
+  run-taken : All (ClosedJoins Took) (runOf g)
   unfolding runOf rulesOf
-  run-taken = run-joins (rulesOf g) (among g) AllIn (λ i h. add-slice-in g a i [] h tt) (λ vs j h p. add-slice-in g a j (dropLast vs) h (drop-in vs p))
+  run-taken =
+      run-joins (rulesOf g) (among g) AllIn (λ i h. add-slice-in (InRange n) g (a .numbers) i [] h tt)
+      (λ vs j h p. add-slice-in (InRange n) g (a .numbers) j (dropLast vs) h (drop-in (InRange n) vs p))
 
-  pub chains-near : All (ClosedJoins (Joined g (twoToMinus 24))) (runOf g)
-  chains-near =
-      all-imp _ _ (λ c h e. joins-imp (Taken (rulesOf g) AllIn) (Joined g (twoToMinus 24)) offered-near (firstSlice c) (c .rounds) (h e)) (runOf g) run-taken
+  chains-near : All (ClosedJoins (Joined g (twoToMinus (54 - n)))) (runOf g)
+  chains-near = all-imp _ _ (λ c h e. joins-imp Took (Joined g (twoToMinus (54 - n))) offered-near (firstSlice c) (c .rounds) (h e)) (runOf g) run-taken
 
 -- ---- every loop returned
 
@@ -90,13 +100,33 @@ looser : (g : Given) (c d : ℕ) → c ≤ d → (vs : List Vertex) (j : ℕ) �
 looser g c d h [] j n = n
 looser g c d h (last ∷ vs) j n = record { x = more _ _ c d h (n .x); y = more _ _ c d h (n .y) }
 
-module _ (g : Given) (a : StitchIn g) where
-  -- The sharper figure: the axis tolerance plus 2^-24, since the start of a slice and the last vertex of a chain are both in range.
-  pub loops-near : All (Behind g (twoToMinus 24)) (loopsOf (runOf g))
-  loops-near = loops-behind g (twoToMinus 24) (runOf g) (λ c m. m) (chains-near g a)
+behind-looser : (g : Given) (c d : ℕ) → c ≤ d → (loop : List Vertex) → Behind g c loop → Behind g d loop
+behind-looser g c d h loop b =
+    record { chain = b .chain; ran = b .ran; gives = b .gives; joined = joins-imp (Joined g c) (Joined g d) (looser g c d h) (firstSlice (b .chain)) (b .chain .rounds) (b .joined) }
 
-  -- "by at most the axis tolerance plus 2^-23, on each axis"
-  pub loops-within : All (Behind g (twoToMinus 23)) (loopsOf (runOf g))
-  loops-within =
-      loops-behind g (twoToMinus 23) (runOf g) (λ c m. m)
-      (all-imp _ _ (λ c h e. joins-imp _ _ (looser g (twoToMinus 24) (twoToMinus 23) (lit≤ tt)) (firstSlice c) (c .rounds) (h e)) (runOf g) (chains-near g a))
+-- Where no number is above 2^n in magnitude: the axis tolerance plus 2^(n - 54).
+pub loops-sized : (n : ℕ) → n ≤ 30 → (g : Given) → Ranged n g → All (Behind g (twoToMinus (54 - n))) (loopsOf (runOf g))
+loops-sized n few g a = loops-behind g (twoToMinus (54 - n)) (runOf g) (λ c m. m) (chains-near n few g a)
+
+pub ranged-small : (n : ℕ) (g : Given) → Ranged 30 g → AllSmall n g → Ranged n g
+ranged-small n g a h =
+    let b = a .numbers in
+    record {
+      numbers =
+          record {
+            first = record { size = b .first .size; numbers = smaller n (g .outline1) (b .first .numbers) (h .first) };
+            second = record { size = b .second .size; numbers = smaller n (g .outline2) (b .second .numbers) (h .second) };
+            sixes = b .sixes;
+            numbers = smaller n (g .slice) (b .numbers) (h .numbers);
+          };
+      tolerance-x = a .tolerance-x;
+      tolerance-y = a .tolerance-y;
+    }
+
+-- The sharper figure: the axis tolerance plus 2^-24, since the start of a slice and the last vertex of a chain are both in range.
+pub loops-near : (g : Given) → Ranged 30 g → All (Behind g (twoToMinus 24)) (loopsOf (runOf g))
+loops-near g a = loops-sized 30 (lit≤ tt) g a
+
+-- "by at most the axis tolerance plus 2^-23, on each axis"
+pub loops-within : (g : Given) → Ranged 30 g → All (Behind g (twoToMinus 23)) (loopsOf (runOf g))
+loops-within g a = all-imp _ _ (behind-looser g (twoToMinus 24) (twoToMinus 23) (lit≤ tt)) (loopsOf (runOf g)) (loops-near g a)

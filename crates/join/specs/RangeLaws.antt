@@ -1,4 +1,4 @@
--- Every vertex of a chain is in document 01's range: a vertex is read from an outline or a slice, whose numbers number 5 has looked at, and no position is worked out.
+-- No position is worked out: what holds of every number of the outlines and slices holds of every coordinate of a chain's vertices.
 use Prim.Native.Nat.{ℕ, zero, suc, _+_, _*_, _<_}
 use mathlib.Core.Bool.{Bool, true, false, cond}
 use mathlib.Core.Path.{_≡_}
@@ -7,8 +7,8 @@ use native.Mathlib.Omega.{arith}
 use lib.Dec.{eqb, ltb}
 use lib.ListN.{length, getD}
 use lib.Ieee.{Float, nan}
-use Rattle.basis.specs.All.{All, all-at, all-get}
-use Rattle.basis.specs.Number.{Tolerance, within, allWithin}
+use Rattle.basis.specs.All.{All, all-get}
+use Rattle.basis.specs.Number.{Tolerance}
 use Rattle.outline.specs.declared.point.Vertex.{Vertex}
 use Rattle.outline.specs.Points.{posOf, withBulge, pointsAgree}
 use Rattle.outline.specs.Outline.{Whole, vertexAt, outlineAt}
@@ -18,119 +18,108 @@ use Rattle.view.specs.View.{forwardAt, turnedAt, invertedAt, vertexOf}
 use Rattle.stitch_vertices.specs.Vertices.{addVertex, addFirst, dropLast}
 use Rattle.stitch_run.specs.Stitch.{Given, ofFirst, sliceOffset, sliceEnd, sliceView, sliceOutline, sliceCount, sliceVertex, addSlice}
 use Rattle.stitch_run.specs.StitchLaws.{slice-vertices}
-use Rattle.stitch_run.specs.Doubles.{Double, AllDouble}
-use Rattle.join.specs.Join.{toleranceX, toleranceY}
-use Rattle.join.specs.BoxLaws.{InRange, InTolerance, in-range}
 
--- a vertex whose position is in range
-pub record VertexIn (v : Vertex) : Type 0 where
-  pub x : InRange (v .x)
-  pub y : InRange (v .y)
+module _ (P : Float → Type 0) where
+  -- both coordinates of a vertex have the property
+  pub record VertexIn (v : Vertex) : Type 0 where
+    pub x : P (v .x)
+    pub y : P (v .y)
 
--- ---- reading
+  number-in : (l : List Float) (k : ℕ) → All P l → k < length l → P (getD l k nan)
+  number-in l k a h = all-get (P) l k nan a h
 
--- a list of numbers that number 5 has looked at
-pub record Looked (l : List Float) : Type 0 where
-  pub doubles : AllDouble l
-  pub pass : allWithin l ≡ true
+  vertex-in : (l : List Float) (i : ℕ) → All P l → 3 * i + 1 < length l → VertexIn (vertexAt l i)
+  unfolding vertexAt
+  vertex-in l i a h = record { x = number-in l (3 * i) a (omega arith); y = number-in l (3 * i + 1) a h }
 
-pub number-in : (l : List Float) (k : ℕ) → Looked l → k < length l → InRange (getD l k nan)
-number-in l k a h = in-range (getD l k nan) (all-get Double l k nan (a .doubles) h) (all-at within l k nan (a .pass) h)
+  -- ---- an outline and a view of it
 
-vertex-in : (l : List Float) (i : ℕ) → Looked l → 3 * i + 1 < length l → VertexIn (vertexAt l i)
-unfolding vertexAt
-vertex-in l i a h = record { x = number-in l (3 * i) a (omega arith); y = number-in l (3 * i + 1) a h }
+  -- an outline of document 01's size, whose numbers have the property
+  pub record OutlineIn (o : List Float) (vc : ℕ) : Type 0 where
+    pub size : Whole o vc
+    pub numbers : All P o
 
--- ---- an outline and a view of it
+  outline-in : (o : List Float) (vc i : ℕ) → OutlineIn o vc → VertexIn (outlineAt o vc i)
+  unfolding outlineAt
+  outline-in o vc i a =
+      let s = a .size in
+      vertex-in o _ (a .numbers) (omega (arith, wrap-lt vc i (omega arith)))
 
--- an outline that numbers 1, 2 and 5 let through
-pub record OutlineIn (o : List Float) (vc : ℕ) : Type 0 where
-  pub size : Whole o vc
-  pub looked : Looked o
+  either : (b : Bool) (v w : Vertex) → VertexIn v → VertexIn w → VertexIn (cond b v w)
+  either true v w p q = p
+  either false v w p q = q
 
-outline-in : (o : List Float) (vc i : ℕ) → OutlineIn o vc → VertexIn (outlineAt o vc i)
-unfolding outlineAt
-outline-in o vc i a =
-    let s = a .size in
-    vertex-in o _ (a .looked) (omega (arith, wrap-lt vc i (omega arith)))
+  bulged : (v : Vertex) (b : Float) → VertexIn v → VertexIn (withBulge v b)
+  bulged v b p = record { x = p .x; y = p .y }
 
-either : (b : Bool) (v w : Vertex) → VertexIn v → VertexIn w → VertexIn (cond b v w)
-either true v w p q = p
-either false v w p q = q
+  -- a view's own numbers
+  pub record ViewIn (v : ViewData) : Type 0 where
+    pub start : VertexIn (v .«updated_start»)
+    pub end-x : P (v .«end_point» .x)
+    pub end-y : P (v .«end_point» .y)
 
-bulged : (v : Vertex) (b : Float) → VertexIn v → VertexIn (withBulge v b)
-bulged v b p = record { x = p .x; y = p .y }
+  view-in : (o : List Float) (vc : ℕ) (v : ViewData) (k : ℕ) → OutlineIn o vc → ViewIn v → VertexIn (vertexOf o vc v k)
+  unfolding vertexOf forwardAt turnedAt invertedAt
+  view-in o vc v k a b =
+      either (v .«inverted_direction») _ _
+      (either (eqb k 0) _ _ (record { x = b .end-x; y = b .end-y })
+      (either (ltb k (v .«end_index_offset»)) _ _ (bulged _ _ (outline-in o vc _ a))
+      (either (eqb k (v .«end_index_offset»)) _ _ (bulged _ _ (outline-in o vc _ a)) (bulged _ _ (b .start)))))
+      (either (eqb k 0) _ _ (b .start)
+      (either (ltb k (v .«end_index_offset»)) _ _ (outline-in o vc _ a)
+      (either (eqb k (v .«end_index_offset»)) _ _ (bulged _ _ (outline-in o vc _ a)) (record { x = b .end-x; y = b .end-y }))))
 
--- a view's own numbers
-pub record ViewIn (v : ViewData) : Type 0 where
-  pub start : VertexIn (v .«updated_start»)
-  pub end-x : InRange (v .«end_point» .x)
-  pub end-y : InRange (v .«end_point» .y)
+  -- ---- a stitch whose outlines and slices have it
 
-view-in : (o : List Float) (vc : ℕ) (v : ViewData) (k : ℕ) → OutlineIn o vc → ViewIn v → VertexIn (vertexOf o vc v k)
-unfolding vertexOf forwardAt turnedAt invertedAt
-view-in o vc v k a b =
-    either (v .«inverted_direction») _ _
-    (either (eqb k 0) _ _ (record { x = b .end-x; y = b .end-y })
-    (either (ltb k (v .«end_index_offset»)) _ _ (bulged _ _ (outline-in o vc _ a))
-    (either (eqb k (v .«end_index_offset»)) _ _ (bulged _ _ (outline-in o vc _ a)) (bulged _ _ (b .start)))))
-    (either (eqb k 0) _ _ (b .start)
-    (either (ltb k (v .«end_index_offset»)) _ _ (outline-in o vc _ a)
-    (either (eqb k (v .«end_index_offset»)) _ _ (bulged _ _ (outline-in o vc _ a)) (record { x = b .end-x; y = b .end-y }))))
+  pub record StitchIn (g : Given) : Type 0 where
+    pub first : OutlineIn (g .outline1) (g .vc1)
+    pub second : OutlineIn (g .outline2) (g .vc2)
+    pub sixes : length (g .slice) ≡ 6 * g .slices
+    pub numbers : All P (g .slice)
 
--- ---- a stitch that numbers 1, 2, 4 and 5 let through
+  module _ (g : Given) (a : StitchIn g) where
+    slice-view : (i : ℕ) → i < g .slices → ViewIn (sliceView (g .sliceAt) (g .slice) i)
+    unfolding sliceView sliceEnd
+    slice-view i h =
+        let e = a .sixes in
+        record {
+          start = vertex-in (g .slice) (2 * i) (a .numbers) (omega arith);
+          end-x = number-in (g .slice) (6 * i + 4) (a .numbers) (omega arith);
+          end-y = number-in (g .slice) (6 * i + 5) (a .numbers) (omega arith);
+        }
 
-pub record StitchIn (g : Given) : Type 0 where
-  pub first : OutlineIn (g .outline1) (g .vc1)
-  pub second : OutlineIn (g .outline2) (g .vc2)
-  pub sixes : length (g .slice) ≡ 6 * g .slices
-  pub looked : Looked (g .slice)
-  pub tolerance-x : InTolerance (toleranceX (g .tolerance))
-  pub tolerance-y : InTolerance (toleranceY (g .tolerance))
+    slice-outline : (i : ℕ) → OutlineIn (sliceOutline g i) (sliceCount g i)
+    unfolding sliceOutline sliceCount
+    slice-outline i = go (ofFirst (g .sliceAt) i)
+      where
+        go : (b : Bool) → OutlineIn (cond b (g .outline1) (g .outline2)) (cond b (g .vc1) (g .vc2))
+        go true = a .first
+        go false = a .second
 
-module _ (g : Given) (a : StitchIn g) where
-  slice-view : (i : ℕ) → i < g .slices → ViewIn (sliceView (g .sliceAt) (g .slice) i)
-  unfolding sliceView sliceEnd
-  slice-view i h =
-      let n = a .sixes in
-      record {
-        start = vertex-in (g .slice) (2 * i) (a .looked) (omega arith);
-        end-x = number-in (g .slice) (6 * i + 4) (a .looked) (omega arith);
-        end-y = number-in (g .slice) (6 * i + 5) (a .looked) (omega arith);
-      }
+    pub slice-in : (i k : ℕ) → i < g .slices → VertexIn (sliceVertex g i k)
+    unfolding sliceVertex
+    slice-in i k h = view-in (sliceOutline g i) (sliceCount g i) (sliceView (g .sliceAt) (g .slice) i) k (slice-outline i) (slice-view i h)
 
-  slice-outline : (i : ℕ) → OutlineIn (sliceOutline g i) (sliceCount g i)
-  unfolding sliceOutline sliceCount
-  slice-outline i = go (ofFirst (g .sliceAt) i)
+  -- ---- a chain's vertices
+
+  add-in : (t : Tolerance) (vs : List Vertex) (v : Vertex) → All VertexIn vs → VertexIn v → All VertexIn (addVertex t vs v)
+  unfolding addVertex
+  add-in t [] v h p = (p, tt)
+  add-in t (last ∷ vs) v h p = go (pointsAgree t (posOf last) (posOf v))
     where
-      go : (b : Bool) → OutlineIn (cond b (g .outline1) (g .outline2)) (cond b (g .vc1) (g .vc2))
-      go true = a .first
-      go false = a .second
+      go : (b : Bool) → All VertexIn (cond b (withBulge last (v .bulge) ∷ vs) (v ∷ last ∷ vs))
+      go true = (bulged last (v .bulge) (h .0), h .1)
+      go false = (p, h)
 
-  pub slice-in : (i k : ℕ) → i < g .slices → VertexIn (sliceVertex g i k)
-  unfolding sliceVertex
-  slice-in i k h = view-in (sliceOutline g i) (sliceCount g i) (sliceView (g .sliceAt) (g .slice) i) k (slice-outline i) (slice-view i h)
+  adds-in : (t : Tolerance) (f : ℕ → Vertex) → ((k : ℕ) → VertexIn (f k)) → (m : ℕ) (vs : List Vertex) → All VertexIn vs → All VertexIn (addFirst t f m vs)
+  unfolding addFirst
+  adds-in t f p zero vs h = h
+  adds-in t f p (suc m) vs h = add-in t (addFirst t f m vs) (f m) (adds-in t f p m vs h) (p m)
 
--- ---- a chain's vertices
+  pub drop-in : (vs : List Vertex) → All VertexIn vs → All VertexIn (dropLast vs)
+  unfolding dropLast
+  drop-in [] h = tt
+  drop-in (last ∷ vs) h = h .1
 
-add-in : (t : Tolerance) (vs : List Vertex) (v : Vertex) → All VertexIn vs → VertexIn v → All VertexIn (addVertex t vs v)
-unfolding addVertex
-add-in t [] v h p = (p, tt)
-add-in t (last ∷ vs) v h p = go (pointsAgree t (posOf last) (posOf v))
-  where
-    go : (b : Bool) → All VertexIn (cond b (withBulge last (v .bulge) ∷ vs) (v ∷ last ∷ vs))
-    go true = (bulged last (v .bulge) (h .0), h .1)
-    go false = (p, h)
-
-adds-in : (t : Tolerance) (f : ℕ → Vertex) → ((k : ℕ) → VertexIn (f k)) → (m : ℕ) (vs : List Vertex) → All VertexIn vs → All VertexIn (addFirst t f m vs)
-unfolding addFirst
-adds-in t f p zero vs h = h
-adds-in t f p (suc m) vs h = add-in t (addFirst t f m vs) (f m) (adds-in t f p m vs h) (p m)
-
-pub drop-in : (vs : List Vertex) → All VertexIn vs → All VertexIn (dropLast vs)
-unfolding dropLast
-drop-in [] h = tt
-drop-in (last ∷ vs) h = h .1
-
-pub add-slice-in : (g : Given) → StitchIn g → (i : ℕ) (vs : List Vertex) → i < g .slices → All VertexIn vs → All VertexIn (addSlice g i vs)
-add-slice-in g a i vs h p = rw (slice-vertices g i vs) (adds-in (g .tolerance) (sliceVertex g i) (λ k. slice-in g a i k h) (sliceOffset (g .sliceAt) i + 2) vs p)
+  pub add-slice-in : (g : Given) → StitchIn g → (i : ℕ) (vs : List Vertex) → i < g .slices → All VertexIn vs → All VertexIn (addSlice g i vs)
+  add-slice-in g a i vs h p = rw (slice-vertices g i vs) (adds-in (g .tolerance) (sliceVertex g i) (λ k. slice-in g a i k h) (sliceOffset (g .sliceAt) i + 2) vs p)

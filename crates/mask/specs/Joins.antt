@@ -1,5 +1,5 @@
 -- Request K13, from the contract of `mask_stitch`: whatever it answers and leaves in the lent lists, where it accepts.
-use Prim.Native.Nat.{ℕ, _*_, _≤_}
+use Prim.Native.Nat.{ℕ, _-_, _*_, _≤_}
 use mathlib.Core.Path.{_≡_, refl, sym, ap, _∙_}
 use mathlib.Core.List.{List, [], _∷_, _++_, map, flatMap}
 use lib.ListN.{length, take, replicate, length-map}
@@ -19,10 +19,9 @@ use Rattle.stitch_run.specs.Doubles.{Doubles}
 use Rattle.stitch_run.specs.Demand3.{sumOver}
 use Rattle.stitch_run.specs.Demand3Theorems.{no-rounds-fault}
 use Rattle.stitch_run.specs.ReportLaws.{flat-loops, totals-length}
-use Rattle.join.specs.Join.{twoToMinus, Behind}
-use Rattle.join.specs.BoxLaws.{in-tolerance}
-use Rattle.join.specs.RangeLaws.{StitchIn}
-use Rattle.join.specs.JoinTheorems.{loops-within, loops-near}
+use Rattle.join.specs.Join.{twoToMinus, AllSmall, toleranceX, toleranceY, Behind}
+use Rattle.join.specs.BoxLaws.{looked, in-tolerance}
+use Rattle.join.specs.JoinTheorems.{Ranged, loops-within, loops-near, loops-sized, ranged-small}
 use Rattle.join.specs.JoinExamples.{tight, tight-doubles, tight-loops, first-least}
 use Rattle.stitch.specs.Lent.{Lists, lists}
 use Rattle.stitch_entries.specs.declared.answer.StitchAnswer.{StitchAnswer}
@@ -53,8 +52,8 @@ module _ (g : Given) (doubles : Doubles g) where
   abbrev indexed : List Row
   indexed = indexRows (g .vc1) (g .vc2) (g .sliceAt) (g .starts) (g .slices)
 
-  stitch-in : Clear (shapeRows g) → StitchIn g
-  stitch-in ok =
+  ranged : Clear (shapeRows g) → Ranged 30 g
+  ranged ok =
       let a : Clear listed = clear-left listed (coded ++ (numbered ++ indexed)) ok in
       let s : Clear (coded ++ (numbered ++ indexed)) = clear-right listed (coded ++ (numbered ++ indexed)) ok in
       let b : Clear coded = clear-left coded (numbered ++ indexed) s in
@@ -63,20 +62,23 @@ module _ (g : Given) (doubles : Doubles g) where
       let size2 = size-ok (g .vc2) (b .1 .0) in
       let t = not-false _ (c .0) in
       record {
-        first =
+        numbers =
             record {
-              size = record { triples = length-ok 3 (length (g .outline1)) (g .vc1) (a .0); least = size1 .0; most = size1 .1 };
-              looked = record { doubles = doubles .first; pass = not-false _ (c .1 .0) };
+              first =
+                  record {
+                    size = record { triples = length-ok 3 (length (g .outline1)) (g .vc1) (a .0); least = size1 .0; most = size1 .1 };
+                    numbers = looked (g .outline1) (doubles .first) (not-false _ (c .1 .0));
+                  };
+              second =
+                  record {
+                    size = record { triples = length-ok 3 (length (g .outline2)) (g .vc2) (a .1 .0); least = size2 .0; most = size2 .1 };
+                    numbers = looked (g .outline2) (doubles .second) (not-false _ (c .1 .1 .0));
+                  };
+              sixes = length-ok 6 (length (g .slice)) (g .slices) (a .1 .1 .1 .0);
+              numbers = looked (g .slice) (doubles .numbers) (not-false _ (c .1 .1 .1 .0));
             };
-        second =
-            record {
-              size = record { triples = length-ok 3 (length (g .outline2)) (g .vc2) (a .1 .0); least = size2 .0; most = size2 .1 };
-              looked = record { doubles = doubles .second; pass = not-false _ (c .1 .1 .0) };
-            };
-        sixes = length-ok 6 (length (g .slice)) (g .slices) (a .1 .1 .1 .0);
-        looked = record { doubles = doubles .numbers; pass = not-false _ (c .1 .1 .1 .0) };
-        tolerance-x = in-tolerance (g .tolerance) (doubles .tolerance) t;
-        tolerance-y = in-tolerance (g .tolerance) (doubles .tolerance) t;
+        tolerance-x = in-tolerance (toleranceX (g .tolerance)) (doubles .tolerance) t;
+        tolerance-y = in-tolerance (toleranceY (g .tolerance)) (doubles .tolerance) t;
       }
 
 -- ---- the theorem
@@ -85,11 +87,11 @@ module _ (g : Given) (x : Lists) (r : StitchAnswer) (left : Lists) (doubles : Do
   number-zero : stitchNumber g x ≡ 0
   number-zero = answer-zero stitchRefused (λ a. a .refusal) (stitchNumber g x) _ r (λ k. refl) (holds .answers) accepted
 
-  numbers-in : StitchIn g
+  stitch-ranged : Ranged 30 g
   unfolding stitchRefusal
-  numbers-in =
+  stitch-ranged =
       let rest = roomRows (g .sliceAt) (g .slices) (length (x .room)) (length (x .ends)) (length (x .chain)) (length (x .chainEnds)) (length (x .chainHow)) ++ guardRows g in
-      stitch-in g doubles (clear-left (shapeRows g) rest (clear (shapeRows g ++ rest) tt number-zero))
+      ranged g doubles (clear-left (shapeRows g) rest (clear (shapeRows g ++ rest) tt number-zero))
 
   returned : (excess : ℕ) → All (Behind g excess) (loopsOf (runOf g)) → Returned excess g r left
   unfolding loopCount roomItems endItems
@@ -110,11 +112,15 @@ module _ (g : Given) (x : Lists) (r : StitchAnswer) (left : Lists) (doubles : Do
 
   -- "at every join and at the closing, the chosen slice's start differs from the vertex before it [..] by at most the axis tolerance plus 2^-23, on each axis"
   pub joins-within : Returned (twoToMinus 23) g r left
-  joins-within = returned (twoToMinus 23) (loops-within g numbers-in)
+  joins-within = returned (twoToMinus 23) (loops-within g stitch-ranged)
 
   -- The sharper figure, half of that.
   pub joins-near : Returned (twoToMinus 24) g r left
-  joins-near = returned (twoToMinus 24) (loops-near g numbers-in)
+  joins-near = returned (twoToMinus 24) (loops-near g stitch-ranged)
+
+  -- Where no number that was handed in is above 2^n in magnitude: the axis tolerance plus 2^(n - 54).
+  pub joins-sized : (n : ℕ) → n ≤ 30 → AllSmall n g → Returned (twoToMinus (54 - n)) g r left
+  joins-sized n few small = returned (twoToMinus (54 - n)) (loops-sized n few g (ranged-small n g stitch-ranged small))
 
 -- ---- no figure is smaller
 
