@@ -9,7 +9,7 @@ use lib.ListN.{length}
 use lib.Ieee.{Float}
 use borrow.Author.Tests.{ltb-true}
 use Rattle.basis.specs.Choice.{by-test, and-left}
-use Rattle.basis.specs.Number.{Tolerance}
+use Rattle.basis.specs.declared.number.Tolerance.{Tolerance}
 use Rattle.outline.specs.declared.point.Point.{Point}
 use Rattle.outline.specs.declared.point.Vertex.{Vertex}
 use Rattle.outline.specs.Points.{posOf, pointsAgree}

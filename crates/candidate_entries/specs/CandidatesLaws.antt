@@ -7,7 +7,8 @@ use native.Mathlib.Nat.{le-of-eq}
 use native.Mathlib.Omega.{arith}
 use lib.ListN.{length, take}
 use lib.Ieee.{Float}
-use Rattle.basis.specs.Number.{+0, Tolerance}
+use Rattle.basis.specs.Number.{+0}
+use Rattle.basis.specs.declared.number.Tolerance.{Tolerance}
 use Rattle.basis.specs.RoomLaws.{room-front}
 use Rattle.basis.specs.Refuse.{firstFrom, orElse}
 use Rattle.basis.specs.RefuseLaws.{Clear, clear, clear-left, clear-right, first-from, then-rows, answer-no, answer-yes}

@@ -1,4 +1,5 @@
 ghost use mathlib.Core.Path.{_≡_};
+ghost use Rattle.basis.specs.Number.{toleranceOf};
 ghost use Rattle.basis.specs.Refuse.{firstFrom};
 ghost use Rattle.cut.specs.Cuts.{given};
 ghost use Rattle.candidate.specs.Ready.{rooms, Written};
@@ -454,9 +455,12 @@ pub fn entry(
     cand: &mut [f64],
     probe: &mut [f64],
 ) -> CountAnswer
-    ensures { λ r. ⌜ Sliced (given (now (outline .entry)) vc (whichOf source) (now («hit_at» .entry)) (now (hit .entry)) hits (now («lap_at» .entry)) (now (lap .entry)) laps tolerance) source (now (splits .entry)) (rooms (now («cand_at» .entry)) (now (cand .entry)) (now (probe .entry))) r (rooms (now («cand_at» .exit)) (now (cand .exit)) (now (probe .exit))) ⌝ }
+    ensures { λ r. ⌜ Sliced (given (now (outline .entry)) vc (whichOf source) (now («hit_at» .entry)) (now (hit .entry)) hits (now («lap_at» .entry)) (now (lap .entry)) laps (toleranceOf tolerance)) source (now (splits .entry)) (rooms (now («cand_at» .entry)) (now (cand .entry)) (now (probe .entry))) r (rooms (now («cand_at» .exit)) (now (cand .exit)) (now (probe .exit))) ⌝ }
 {
     let which = faults::which_of(source);
+    let t = Tolerance {
+        position: tolerance,
+    };
     sliced(
         outline,
         vc,
@@ -469,7 +473,7 @@ pub fn entry(
         lap,
         laps,
         splits,
-        tolerance,
+        t,
         cand_at,
         cand,
         probe,

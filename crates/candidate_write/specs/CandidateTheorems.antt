@@ -10,7 +10,7 @@ use lib.ListN.{length, getD, length-append}
 use lib.Ieee.{Float}
 use borrow.Author.Tests.{lt-ltb, eqb-true, ne-eqb, eq-eqb}
 use Rattle.basis.specs.Choice.{by-test}
-use Rattle.basis.specs.Number.{Tolerance}
+use Rattle.basis.specs.declared.number.Tolerance.{Tolerance}
 use Rattle.outline.specs.declared.point.Vertex.{Vertex}
 use Rattle.outline.specs.Points.{posOf, pointsAgree}
 use Rattle.outline.specs.Outline.{wrap}

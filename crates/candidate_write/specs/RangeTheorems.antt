@@ -10,7 +10,8 @@ use lib.Ieee.{Float, nan}
 use borrow.Author.Tests.{ltb-true}
 use Rattle.basis.specs.Choice.{by-test, and-left}
 use Rattle.basis.specs.All.{allOf, all-append, all-at}
-use Rattle.basis.specs.Number.{Tolerance, within, allWithin}
+use Rattle.basis.specs.Number.{within, allWithin}
+use Rattle.basis.specs.declared.number.Tolerance.{Tolerance}
 use Rattle.outline.specs.declared.point.Vertex.{Vertex}
 use Rattle.outline.specs.Points.{posOf, pointsAgree, vertexNumbers, pointNumbers}
 use Rattle.outline.specs.Outline.{Whole, wrap, vertexAt, outlineAt, pointAt}

@@ -8,7 +8,7 @@ use lib.ListN.{getD}
 use lib.Dec.{eqb}
 use lib.Ieee.{Float}
 use Rattle.outline.specs.Outline.{pointAt}
-use Rattle.basis.specs.Number.{Tolerance}
+use Rattle.basis.specs.declared.number.Tolerance.{Tolerance}
 use Rattle.outline.specs.declared.point.Point.{Point}
 use Rattle.cut.specs.declared.arrival.Case.{Case}
 use Rattle.cut.specs.declared.arrival.Cut.{Cut}

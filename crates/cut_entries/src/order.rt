@@ -1,4 +1,5 @@
 ghost use mathlib.Core.Path.{_≡_};
+ghost use Rattle.basis.specs.Number.{toleranceOf};
 ghost use Rattle.cut.specs.Cuts.{given};
 ghost use Rattle.cut_entries.specs.CutRows.{Which, whichOf};
 ghost use Rattle.basis.specs.Refuse.{firstFrom};
@@ -136,9 +137,12 @@ pub fn entry(
     cut_at: &mut [usize],
     cut: &mut [f64],
 ) -> CountAnswer
-    ensures { λ r. ⌜ CutOrdered (given (now (outline .entry)) vc (whichOf source) (now («hit_at» .entry)) (now (hit .entry)) hits (now («lap_at» .entry)) (now (lap .entry)) laps tolerance) source (now («cut_at» .entry)) (now (cut .entry)) r (now («cut_at» .exit)) (now (cut .exit)) ⌝ }
+    ensures { λ r. ⌜ CutOrdered (given (now (outline .entry)) vc (whichOf source) (now («hit_at» .entry)) (now (hit .entry)) hits (now («lap_at» .entry)) (now (lap .entry)) laps (toleranceOf tolerance)) source (now («cut_at» .entry)) (now (cut .entry)) r (now («cut_at» .exit)) (now (cut .exit)) ⌝ }
 {
     let which = faults::which_of(source);
+    let t = Tolerance {
+        position: tolerance,
+    };
     ordered(
         outline,
         vc,
@@ -150,7 +154,7 @@ pub fn entry(
         lap_at,
         lap,
         laps,
-        tolerance,
+        t,
         cut_at,
         cut,
     )

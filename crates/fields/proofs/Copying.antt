@@ -6,7 +6,7 @@ use native.Mathlib.Omega.{arith}
 use native.Mathlib.Numerals.{add-one}
 use lib.ListN.{length, getD, set, take, drop, length-map, length-drop}
 use lib.Seq.{take-suc, getD-drop, length-take-le, sets, length-sets}
-use Rattle.fields.specs.StoreLaws.{sets-append}
+use Rattle.basis.specs.StoreLaws.{sets-append}
 use Rattle.fields.specs.Ready.{CopyAt}
 
 pub record Copying {A B : Type 0} (g : A → B) (src : List A) (from per : ℕ) (l : List B) (to : ℕ) (l′ : List B) (j : ℕ) : Type 0 where

@@ -8,7 +8,7 @@ use lib.Seq.{drop-drop, sets, length-sets}
 use Rattle.fields.specs.Fields.{size, pack, unpack, rows}
 use Rattle.fields.specs.Ready.{ShapeAt, ShapeRead, ShapeFrom, RowsAt, RowsFrom}
 use Rattle.fields.specs.FieldLaws.{length-pack, length-unpack, unpack-append, pack-append}
-use Rattle.fields.specs.StoreLaws.{sets-then}
+use Rattle.basis.specs.StoreLaws.{sets-then}
 use Rattle.fields.specs.StepLaws.{step-inside, step-left}
 
 -- ---- reading

@@ -9,7 +9,7 @@ use lib.Seq.{drop-cons, drop-drop, sets, length-sets}
 use Rattle.fields.specs.Fields.{size, bytesOf, pack, unpack}
 use Rattle.fields.specs.Ready.{Narrow, narrow-one, Fitted, fit-none, fit-one, FieldAt, Value, ShapeAt, ShapeRead, ShapeFrom}
 use Rattle.fields.specs.FieldLaws.{length-bytes}
-use Rattle.fields.specs.StoreLaws.{sets-then}
+use Rattle.basis.specs.StoreLaws.{sets-then}
 
 -- field i is the first of what is left
 next : (s : List ℕ) (i : ℕ) → i < length s → drop i s ≡ getD s i 0 ∷ drop (i + 1) s

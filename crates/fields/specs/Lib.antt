@@ -2,5 +2,4 @@ pub mod Fields
 pub mod Ready
 pub mod FieldLaws
 pub mod NumberLaws
-pub mod StoreLaws
 pub mod StepLaws

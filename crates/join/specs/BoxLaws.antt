@@ -13,7 +13,7 @@ use lib.Ieee.{Float, nan, inf, fin, Format, binary64, ofBits, fits, low, up, dow
 use lib.Ieee.Bits.{ofBits-fits}
 use Rattle.basis.specs.All.{All, allOf}
 use Rattle.basis.specs.Choice.{clash, and-left, and-right}
-use Rattle.basis.specs.Number.{+0, one, limit, absF, inSpan, within, allWithin, tolerable}
+use Rattle.basis.specs.Number.{+0, one, limit, absF, inSpan, within, allWithin}
 use Rattle.basis.specs.OrderLaws.{finite-within}
 use Rattle.basis.specs.UnitLaws.{unitsOf, units-exact}
 use Rattle.stitch_run.specs.Doubles.{Double, AllDouble}
@@ -102,17 +102,17 @@ some-units f m e d h = go (unitsOf f m e) (units-exact f false m e d) (mul-pos h
     go zero q p = absurd (omega arith)
     go (suc n) q p = omega arith
 
-pub in-tolerance : (t : Float) → Double t → tolerable t ≡ true → InTolerance t
-unfolding tolerable lt ofBits le
-in-tolerance nan d h = clash false h refl
-in-tolerance (inf true) d h = clash false h refl
-in-tolerance (inf false) d h = clash false h refl
-in-tolerance (fin true m e) d h = clash false h refl
-in-tolerance (fin false m e) d h =
+pub in-tolerance : (t : Float) → Double t → lt +0 t ≡ true → le t one ≡ true → InTolerance t
+unfolding lt ofBits le
+in-tolerance nan d h l = clash false h refl
+in-tolerance (inf true) d h l = clash false h refl
+in-tolerance (inf false) d h l = clash false l refl
+in-tolerance (fin true m e) d h l = clash false h refl
+in-tolerance (fin false m e) d h l =
     let t = fin false m e in
     let n : Number binary64 t = record { held = d; finite = tt } in
-    let a = ltb-true (0 * 1 * down e) (m * up e * 1) (and-left (lt +0 t) (le t one) h) in
-    let b = le-whole t one n one-number (and-right (lt +0 t) (le t one) h) in
+    let a = ltb-true (0 * 1 * down e) (m * up e * 1) h in
+    let b = le-whole t one n one-number l in
     record {
       positive = record { number = n; some = rw (fin-top binary64 m e false) (some-units binary64 m e d (omega arith)); none = fin-bottom binary64 m e false };
       small = subst (λ (i : ℕ). i ≤ 2 ^ 1074) (sym (size-whole false m e)) (at-most (whole t) (whole one) (2 ^ 1074) one-whole b (fin-bottom binary64 m e false));

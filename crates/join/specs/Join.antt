@@ -6,7 +6,7 @@ use mathlib.Core.List.{List, [], _∷_, List·Memᴰ}
 use lib.IntN.{ℤ, pos, negℤ, natAbs, _-ℤ_}
 use lib.Ieee.{Float, nan, inf, fin, up, down}
 use Rattle.basis.specs.All.{All}
-use Rattle.basis.specs.Number.{Tolerance}
+use Rattle.basis.specs.declared.number.Tolerance.{Tolerance}
 use Rattle.outline.specs.declared.point.Point.{Point}
 use Rattle.outline.specs.declared.point.Vertex.{Vertex}
 use Rattle.outline.specs.Points.{posOf}
@@ -43,10 +43,10 @@ Within t excess a b = natAbs (whole a -ℤ whole b) ≤ natAbs (whole t) + exces
 
 -- the tolerance of each axis
 abbrev pub toleranceX : Tolerance → Float
-toleranceX t = t
+toleranceX t = t .position
 
 abbrev pub toleranceY : Tolerance → Float
-toleranceY t = t
+toleranceY t = t .position
 
 pub record Near (t : Tolerance) (excess : ℕ) (a b : Point) : Type 0 where
   pub x : Within (toleranceX t) excess (a .x) (b .x)

@@ -11,7 +11,7 @@ use lib.ListN.{length}
 use lib.Ieee.{Float, binary64, ofBits, neg, add, sub, lt, le}
 use lib.Ieee.Bits.{ofBits-fits}
 use Rattle.basis.specs.All.{All, allOf}
-use Rattle.basis.specs.Number.{+0, limit, absF, agree, inSpan, within, tolerable}
+use Rattle.basis.specs.Number.{+0, limit, absF, agree, inSpan, within, toleranceOf, tolerable}
 use Rattle.outline.specs.declared.point.Vertex.{Vertex}
 use Rattle.outline.specs.Points.{pointsAgree, inBox}
 use Rattle.outline.specs.Outline.{vertexAt, wrap, outlineAt}
@@ -25,7 +25,8 @@ use Rattle.stitch_run.specs.Stitch.{offersTo, rulesOf, runOf, loopOf, loopsOf}
 use Rattle.stitch_run.specs.Demand3.{firstSlice}
 use Rattle.stitch_run.specs.Doubles.{Double, Doubles}
 use Rattle.join.specs.Join.{scaled, whole, twoToMinus, Within, AtJoins, Joined, Behind}
-use Rattle.join.specs.BoxLaws.{looked, in-tolerance}
+use Rattle.join.specs.BoxLaws.{looked}
+use Rattle.join.specs.AxisLaws.{tolerances-in}
 use Rattle.join.specs.JoinTheorems.{Ranged}
 
 -- ---- the numbers
@@ -54,7 +55,7 @@ abbrev pub tight : Given
 tight =
     given (at e e ++ at +0 eight ++ at eight +0) 3 (at +0 +0 ++ at eight eight) 2
     (1 ∷ 0 ∷ 0 ∷ 2 ∷ []) (at p p ++ (+0 ∷ e ∷ e ∷ [])) 1
-    (record { pline2 = 1; «pline1_overlapping» = 1; «pline2_overlapping» = 1 }) 0 t
+    (record { pline2 = 1; «pline1_overlapping» = 1; «pline2_overlapping» = 1 }) 0 (toleranceOf t)
 
 abbrev vertex : Float → Float → Vertex
 vertex x y = record { x = x; y = y; bulge = +0 }
@@ -137,8 +138,7 @@ tight-in =
             sixes = refl;
             numbers = looked (tight .slice) (d .numbers) refl;
           };
-      tolerance-x = in-tolerance t (d .tolerance) refl;
-      tolerance-y = in-tolerance t (d .tolerance) refl;
+      tolerances = tolerances-in tight d refl;
     }
 
 -- So no figure below 2^-24 holds of every stitch.

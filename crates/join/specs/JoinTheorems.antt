@@ -1,27 +1,26 @@
 -- Request K13, of every stitch whose numbers document 01 lets through: at every join of every loop returned, and at its closing, on each axis.
 use Prim.Native.Nat.{ℕ, _+_, _-_, _*_, _^_, _≤_}
-use mathlib.Core.Bool.{Bool, true, false}
+use mathlib.Core.Bool.{Bool, false}
 use mathlib.Core.Path.{_≡_, refl, ap}
 use mathlib.Core.List.{List, [], _∷_, flatMap, List·Memᴰ, List·Memᴰ·head, List·Memᴰ·tail}
 use native.Mathlib.Omega.{arith}
 use lib.Dec.{lit≤}
 use lib.IntN.{ℤ, natAbs}
 use lib.Ieee.{fin, binary64, up, down}
-use Rattle.basis.specs.Choice.{clash, and-left, and-right}
+use Rattle.basis.specs.Choice.{clash}
 use Rattle.basis.specs.All.{All, all-imp, all-both}
-use Rattle.basis.specs.Number.{Tolerance, inSpan}
-use Rattle.outline.specs.declared.point.Point.{Point}
 use Rattle.outline.specs.declared.point.Vertex.{Vertex}
-use Rattle.outline.specs.Points.{posOf, inBox}
+use Rattle.outline.specs.Points.{posOf}
 use Rattle.stitch_vertices.specs.Vertices.{dropLast}
 use Rattle.stitch_run.specs.Run.{Chain, Ending, closed, tooSmall, noCandidate, noSelection, spent}
 use Rattle.stitch_run.specs.Stitch.{Given, sliceVertex, startPoint, offersTo, rulesOf, runOf, loopOf, loopsOf}
 use Rattle.stitch_run.specs.Demand3.{firstSlice}
 use Rattle.stitch_run.specs.Doubles.{Double}
 use Rattle.stitch_run.specs.StitchLaws.{among}
-use Rattle.join.specs.Join.{whole, twoToMinus, AllSmall, toleranceX, toleranceY, Joined, Behind}
+use Rattle.join.specs.Join.{whole, twoToMinus, AllSmall, Joined, Behind}
 use Rattle.join.specs.WholeLaws.{scaled-exact}
-use Rattle.join.specs.BoxLaws.{InRange, InTolerance, smaller, box-near}
+use Rattle.join.specs.BoxLaws.{InRange, smaller, box-near}
+use Rattle.join.specs.AxisLaws.{box-axes, Tolerances}
 use Rattle.join.specs.OfferLaws.{Taken, ClosedJoins, joins-imp, run-joins}
 use Rattle.join.specs.RangeLaws.{VertexIn, StitchIn, slice-in, drop-in, add-slice-in}
 
@@ -33,16 +32,10 @@ whole-exact s m e d = scaled-exact binary64 m e s d
 
 -- ---- one join
 
--- the box on each axis, with its own tolerance
-box-axes : (t : Tolerance) (e p : Point) → inBox t e p ≡ true → (inSpan (toleranceX t) (e .x) (p .x) ≡ true) × (inSpan (toleranceY t) (e .y) (p .y) ≡ true)
-unfolding inBox
-box-axes t e p h = (and-left _ _ h, and-right (inSpan (toleranceX t) (e .x) (p .x)) _ h)
-
 -- What numbers 1, 2, 4 and 5 leave of a stitch; document 01's n is 30.
 pub record Ranged (n : ℕ) (g : Given) : Type 0 where
   pub numbers : StitchIn (InRange n) g
-  pub tolerance-x : InTolerance (toleranceX (g .tolerance))
-  pub tolerance-y : InTolerance (toleranceY (g .tolerance))
+  pub tolerances : Tolerances (g .tolerance)
 
 module _ (n : ℕ) (few : n ≤ 30) (g : Given) (a : Ranged n g) where
   abbrev AllIn : List Vertex → Type 0
@@ -59,7 +52,7 @@ module _ (n : ℕ) (few : n ≤ 30) (g : Given) (a : Ranged n g) where
       let p = slice-in (InRange n) g (a .numbers) j 0 (t .slice) in
       let e = t .kept .0 in
       let b = box-axes (g .tolerance) (posOf last) (posOf (sliceVertex g j 0)) (t .offer) in
-      record { x = box-near n _ _ _ few (a .tolerance-x) (e .x) (p .x) (b .0); y = box-near n _ _ _ few (a .tolerance-y) (e .y) (p .y) (b .1) }
+      record { x = box-near n _ _ _ few (a .tolerances .x) (e .x) (p .x) (b .0); y = box-near n _ _ _ few (a .tolerances .y) (e .y) (p .y) (b .1) }
 
   -- ---- every closed chain
 
@@ -119,8 +112,7 @@ ranged-small n g a h =
             sixes = b .sixes;
             numbers = smaller n (g .slice) (b .numbers) (h .numbers);
           };
-      tolerance-x = a .tolerance-x;
-      tolerance-y = a .tolerance-y;
+      tolerances = a .tolerances;
     }
 
 -- The sharper figure: the axis tolerance plus 2^-24, since the start of a slice and the last vertex of a chain are both in range.

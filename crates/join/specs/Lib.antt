@@ -4,6 +4,7 @@ pub mod RoundLaws
 pub mod SumLaws
 pub mod SpanLaws
 pub mod BoxLaws
+pub mod AxisLaws
 pub mod OfferLaws
 pub mod RangeLaws
 pub mod JoinTheorems

@@ -19,8 +19,9 @@ use Rattle.stitch_run.specs.Doubles.{Doubles}
 use Rattle.stitch_run.specs.Demand3.{sumOver}
 use Rattle.stitch_run.specs.Demand3Theorems.{no-rounds-fault}
 use Rattle.stitch_run.specs.ReportLaws.{flat-loops, totals-length}
-use Rattle.join.specs.Join.{twoToMinus, AllSmall, toleranceX, toleranceY, Behind}
-use Rattle.join.specs.BoxLaws.{looked, in-tolerance}
+use Rattle.join.specs.Join.{twoToMinus, AllSmall, Behind}
+use Rattle.join.specs.BoxLaws.{looked}
+use Rattle.join.specs.AxisLaws.{tolerances-in}
 use Rattle.join.specs.JoinTheorems.{Ranged, loops-within, loops-near, loops-sized, ranged-small}
 use Rattle.join.specs.JoinExamples.{tight, tight-doubles, tight-loops, first-least}
 use Rattle.stitch.specs.Lent.{Lists, lists}
@@ -60,7 +61,6 @@ module _ (g : Given) (doubles : Doubles g) where
       let c : Clear numbered = clear-left numbered indexed (clear-right coded (numbered ++ indexed) s) in
       let size1 = size-ok (g .vc1) (b .0) in
       let size2 = size-ok (g .vc2) (b .1 .0) in
-      let t = not-false _ (c .0) in
       record {
         numbers =
             record {
@@ -77,8 +77,7 @@ module _ (g : Given) (doubles : Doubles g) where
               sixes = length-ok 6 (length (g .slice)) (g .slices) (a .1 .1 .1 .0);
               numbers = looked (g .slice) (doubles .numbers) (not-false _ (c .1 .1 .1 .0));
             };
-        tolerance-x = in-tolerance (toleranceX (g .tolerance)) (doubles .tolerance) t;
-        tolerance-y = in-tolerance (toleranceY (g .tolerance)) (doubles .tolerance) t;
+        tolerances = tolerances-in g doubles (not-false _ (c .0));
       }
 
 -- ---- the theorem

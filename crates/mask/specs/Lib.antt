@@ -1,5 +1,5 @@
 pub mod Accept
 pub mod Pipeline
 pub mod OneAnswer
-pub mod Lowest
+pub mod First
 pub mod Joins

@@ -4,7 +4,7 @@ use mathlib.Core.Path.{_≡_}
 use mathlib.Core.List.{List}
 use lib.IntN.{ℤ}
 use lib.Ieee.{Float}
-use Rattle.basis.specs.Number.{Tolerance}
+use Rattle.basis.specs.declared.number.Tolerance.{Tolerance}
 use Rattle.basis.specs.RefuseLaws.{one-answer}
 use Rattle.outline.specs.declared.point.Point.{Point}
 use Rattle.outline.specs.declared.point.Vertex.{Vertex}

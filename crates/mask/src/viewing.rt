@@ -1,5 +1,6 @@
 // Views.
 ghost use mathlib.Core.Path.{_≡_};
+ghost use Rattle.basis.specs.Number.{toleranceOf};
 ghost use Rattle.view_entries.specs.Inputs.{walkOf};
 ghost use Rattle.view_entries.specs.ViewVertex.{viewVertexAnswer};
 ghost use Rattle.view_entries.specs.CreateEntry.{createAnswer};
@@ -40,7 +41,7 @@ pub extern "C" fn mask_create(
     tolerance: f64,
     split: Split,
 ) -> ViewAnswer
-    ensures { λ r. ⌜ r ≡ createAnswer (now (outline .entry)) vc (walkOf «start_index» «end_intersect» «intersect_index» «updated_start» «traverse_count» split) tolerance split ⌝ }
+    ensures { λ r. ⌜ r ≡ createAnswer (now (outline .entry)) vc (walkOf «start_index» «end_intersect» «intersect_index» «updated_start» «traverse_count» split) (toleranceOf tolerance) split ⌝ }
 {
     view_entries::create::entry(
         outline,
@@ -65,7 +66,7 @@ pub extern "C" fn mask_create_on_single_segment(
     end_intersect: Point,
     tolerance: f64,
 ) -> ViewAnswer
-    ensures { λ r. ⌜ r ≡ singleAnswer (now (outline .entry)) vc «start_index» «updated_start» «end_intersect» tolerance ⌝ }
+    ensures { λ r. ⌜ r ≡ singleAnswer (now (outline .entry)) vc «start_index» «updated_start» «end_intersect» (toleranceOf tolerance) ⌝ }
 {
     view_entries::single::entry(
         outline,

@@ -2,7 +2,8 @@
 use mathlib.Core.Bool.{Bool, _&&_}
 use mathlib.Core.List.{List, [], _∷_}
 use lib.Ieee.{Float}
-use Rattle.basis.specs.Number.{Tolerance, agree, inSpan}
+use Rattle.basis.specs.Number.{agree, inSpan}
+use Rattle.basis.specs.declared.number.Tolerance.{Tolerance}
 use Rattle.outline.specs.declared.point.Point.{Point}
 use Rattle.outline.specs.declared.point.Vertex.{Vertex}
 
@@ -27,8 +28,8 @@ vertexNumbers v = v .x ∷ v .y ∷ v .bulge ∷ []
 
 -- "Two points agree when both coordinates do."
 unfoldable pub pointsAgree : Tolerance → Point → Point → Bool
-pointsAgree t a b = agree t (a .x) (b .x) && agree t (a .y) (b .y)
+pointsAgree t a b = agree (t .position) (a .x) (b .x) && agree (t .position) (a .y) (b .y)
 
 -- "ex − t ≤ px ≤ ex + t, and likewise in y, the box closed and its sides rounded": p in the box around e
 unfoldable pub inBox : Tolerance → Point → Point → Bool
-inBox t e p = inSpan t (e .x) (p .x) && inSpan t (e .y) (p .y)
+inBox t e p = inSpan (t .position) (e .x) (p .x) && inSpan (t .position) (e .y) (p .y)

@@ -1,3 +1,4 @@
-// Points and vertices by value, and outlines of flat triples.
+// Points and vertices by value, outlines of flat triples, read and written.
 pub mod point;
 pub mod read;
+pub mod write;

@@ -15,7 +15,7 @@ use Rattle.basis.specs.RefuseLaws.{then-rows}
 use Rattle.fields.specs.Fields.{unpack, numOf}
 use Rattle.fields.specs.FieldLaws.{length-unpack}
 use Rattle.fields.specs.Ready.{Fitted, fit-none, fit-one, ShapeAt, ShapeRead}
-use Rattle.fields.specs.StoreLaws.{sets-front}
+use Rattle.basis.specs.StoreLaws.{sets-front}
 use Rattle.record.specs.declared.form.Version.{Version}
 use Rattle.record.specs.declared.head.Head.{Head}
 use Rattle.record.specs.Record.{markOk, frameRows, takenRows, countRows}

@@ -6,7 +6,7 @@ use mathlib.Core.Path.{_≡_}
 use lib.Dec.{ltb, leb, eqb}
 use lib.ListN.{length, getD, take, drop}
 use lib.Ieee.{Float}
-use Rattle.basis.specs.Number.{+0}
+use Rattle.basis.specs.Number.{+0, toleranceOf}
 use Rattle.basis.specs.Refuse.{Row, row, firstOf, answer}
 use Rattle.basis.specs.Room.{roomOf}
 use Rattle.fields.specs.Fields.{size, valueOf, pack, unpack, numOf, bitsOf}
@@ -55,7 +55,7 @@ numbersOf stride h vs = map numOf (column stride 4 6 (h .slices) (drop (slicesAt
 -- the stitch
 unfoldable pub stitchOf : ℕ → Head → List ℕ → Given
 stitchOf stride h vs =
-    given (outline1Of h vs) (h .vc1) (outline2Of h vs) (h .vc2) (codesOf stride h vs) (numbersOf stride h vs) (h .slices) (h .starts) (h .selector) (h .tolerance)
+    given (outline1Of h vs) (h .vc1) (outline2Of h vs) (h .vc2) (codesOf stride h vs) (numbersOf stride h vs) (h .slices) (h .starts) (h .selector) (toleranceOf (h .tolerance))
 
 unfoldable pub stitchIn : Form → List ℕ → Given
 stitchIn f b = stitchOf (length (f .entry)) (headIn f b) (bodyIn f (headIn f b) b)
@@ -120,7 +120,7 @@ pub record ReadLeft (f : Form) (b : List ℕ) (o1 o2 : List Float) (at : List �
 -- the values of the head's fields in version 1
 abbrev pub headOf : ℕ → Given → List ℕ
 headOf version g =
-    80 ∷ 66 ∷ 82 ∷ version ∷ g .vc1 ∷ g .vc2 ∷ g .selector ∷ bitsOf (g .tolerance)
+    80 ∷ 66 ∷ 82 ∷ version ∷ g .vc1 ∷ g .vc2 ∷ g .selector ∷ bitsOf (g .tolerance .position)
     ∷ g .starts .pline2 ∷ g .starts .«pline1_overlapping» ∷ g .starts .«pline2_overlapping» ∷ g .slices ∷ []
 
 -- the values of the fields that follow it

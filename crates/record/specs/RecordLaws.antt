@@ -12,7 +12,7 @@ use Rattle.basis.specs.RefuseLaws.{Clear}
 use Rattle.basis.specs.Room.{roomOf}
 use Rattle.fields.specs.Fields.{size, rows, numOf}
 use Rattle.fields.specs.FieldLaws.{length-rows, size-rows, size-append}
-use Rattle.fields.specs.StoreLaws.{sets-front}
+use Rattle.basis.specs.StoreLaws.{sets-front}
 use Rattle.record.specs.declared.head.Head.{Head}
 use Rattle.record.specs.Form.{vertexShape, bodyOf, column}
 use Rattle.record.specs.Record.{outline1Of, outline2Of, slicesAt, codesOf, numbersOf}
@@ -68,16 +68,3 @@ unfolding roomOf
 sets-room d w need l items e h =
     let z : w * need - length items ≡ 0 = omega arith in
     sets-front l items (omega arith) ∙ rw (z, e)
-
--- a table in parts: a number of the first part stays; where it is clear the second decides
-pub first-found : (s t : List Row) → (firstOf s ≡ 0 → ⊥) → firstOf (s ++ t) ≡ firstOf s
-unfolding firstOf
-first-found [] t h = absurd (h refl)
-first-found (row true n ∷ s) t h = refl
-first-found (row false n ∷ s) t h = first-found s t h
-
-pub first-later : (s t : List Row) → Clear s → firstOf (s ++ t) ≡ firstOf t
-unfolding firstOf
-first-later [] t c = refl
-first-later (row true n ∷ s) t c = absurd (true≢false (c .0))
-first-later (row false n ∷ s) t c = first-later s t (c .1)

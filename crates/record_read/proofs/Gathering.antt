@@ -7,7 +7,7 @@ use lib.ListN.{length, take, drop, length-map, length-drop}
 use lib.Seq.{drop-drop, length-take-le, sets, length-sets}
 use Rattle.fields.specs.Ready.{CopyAt}
 use Rattle.fields.specs.StepLaws.{step-inside, step-left}
-use Rattle.fields.specs.StoreLaws.{sets-then}
+use Rattle.basis.specs.StoreLaws.{sets-then}
 use Rattle.record.specs.Form.{column}
 use Rattle.record_read.specs.Ready.{ColumnFit}
 

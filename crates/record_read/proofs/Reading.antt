@@ -10,12 +10,12 @@ use lib.Seq.{drop-drop, take-at, sets, length-sets}
 use lib.Ieee.{Float}
 use Rattle.basis.specs.Number.{+0}
 use Rattle.basis.specs.Refuse.{firstOf, firstFrom}
-use Rattle.basis.specs.RefuseLaws.{clear, first-from, then-rows, answer-no, answer-yes}
+use Rattle.basis.specs.RefuseLaws.{clear, first-from, then-rows, answer-no, answer-yes, first-found, first-later}
 use Rattle.basis.specs.Room.{roomOf}
 use Rattle.fields.specs.Fields.{size, unpack, rows}
 use Rattle.fields.specs.FieldLaws.{thin-narrow, length-unpack, unpack-append, size-rows, length-rows}
 use Rattle.fields.specs.Ready.{Narrow, RowsAt}
-use Rattle.fields.specs.StoreLaws.{sets-after, sets-front}
+use Rattle.basis.specs.StoreLaws.{sets-after, sets-front}
 use Rattle.record.specs.declared.form.Version.{Version}
 use Rattle.record.specs.declared.head.Head.{Head}
 use Rattle.record.specs.declared.head.Seen.{Seen}
@@ -23,7 +23,7 @@ use Rattle.record.specs.Form.{Form, vertexShape, bodyOf}
 use Rattle.record.specs.Record.{headIn, bodyIn, outline1Of, outline2Of, slicesAt, codesOf, numbersOf, stitchOf, stitchIn, frameRows, lengthOf, lengthIn, countRows, roomRows, readRefusal, seenRefused, seenGiven, ReadLeft}
 use Rattle.record.specs.Ready.{formOf, VersionOk, HeadFit, HeadRead}
 use Rattle.record_read.specs.Ready.{ListsFit, ListsFilled, Whole, BodyFit, bodyValues}
-use Rattle.record.specs.RecordLaws.{vertex-size, length-body, length-outline1, length-outline2, length-codes, length-numbers, sets-room, first-found, first-later}
+use Rattle.record.specs.RecordLaws.{vertex-size, length-body, length-outline1, length-outline2, length-codes, length-numbers, sets-room}
 
 -- ---- the values that follow the head
 vertex-narrow : Narrow vertexShape

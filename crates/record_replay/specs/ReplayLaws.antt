@@ -5,7 +5,8 @@ use mathlib.Core.List.{List}
 use native.Mathlib.Omega.{arith}
 use lib.ListN.{length, take, length-append}
 use lib.Ieee.{Float}
-use Rattle.basis.specs.Number.{+0, Tolerance}
+use Rattle.basis.specs.Number.{+0, toleranceOf}
+use Rattle.basis.specs.declared.number.Tolerance.{Tolerance}
 use Rattle.basis.specs.Refuse.{answer}
 use Rattle.basis.specs.RefuseLaws.{answer-no, answer-yes, answer-accepted}
 use Rattle.basis.specs.Room.{roomOf}
@@ -152,7 +153,7 @@ module _ (b : List ℕ) (o1 o2 : List Float) (at : List ℕ) (s : List Float) (r
         })
 
     -- the lists' fronts are the stitch that the bytes hold
-    pub fronts-held : given (take (3 * r .head .vc1) o1′) (r .head .vc1) (take (3 * r .head .vc2) o2′) (r .head .vc2) (take (4 * r .head .slices) at′) (take (6 * r .head .slices) s′) (r .head .slices) (r .head .starts) (r .head .selector) (r .head .tolerance)
+    pub fronts-held : given (take (3 * r .head .vc1) o1′) (r .head .vc1) (take (3 * r .head .vc2) o2′) (r .head .vc2) (take (4 * r .head .slices) at′) (take (6 * r .head .slices) s′) (r .head .slices) (r .head .starts) (r .head .selector) (toleranceOf (r .head .tolerance))
         ≡ heldIn b
     unfolding stitchIn stitchOf
     fronts-held =
@@ -170,7 +171,7 @@ module _ (b : List ℕ) (o1 o2 : List Float) (at : List ℕ) (s : List Float) (r
 
     pub replay-stitched : (x : Lists) (a : StitchAnswer) (left : Lists) (y : ReplayAnswer)
         → StitchLeft
-        (given (take (3 * r .head .vc1) o1′) (r .head .vc1) (take (3 * r .head .vc2) o2′) (r .head .vc2) (take (4 * r .head .slices) at′) (take (6 * r .head .slices) s′) (r .head .slices) (r .head .starts) (r .head .selector) (r .head .tolerance))
+        (given (take (3 * r .head .vc1) o1′) (r .head .vc1) (take (3 * r .head .vc2) o2′) (r .head .vc2) (take (4 * r .head .slices) at′) (take (6 * r .head .slices) s′) (r .head .slices) (r .head .starts) (r .head .selector) (toleranceOf (r .head .tolerance)))
         x a left
         → y ≡ replayOf (r .head .slices) a → ReplayLeft b x y left
     replay-stitched x a left y q e =

@@ -11,7 +11,7 @@ use lib.ListN.{length, getD}
 use Rattle.basis.specs.Choice.{by-test}
 use Rattle.basis.specs.EachLaws.{each-at}
 use Rattle.basis.specs.Refuse.{Row, firstOf, answer, countFor}
-use Rattle.basis.specs.RefuseLaws.{Clear, clear, clear-left, clear-right, none-clear, length-ok, one-answer}
+use Rattle.basis.specs.RefuseLaws.{Clear, clear, clear-left, clear-right, none-clear, length-ok, one-answer, first-found, first-later}
 use Rattle.stitch_run.specs.Demand3Theorems.{no-rounds-fault}
 use Rattle.stitch_run.specs.Stitch.{Given, sliceOffset, sumBelow, weightAt, needFor, needOf}
 use Rattle.stitch.specs.Lent.{Lists}
@@ -21,7 +21,6 @@ use Rattle.fields.specs.Fields.{size}
 use Rattle.record.specs.Form.{form1}
 use Rattle.record.specs.Record.{headIn, stitchOf, stitchIn, frameRows, lengthIn, takenRows, countRows, readRefusal}
 use Rattle.record.specs.Record as reading
-use Rattle.record.specs.RecordLaws.{first-found, first-later}
 use Rattle.record_replay.specs.declared.replay.ReplayAnswer.{ReplayAnswer}
 use Rattle.record_replay.specs.Replayed.{heldIn, formNumber, replayNumber, ReplayLeft}
 

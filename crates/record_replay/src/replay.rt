@@ -1,6 +1,7 @@
 ghost use mathlib.Core.Path.{_≡_};
 ghost use Prim.Native.Nat.{_*_};
 ghost use lib.ListN.{length, take};
+ghost use Rattle.basis.specs.Number.{toleranceOf};
 ghost use Rattle.stitch_run.specs.Stitch.{given};
 ghost use Rattle.stitch.specs.Lent.{lists};
 ghost use Rattle.stitch_entries.specs.StitchEntry.{StitchLeft};
@@ -69,7 +70,7 @@ fn stitch_held(
     chain_how: &mut [usize],
 ) -> StitchAnswer
     requires { ⌜ HeldFit h (length (now o1)) (length (now o2)) (length (now at)) (length (now s)) ⌝ }
-    ensures { λ r. ⌜ StitchLeft (given (take (3 * h .vc1) (now (o1 .entry))) (h .vc1) (take (3 * h .vc2) (now (o2 .entry))) (h .vc2) (take (4 * h .slices) (now (at .entry))) (take (6 * h .slices) (now (s .entry))) (h .slices) (h .starts) (h .selector) (h .tolerance)) (lists (now (room .entry)) (now (ends .entry)) (now (chain .entry)) (now («chain_ends» .entry)) (now («chain_how» .entry))) r (lists (now (room .exit)) (now (ends .exit)) (now (chain .exit)) (now («chain_ends» .exit)) (now («chain_how» .exit))) ⌝ }
+    ensures { λ r. ⌜ StitchLeft (given (take (3 * h .vc1) (now (o1 .entry))) (h .vc1) (take (3 * h .vc2) (now (o2 .entry))) (h .vc2) (take (4 * h .slices) (now (at .entry))) (take (6 * h .slices) (now (s .entry))) (h .slices) (h .starts) (h .selector) (toleranceOf (h .tolerance))) (lists (now (room .entry)) (now (ends .entry)) (now (chain .entry)) (now («chain_ends» .entry)) (now («chain_how» .entry))) r (lists (now (room .exit)) (now (ends .exit)) (now (chain .exit)) (now («chain_ends» .exit)) (now («chain_how» .exit))) ⌝ }
 {
     let n1 = 3 * h.vc1;
     let n2 = 3 * h.vc2;

@@ -8,19 +8,19 @@ use lib.Dec.{ltb}
 use lib.ListN.{length, take, drop, length-append, length-map}
 use lib.Seq.{take-at, sets}
 use lib.Ieee.{Float}
-use Rattle.basis.specs.Number.{Tolerance}
+use Rattle.basis.specs.declared.number.Tolerance.{Tolerance}
 use Rattle.basis.specs.Refuse.{Row, row, firstOf, firstFrom}
-use Rattle.basis.specs.RefuseLaws.{Clear, clear, first-from, answer-no, answer-yes}
+use Rattle.basis.specs.RefuseLaws.{Clear, clear, first-from, answer-no, answer-yes, first-found, first-later}
 use Rattle.fields.specs.Fields.{size, pack, bitsOf}
 use Rattle.fields.specs.FieldLaws.{length-pack}
-use Rattle.fields.specs.StoreLaws.{sets-front}
+use Rattle.basis.specs.StoreLaws.{sets-front}
 use Rattle.select.specs.declared.class.Starts.{Starts}
 use Rattle.stitch_run.specs.Stitch.{Given, given}
 use Rattle.record.specs.declared.form.Version.{Version}
 use Rattle.record.specs.Form.{form1, bodyOf, mix}
 use Rattle.record.specs.Ready.{versionOf}
 use Rattle.record.specs.Record.{headOf, valuesOf, recordOf}
-use Rattle.record.specs.RecordLaws.{length-body, size-body, sets-room, first-found, first-later}
+use Rattle.record.specs.RecordLaws.{length-body, size-body, sets-room}
 use Rattle.record_write.specs.declared.write.Written.{Written}
 use Rattle.record_write.specs.Writer.{keepRows, lengthFor, lengthGiven, writeRefusal, writtenRefused, writtenGiven, WriteLeft, bodyValues, packed}
 use Rattle.record_write.specs.Ready.{PackFit, KeepsIn, Keeps}

@@ -9,7 +9,7 @@ use lib.Ieee.{Float}
 use Rattle.fields.specs.Fields.{bitsOf}
 use Rattle.fields.specs.Ready.{NoNan, CopyAt, BitsAt}
 use Rattle.fields.specs.StepLaws.{step-inside, step-left}
-use Rattle.fields.specs.StoreLaws.{sets-then, sets-after}
+use Rattle.basis.specs.StoreLaws.{sets-then, sets-after}
 use Rattle.record.specs.Form.{mix}
 use Rattle.record_write.specs.Writer.{bodyValues}
 use Rattle.record_write.specs.Ready.{MixFit}

@@ -9,7 +9,7 @@ use lib.Seq.{sets, length-sets}
 use Rattle.fields.specs.Fields.{pack, rows}
 use Rattle.fields.specs.FieldLaws.{length-pack, pack-append, size-rows, length-rows}
 use Rattle.fields.specs.Ready.{RowsFrom}
-use Rattle.fields.specs.StoreLaws.{sets-after}
+use Rattle.basis.specs.StoreLaws.{sets-after}
 use Rattle.record.specs.declared.form.Version.{Version}
 use Rattle.record.specs.Form.{vertexShape, bodyOf}
 use Rattle.record.specs.RecordLaws.{vertex-size}

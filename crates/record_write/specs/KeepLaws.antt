@@ -8,7 +8,7 @@ use lib.Dec.{T}
 use lib.ListN.{length, getD}
 use lib.Ieee.{Float, nan, inf, fin, ofBits, isNan, lt, le}
 use Rattle.basis.specs.All.{all-at}
-use Rattle.basis.specs.Number.{absF, within, allWithin, tolerable}
+use Rattle.basis.specs.Number.{absF, within, allWithin, toleranceOf, tolerable}
 use Rattle.basis.specs.Refuse.{Row}
 use Rattle.basis.specs.RefuseLaws.{Clear, clear-left, clear-right, length-ok}
 use Rattle.fields.specs.Ready.{NoNan}
@@ -26,7 +26,7 @@ within-no-nan nan e = absurd (false≢true (unfold within absF le lt in e))
 within-no-nan (inf s) e = tt
 within-no-nan (fin s m k) e = tt
 
-pub tolerable-no-nan : (t : Float) → tolerable t ≡ true → T (not (isNan t))
+pub tolerable-no-nan : (t : Float) → tolerable (toleranceOf t) ≡ true → T (not (isNan t))
 unfolding isNan ofBits
 tolerable-no-nan nan e = absurd (false≢true (unfold tolerable lt in e))
 tolerable-no-nan (inf s) e = tt
@@ -90,7 +90,7 @@ module _ (g : Given) where
           long2 = length-ok 3 (length (g .outline2)) (g .vc2) (lists-clear .1 .0);
           long3 = length-ok 4 (length (g .sliceAt)) (g .slices) (lists-clear .1 .1 .0);
           long4 = length-ok 6 (length (g .slice)) (g .slices) (lists-clear .1 .1 .1 .0);
-          tolerance = tolerable-no-nan (g .tolerance) (not-false (tolerable (g .tolerance)) (numbers-clear .0));
+          tolerance = tolerable-no-nan (g .tolerance .position) (not-false (tolerable (g .tolerance)) (numbers-clear .0));
           plain1 = no-nans (g .outline1) (not-false (allWithin (g .outline1)) (numbers-clear .1 .0));
           plain2 = no-nans (g .outline2) (not-false (allWithin (g .outline2)) (numbers-clear .1 .1 .0));
           plain3 = no-nans (g .slice) (not-false (allWithin (g .slice)) (numbers-clear .1 .1 .1 .0));

@@ -104,7 +104,7 @@ module _ (b : List ℕ) (octets : Octets b) (r1 r2 r3 r4 : ℕ) (z : readRefusal
   head-below : Below (unpack (form1 .head) b)
   head-below = fitted-below (unpack-fitted (form1 .head) b octets) head-narrow
 
-  tolerance-kept : bitsOf (g .tolerance) ≡ getD (unpack (form1 .head) b) 7 0
+  tolerance-kept : bitsOf (g .tolerance .position) ≡ getD (unpack (form1 .head) b) 7 0
   unfolding stitchIn stitchOf headIn
   tolerance-kept = tolerance-back (getD (unpack (form1 .head) b) 7 0) (below-at 7 head-below) (not-false (tolerable (g .tolerance)) (numbers-clear .0))
 

@@ -50,7 +50,7 @@ pub record Keeps (g : Given) (m : ℕ) : Type 0 where
   pub long2 : length (g .outline2) ≡ 3 * g .vc2
   pub long3 : length (g .sliceAt) ≡ 4 * g .slices
   pub long4 : length (g .slice) ≡ 6 * g .slices
-  pub tolerance : T (not (isNan (g .tolerance)))
+  pub tolerance : T (not (isNan (g .tolerance .position)))
   pub plain1 : NoNan (g .outline1)
   pub plain2 : NoNan (g .outline2)
   pub plain3 : NoNan (g .slice)

@@ -52,7 +52,7 @@ module _ (g : Given) (ok : Clear (keepRows g)) (held : Doubles g) where
   plain3 : AllPlain (g .slice)
   plain3 = all-plain (g .slice) (held .numbers) (not-false (allWithin (g .slice)) (numbers-clear g ok .1 .1 .1 .0))
 
-  plain-tolerance : Plain (g .tolerance)
+  plain-tolerance : Plain (g .tolerance .position)
   plain-tolerance = record { held = held .tolerance; number = kept .tolerance }
 
   abbrev patterns1 : List ℕ
@@ -158,7 +158,7 @@ module _ (g : Given) (ok : Clear (keepRows g)) (held : Doubles g) where
       (fit-one n1
       (fit-one n2
       (fit-one sel
-      (fit-one (bits-below (g .tolerance) plain-tolerance)
+      (fit-one (bits-below (g .tolerance .position) plain-tolerance)
       (fit-one s1 (fit-one s2 (fit-one s3 (fit-one n3 fit-none)))))))))))
 
   -- ---- the bytes, in their two parts
@@ -173,11 +173,11 @@ module _ (g : Given) (ok : Clear (keepRows g)) (held : Doubles g) where
 
   -- the head of a stitch
   abbrev headFor : Head
-  headFor = record { vc1 = g .vc1; vc2 = g .vc2; selector = g .selector; tolerance = g .tolerance; starts = g .starts; slices = g .slices }
+  headFor = record { vc1 = g .vc1; vc2 = g .vc2; selector = g .selector; tolerance = g .tolerance .position; starts = g .starts; slices = g .slices }
 
   head-back : headIn form1 (recordOf form1 g) ≡ headFor
   unfolding headIn recordOf
-  head-back = ap (headAt 8) (unpack-pack bodyBytes head-fitted) ∙ rw (num-bits (g .tolerance) plain-tolerance)
+  head-back = ap (headAt 8) (unpack-pack bodyBytes head-fitted) ∙ rw (num-bits (g .tolerance .position) plain-tolerance)
 
   body-back : bodyIn form1 headFor (recordOf form1 g) ≡ valuesOf g
   unfolding bodyIn recordOf

@@ -98,7 +98,7 @@ fn write_kept(
     let entry = form::slice1();
     let mut held = [0usize; form::VALUES];
     let n = 3 * vc1 + 3 * vc2 + slices * 10;
-    let head = values::head_values(vc1, vc2, selector, tolerance, starts, slices);
+    let head = values::head_values(vc1, vc2, selector, tolerance.position, starts, slices);
     values::list_values(outline1, outline2, slice_at, slice, slices, &mut held);
     pack::pack_form(
         v,

@@ -7,7 +7,8 @@ use lib.ListN.{length, take}
 use lib.Ieee.{Float, ofInt, ofBits, neg, add, sub, mul, lt, le}
 use Rattle.basis.specs.Room.{roomOf}
 use Rattle.basis.specs.RoomLaws.{room-front}
-use Rattle.basis.specs.Number.{+0, Tolerance, absF, agree, inSpan, within, tolerable}
+use Rattle.basis.specs.Number.{+0, absF, agree, inSpan, within, tolerable}
+use Rattle.basis.specs.declared.number.Tolerance.{Tolerance}
 use Rattle.basis.specs.All.{allOf, All, all-imp}
 use Rattle.basis.specs.Each.{eachTo, placesBelow, placesAtMost}
 use Rattle.basis.specs.RefuseLaws.{answer-accepted}

@@ -7,7 +7,8 @@ use native.Mathlib.Omega.{arith}
 use lib.ListN.{length, getD}
 use lib.Dec.{ltb, leb}
 use lib.Ieee.{Float}
-use Rattle.basis.specs.Number.{Tolerance, allWithin, tolerable}
+use Rattle.basis.specs.Number.{allWithin, tolerable}
+use Rattle.basis.specs.declared.number.Tolerance.{Tolerance}
 use borrow.Author.Tests.{ltb-true, ltb-false, lt-ltb, le-ltb}
 use Rattle.basis.specs.Choice.{by-test}
 use Rattle.basis.specs.Each.{eachTo, placesBelow}

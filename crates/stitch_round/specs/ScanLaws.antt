@@ -13,7 +13,7 @@ use lib.Ieee.{Float, nan}
 use borrow.Author.Tests.{eq-eqb, ne-eqb, not-true, not-false}
 use Rattle.outline.specs.declared.point.Point.{Point}
 use Rattle.outline.specs.declared.point.Vertex.{Vertex}
-use Rattle.basis.specs.Number.{Tolerance}
+use Rattle.basis.specs.declared.number.Tolerance.{Tolerance}
 use Rattle.outline.specs.Points.{posOf, inBox}
 use Rattle.outline.specs.Outline.{vertexAt, pointAt}
 use Rattle.view.specs.declared.data.ViewData.{ViewData}

@@ -14,7 +14,7 @@ AllDouble l = All Double l
 
 -- every number of a stitch is
 pub record Doubles (g : Given) : Type 0 where
-  pub tolerance : Double (g .tolerance)
+  pub tolerance : Double (g .tolerance .position)
   pub first : AllDouble (g .outline1)
   pub second : AllDouble (g .outline2)
   pub numbers : AllDouble (g .slice)

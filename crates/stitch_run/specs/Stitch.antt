@@ -5,7 +5,7 @@ use mathlib.Core.List.{List, [], _∷_, map, flatMap, reverse}
 use lib.Dec.{eqb, ltb}
 use lib.ListN.{length, getD}
 use lib.Ieee.{Float, nan}
-use Rattle.basis.specs.Number.{Tolerance}
+use Rattle.basis.specs.declared.number.Tolerance.{Tolerance}
 use Rattle.outline.specs.declared.point.Point.{Point}
 use Rattle.outline.specs.declared.point.Vertex.{Vertex}
 use Rattle.outline.specs.Points.{posOf, vertexNumbers, inBox}

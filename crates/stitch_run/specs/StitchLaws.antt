@@ -8,7 +8,7 @@ use native.Mathlib.Numerals.{add-two}
 use native.Mathlib.Omega.{arith}
 use lib.ListN.{length}
 use lib.Ieee.{Float}
-use Rattle.basis.specs.Number.{Tolerance}
+use Rattle.basis.specs.declared.number.Tolerance.{Tolerance}
 use Rattle.outline.specs.declared.point.Vertex.{Vertex}
 use Rattle.outline.specs.Points.{posOf, withBulge, pointsAgree}
 use Rattle.view.specs.declared.data.ViewData.{ViewData}

@@ -4,6 +4,7 @@ ghost use Rattle.outline.specs.Outline.{Segment};
 ghost use Rattle.view.specs.View.{Fit};
 ghost use Rattle.verdict.specs.Validate.{Asked, nearSegment, onSegment, bulgeVerdict, finalVerdict, endVerdict, startVerdict, verdictOf};
 use basis::number;
+use basis::number::Tolerance;
 use outline::point::Point;
 use outline::point::Vertex;
 use outline::read;
@@ -43,8 +44,10 @@ fn near_segment(outline: &[f64], vc: usize, i: usize, p: Point) -> bool
     requires { ⌜ Segment (now outline) vc i ⌝ }
     ensures { λ r. ⌜ r ≡ nearSegment (now (outline .entry)) vc i p ⌝ }
 {
-    create::near_vertex(outline, vc, i, p, VALIDATION_POINT_ON_SEG_EPS)
-        || create::near_vertex(outline, vc, i + 1, p, VALIDATION_POINT_ON_SEG_EPS)
+    let t = Tolerance {
+        position: VALIDATION_POINT_ON_SEG_EPS,
+    };
+    create::near_vertex(outline, vc, i, p, t) || create::near_vertex(outline, vc, i + 1, p, t)
 }
 
 // Near it, or the host says yes.
@@ -78,7 +81,10 @@ fn final_verdict(outline: &[f64], vc: usize, v: ViewData, end_index: usize) -> V
     ensures { λ r. ⌜ r ≡ finalVerdict (now (outline .entry)) vc v «end_index» ⌝ }
 {
     let end = v.end_point;
-    if create::near_vertex(outline, vc, end_index, end, VALIDATION_EPS) {
+    let t = Tolerance {
+        position: VALIDATION_EPS,
+    };
+    if create::near_vertex(outline, vc, end_index, end, t) {
         let last = read::outline_at(outline, vc, end_index);
         return ViewDataValidation::EndPointOnFinalOffsetVertex {
             end_point: end,

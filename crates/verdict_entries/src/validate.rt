@@ -4,6 +4,7 @@ use crate::answer;
 use crate::answer::VerdictAnswer;
 use basis::number;
 use basis::refuse;
+use basis::sizes;
 use verdict::validate;
 use view_entries::input;
 use view_entries::input::View;
@@ -19,7 +20,7 @@ fn refusal(outline: &[f64], vc: usize, v: View, start_on: u32, end_on: u32) -> u
     ensures { λ r. ⌜ r ≡ validateRefusal (now (outline .entry)) vc v «start_on» «end_on» ⌝ }
 {
     let r = refuse::or_else(0, refuse::bad_length(outline.len(), 3, vc), 1);
-    let r = refuse::or_else(r, refuse::MOST_VERTICES < vc, 2);
+    let r = refuse::or_else(r, sizes::MOST_VERTICES < vc, 2);
     let r = refuse::or_else(r, refuse::bad_choice(v.inverted_direction), 3);
     let r = refuse::or_else(r, refuse::bad_choice(start_on), 3);
     let r = refuse::or_else(r, refuse::bad_choice(end_on), 3);

@@ -9,7 +9,8 @@ use lib.Ieee.{Float, nan, neg}
 use borrow.Author.Tests.{ltb-true, ltb-false, eqb-true, eqb-false, lt-ltb, le-ltb, le-leb, lt-leb, eq-eqb, ne-eqb}
 use Rattle.basis.specs.Choice.{by-test}
 use Rattle.basis.specs.All.{allOf, all-append, all-at}
-use Rattle.basis.specs.Number.{+0, Tolerance}
+use Rattle.basis.specs.Number.{+0}
+use Rattle.basis.specs.declared.number.Tolerance.{Tolerance}
 use Rattle.outline.specs.declared.point.Point.{Point}
 use Rattle.outline.specs.declared.point.Vertex.{Vertex}
 use Rattle.outline.specs.Points.{posOf, withBulge, atPoint, pointNumbers, vertexNumbers, pointsAgree}

@@ -9,7 +9,8 @@ use lib.Dec.{ltb, leb, eqb}
 use lib.Ieee.{Float}
 use borrow.Author.Tests.{leb-false, eqb-false}
 use Rattle.basis.specs.Choice.{or-left}
-use Rattle.basis.specs.Number.{Tolerance, allWithin, tolerable}
+use Rattle.basis.specs.Number.{allWithin, tolerable}
+use Rattle.basis.specs.declared.number.Tolerance.{Tolerance}
 use Rattle.basis.specs.Refuse.{Row, row, firstOf, answer, lengthFault, sizeFault}
 use Rattle.basis.specs.RefuseLaws.{clear, length-ok, size-ok}
 use Rattle.view.specs.declared.data.ViewData.{ViewData}

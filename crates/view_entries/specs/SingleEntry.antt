@@ -6,7 +6,8 @@ use mathlib.Core.List.{List, [], _∷_, _++_}
 use lib.ListN.{length}
 use lib.Dec.{leb}
 use lib.Ieee.{Float}
-use Rattle.basis.specs.Number.{Tolerance, allWithin, tolerable}
+use Rattle.basis.specs.Number.{allWithin, tolerable}
+use Rattle.basis.specs.declared.number.Tolerance.{Tolerance}
 use Rattle.basis.specs.Refuse.{Row, row, firstOf, answer, lengthFault, sizeFault}
 use Rattle.outline.specs.declared.point.Point.{Point}
 use Rattle.outline.specs.declared.point.Vertex.{Vertex}

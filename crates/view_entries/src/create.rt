@@ -1,4 +1,5 @@
 ghost use mathlib.Core.Path.{_≡_};
+ghost use Rattle.basis.specs.Number.{toleranceOf};
 ghost use Rattle.view_entries.specs.Inputs.{walkOf};
 ghost use Rattle.view_entries.specs.CreateEntry.{createRefusal, createAnswer, traverseFault};
 use crate::answer;
@@ -55,7 +56,7 @@ pub fn entry(
     tolerance: f64,
     split: Split,
 ) -> ViewAnswer
-    ensures { λ r. ⌜ r ≡ createAnswer (now (outline .entry)) vc (walkOf «start_index» «end_intersect» «intersect_index» «updated_start» «traverse_count» split) tolerance split ⌝ }
+    ensures { λ r. ⌜ r ≡ createAnswer (now (outline .entry)) vc (walkOf «start_index» «end_intersect» «intersect_index» «updated_start» «traverse_count» split) (toleranceOf tolerance) split ⌝ }
 {
     let part = split.updated_start;
     let w = Walk {
@@ -66,5 +67,8 @@ pub fn entry(
         traverse_count,
         split_bulge: part.bulge,
     };
-    made(outline, vc, w, tolerance, split)
+    let t = Tolerance {
+        position: tolerance,
+    };
+    made(outline, vc, w, t, split)
 }

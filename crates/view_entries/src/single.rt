@@ -1,4 +1,5 @@
 ghost use mathlib.Core.Path.{_≡_};
+ghost use Rattle.basis.specs.Number.{toleranceOf};
 ghost use Rattle.view_entries.specs.SingleEntry.{singleRefusal, singleAnswer};
 use crate::answer;
 use crate::answer::ViewAnswer;
@@ -30,16 +31,12 @@ pub fn entry(
     end_intersect: Point,
     tolerance: f64,
 ) -> ViewAnswer
-    ensures { λ r. ⌜ r ≡ singleAnswer (now (outline .entry)) vc «start_index» «updated_start» «end_intersect» tolerance ⌝ }
+    ensures { λ r. ⌜ r ≡ singleAnswer (now (outline .entry)) vc «start_index» «updated_start» «end_intersect» (toleranceOf tolerance) ⌝ }
 {
-    let number = refusal(
-        outline,
-        vc,
-        start_index,
-        updated_start,
-        end_intersect,
-        tolerance,
-    );
+    let t = Tolerance {
+        position: tolerance,
+    };
+    let number = refusal(outline, vc, start_index, updated_start, end_intersect, t);
     if number != 0 {
         return answer::view_refused(number);
     }
@@ -47,6 +44,6 @@ pub fn entry(
         start_index,
         updated_start,
         end_intersect,
-        tolerance,
+        t,
     ))
 }

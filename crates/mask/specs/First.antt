@@ -1,0 +1,85 @@
+-- "The lowest number that applies is given, and none otherwise", entry by entry: the number given applies, and none before it in the order of refusals does. Where the
+-- numbers that apply are document 01's own, that is the lowest (basis/specs/RefusalOrderLaws.antt `own-lowest`).
+use Prim.Native.Nat.{ℕ}
+use mathlib.Core.List.{List, _++_}
+use lib.IntN.{ℤ}
+use lib.Ieee.{Float}
+use Rattle.basis.specs.declared.number.Tolerance.{Tolerance}
+use Rattle.basis.specs.RefusalOrder.{First, before, refusalOrder}
+use Rattle.basis.specs.RefusalOrderLaws.{first-of}
+use Rattle.outline.specs.declared.point.Point.{Point}
+use Rattle.outline.specs.declared.point.Vertex.{Vertex}
+use Rattle.view.specs.declared.create.Walk.{Walk}
+use Rattle.view_entries.specs.declared.input.View.{View}
+use Rattle.view_entries.specs.declared.input.Split.{Split}
+use Rattle.view_entries.specs.ViewVertex.{viewVertexRows, viewVertexRefusal}
+use Rattle.view_entries.specs.CreateEntry.{createRows, createRefusal}
+use Rattle.view_entries.specs.SingleEntry.{singleRows, singleRefusal}
+use Rattle.view_entries.specs.EntireEntry.{entireRows, entireRefusal}
+use Rattle.verdict_entries.specs.ValidateEntry.{validateRows, validateRefusal}
+use Rattle.cut.specs.Cuts as cuts
+use Rattle.cut_entries.specs.CutOrder.{cutOrderRows, cutOrderRefusal}
+use Rattle.candidate_entries.specs.Candidates.{candOpenRows, guardRows, candidatesRefusal}
+use Rattle.prune_entries.specs.PruneEntry.{Called, inputRows, lentRows, pruneRefusal}
+use Rattle.stitch_run.specs.Stitch as stitch
+use Rattle.stitch_entries.specs.StitchRows.{roomRows}
+use Rattle.stitch_entries.specs.StitchEntry as stitched
+use Rattle.stitch_entries.specs.StitchEntry.{shapeRows, stitchRefusal}
+use Rattle.area_entries.specs.AreaEntry.{areaRows, areaRefusal}
+use Rattle.straight_entries.specs.WindingEntry.{windingRows, windingRefusal}
+use Rattle.straight_entries.specs.AreaEntry as straight
+use Rattle.straight_entries.specs.ReportEntry.{reportRows, reportRefusal}
+
+pub vertex-first : (o : List Float) (vc : ℕ) (v : View) → First (viewVertexRows o vc v) (viewVertexRefusal o vc v)
+unfolding viewVertexRefusal before refusalOrder
+vertex-first o vc v = first-of (viewVertexRows o vc v) tt
+
+pub create-first : (o : List Float) (vc : ℕ) (w : Walk) (t : Tolerance) (split : Split) → First (createRows o vc w t split) (createRefusal o vc w t split)
+unfolding createRefusal before refusalOrder
+create-first o vc w t split = first-of (createRows o vc w t split) tt
+
+pub single-first : (o : List Float) (vc start : ℕ) (first : Vertex) (end : Point) (t : Tolerance) → First (singleRows o vc start first end t) (singleRefusal o vc start first end t)
+unfolding singleRefusal before refusalOrder
+single-first o vc start first end t = first-of (singleRows o vc start first end t) tt
+
+pub entire-first : (o : List Float) (vc closed : ℕ) → First (entireRows o vc closed) (entireRefusal o vc closed)
+unfolding entireRefusal before refusalOrder
+entire-first o vc closed = first-of (entireRows o vc closed) tt
+
+pub validate-first : (o : List Float) (vc : ℕ) (v : View) (startOn endOn : ℕ) → First (validateRows o vc v startOn endOn) (validateRefusal o vc v startOn endOn)
+unfolding validateRefusal before refusalOrder
+validate-first o vc v startOn endOn = first-of (validateRows o vc v startOn endOn) tt
+
+pub order-first : (g : cuts.Given) (source numbers points : ℕ) → First (cutOrderRows g source numbers points) (cutOrderRefusal g source numbers points)
+unfolding cutOrderRefusal before refusalOrder
+order-first g source numbers points = first-of (cutOrderRows g source numbers points) tt
+
+pub candidates-first : (g : cuts.Given) (source : ℕ) (splits : List Float) (at cand probe : ℕ)
+    → First (candOpenRows g source splits at cand probe ++ guardRows g splits) (candidatesRefusal g source splits at cand probe)
+unfolding candidatesRefusal before refusalOrder
+candidates-first g source splits at cand probe = first-of (candOpenRows g source splits at cand probe ++ guardRows g splits) tt
+
+pub prune-first : (c : Called) (at slice : ℕ) → First (inputRows c ++ lentRows (c .pruned) at slice) (pruneRefusal c at slice)
+unfolding pruneRefusal inputRows before refusalOrder
+prune-first c at slice = first-of (inputRows c ++ lentRows (c .pruned) at slice) tt
+
+pub stitch-first : (g : stitch.Given) (room ends chain chainEnds chainHow : ℕ)
+    → First (shapeRows g ++ (roomRows (g .sliceAt) (g .slices) room ends chain chainEnds chainHow ++ stitched.guardRows g)) (stitchRefusal g room ends chain chainEnds chainHow)
+unfolding stitchRefusal before refusalOrder
+stitch-first g room ends chain chainEnds chainHow = first-of (shapeRows g ++ (roomRows (g .sliceAt) (g .slices) room ends chain chainEnds chainHow ++ stitched.guardRows g)) tt
+
+pub area-first : (areas : List Float) (loops : ℕ) (limit : Float) (kept : ℕ) → First (areaRows areas loops limit kept) (areaRefusal areas loops limit kept)
+unfolding areaRefusal before refusalOrder
+area-first areas loops limit kept = first-of (areaRows areas loops limit kept) tt
+
+pub winding-first : (o : List ℤ) (vc : ℕ) (x y : ℤ) → First (windingRows o vc x y) (windingRefusal o vc x y)
+unfolding windingRefusal before refusalOrder
+winding-first o vc x y = first-of (windingRows o vc x y) tt
+
+pub straight-area-first : (o : List ℤ) (vc : ℕ) → First (straight.areaRows o vc) (straight.areaRefusal o vc)
+unfolding straight.areaRefusal before refusalOrder
+straight-area-first o vc = first-of (straight.areaRows o vc) tt
+
+pub report-first : (points : List ℤ) (ends : List ℕ) (loops : ℕ) → First (reportRows points ends loops) (reportRefusal points ends loops)
+unfolding reportRefusal before refusalOrder
+report-first points ends loops = first-of (reportRows points ends loops) tt

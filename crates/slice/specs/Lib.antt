@@ -1,0 +1,5 @@
+pub mod Slice
+pub mod Faults
+pub mod Ready
+pub mod SliceLaws
+pub mod PutLaws
