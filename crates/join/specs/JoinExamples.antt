@@ -11,17 +11,13 @@ use lib.ListN.{length}
 use lib.Ieee.{Float, binary64, ofBits, neg, add, sub, lt, le}
 use lib.Ieee.Bits.{ofBits-fits}
 use Rattle.basis.specs.All.{All, allOf}
-use Rattle.basis.specs.Number.{+0, limit, absF, agree, inSpan, within, toleranceOf, tolerable}
+use Rattle.basis.specs.Number.{+0, limit, absF, inSpan, within, toleranceOf, tolerable}
 use Rattle.outline.specs.declared.point.Vertex.{Vertex}
-use Rattle.outline.specs.Points.{pointsAgree, inBox}
-use Rattle.outline.specs.Outline.{vertexAt, wrap, outlineAt}
-use Rattle.view.specs.View.{forwardAt, turnedAt, invertedAt, vertexOf}
-use Rattle.select.specs.Select.{classOf, preferenceOf, suitsOf, firstThat, orElse, choose, choicesOf, pickOf, selectOf}
-use Rattle.stitch_vertices.specs.Vertices.{addVertex, addFirst, addView, dropLast}
-use Rattle.stitch_run.specs.Run.{Chain, closed, ends, passing, free, candidate, candidatesOf, taken, answered, asked, nextOf, roundOf, opened, onward, ended}
-use Rattle.stitch_run.specs.Run.{stopped, walk, chainFrom, added, begun, turn, turns, run, slicesOf}
-use Rattle.stitch_run.specs.Stitch.{Given, given, ofFirst, sliceOffset, sliceEnd, sliceView, sliceOutline, sliceCount, sliceVertex, startPoint, addSlice}
-use Rattle.stitch_run.specs.Stitch.{offersTo, rulesOf, runOf, loopOf, loopsOf}
+use Rattle.stitch_run.specs.Run.{Chain, closed, ends}
+use Rattle.stitch_run.specs.Run.{slicesOf}
+use Rattle.stitch_run.specs.StitchExamples.{slices, runs, at}
+use Rattle.stitch_run.specs.Stitch.{Given, given, planOf, startPoint}
+use Rattle.stitch_run.specs.Stitch.{runOf, loopOf, loopsOf}
 use Rattle.stitch_run.specs.Demand3.{firstSlice}
 use Rattle.stitch_run.specs.Doubles.{Double, Doubles}
 use Rattle.join.specs.Join.{scaled, whole, twoToMinus, Within, AtJoins, Joined, Behind}
@@ -48,14 +44,11 @@ eight = ofBits binary64 0x4020_0000_0000_0000
 
 -- ---- the stitch: one slice of outline 1, from (p, p) by (0, 8) and (8, 0) to (e, e)
 
-abbrev at : Float → Float → List Float
-at x y = x ∷ y ∷ +0 ∷ []
-
 abbrev pub tight : Given
 tight =
-    given (at e e ++ at +0 eight ++ at eight +0) 3 (at +0 +0 ++ at eight eight) 2
-    (1 ∷ 0 ∷ 0 ∷ 2 ∷ []) (at p p ++ (+0 ∷ e ∷ e ∷ [])) 1
-    (record { pline2 = 1; «pline1_overlapping» = 1; «pline2_overlapping» = 1 }) 0 (toleranceOf t)
+    given (at e e ++ at +0 eight ++ at eight +0) (at +0 +0 ++ at eight eight)
+    (1 ∷ 0 ∷ 0 ∷ 2 ∷ []) (at p p ++ (+0 ∷ e ∷ e ∷ []))
+    (planOf 3 2 1 (record { pline2 = 1; «pline1_overlapping» = 1; «pline2_overlapping» = 1 }) 0 (toleranceOf t))
 
 abbrev vertex : Float → Float → Vertex
 vertex x y = record { x = x; y = y; bulge = +0 }
@@ -69,7 +62,7 @@ abbrev chain : Chain (List Vertex)
 chain = record { rounds = record { slice = 0; built = built; offered = 0 ∷ []; next = ends closed } ∷ []; ending = closed; built = built }
 
 pub tight-run : runOf tight ≡ chain ∷ []
-unfolding ofBits neg add sub lt le absF agree inSpan pointsAgree inBox vertexAt wrap outlineAt forwardAt turnedAt invertedAt vertexOf addVertex addFirst addView dropLast ofFirst sliceOffset sliceEnd sliceView sliceOutline sliceCount sliceVertex startPoint addSlice offersTo classOf preferenceOf suitsOf firstThat orElse choose choicesOf pickOf selectOf passing free candidate candidatesOf taken answered asked nextOf roundOf opened onward ended stopped walk chainFrom added begun turn turns run rulesOf runOf
+unfolding runs
 tight-run = refl
 
 -- ---- how far it is off
@@ -79,7 +72,7 @@ unfolding scaled ofBits
 tight-apart = refl
 
 tight-start : startPoint tight 0 .x ≡ p
-unfolding startPoint sliceVertex vertexOf forwardAt invertedAt sliceOutline sliceCount sliceView ofFirst vertexAt
+unfolding slices
 tight-start = refl
 
 -- The closing of the chain, on the first axis.

@@ -16,7 +16,8 @@ use Rattle.outline.specs.OutlineLaws.{wrap-lt}
 use Rattle.view.specs.declared.data.ViewData.{ViewData}
 use Rattle.view.specs.View.{forwardAt, turnedAt, invertedAt, vertexOf}
 use Rattle.stitch_vertices.specs.Vertices.{addVertex, addFirst, dropLast}
-use Rattle.stitch_run.specs.Stitch.{Given, ofFirst, sliceOffset, sliceEnd, sliceView, sliceOutline, sliceCount, sliceVertex, addSlice}
+use Rattle.slice.specs.Slice.{codesAt, shapeAt, sliceView, sliceOffset}
+use Rattle.stitch_run.specs.Stitch.{Given, sliceOutline, sliceCount, sliceVertex, addSlice}
 use Rattle.stitch_run.specs.StitchLaws.{slice-vertices}
 
 module _ (P : Float → Type 0) where
@@ -79,18 +80,18 @@ module _ (P : Float → Type 0) where
 
   module _ (g : Given) (a : StitchIn g) where
     slice-view : (i : ℕ) → i < g .slices → ViewIn (sliceView (g .sliceAt) (g .slice) i)
-    unfolding sliceView sliceEnd
+    unfolding sliceView shapeAt
     slice-view i h =
         let e = a .sixes in
         record {
-          start = vertex-in (g .slice) (2 * i) (a .numbers) (omega arith);
+          start = record { x = number-in (g .slice) (6 * i) (a .numbers) (omega arith); y = number-in (g .slice) (6 * i + 1) (a .numbers) (omega arith) };
           end-x = number-in (g .slice) (6 * i + 4) (a .numbers) (omega arith);
           end-y = number-in (g .slice) (6 * i + 5) (a .numbers) (omega arith);
         }
 
     slice-outline : (i : ℕ) → OutlineIn (sliceOutline g i) (sliceCount g i)
     unfolding sliceOutline sliceCount
-    slice-outline i = go (ofFirst (g .sliceAt) i)
+    slice-outline i = go (eqb (codesAt (g .sliceAt) i .source) 1)
       where
         go : (b : Bool) → OutlineIn (cond b (g .outline1) (g .outline2)) (cond b (g .vc1) (g .vc2))
         go true = a .first

@@ -6,15 +6,15 @@ use lib.ListN.{length, take, replicate, length-map}
 use lib.Ieee.{ofBits, lt, le}
 use borrow.Author.Tests.{not-false}
 use Rattle.basis.specs.All.{All, allOf}
-use Rattle.basis.specs.Each.{eachTo, placesBelow}
+use Rattle.basis.specs.Each.{eachTo, placesAtMost}
 use Rattle.basis.specs.Number.{+0, absF, within, tolerable}
-use Rattle.basis.specs.Refuse.{Row, firstOf, answer, lengthFault, sizeFault, sourceFault}
+use Rattle.basis.specs.Refuse.{firstOf, answer, lengthFault, sizeFault, sourceFault}
 use Rattle.basis.specs.RefuseLaws.{Clear, clear, clear-left, clear-right, answer-zero, answer-accepted, length-ok, size-ok}
 use Rattle.basis.specs.Room.{roomOf}
 use Rattle.basis.specs.RoomLaws.{room-front}
 use Rattle.outline.specs.declared.point.Vertex.{Vertex}
 use Rattle.outline.specs.Points.{vertexNumbers}
-use Rattle.stitch_run.specs.Stitch.{Given, sliceOffset, runOf, loopsOf, totals, loopCount, roundCount, chainCount, roomItems, endItems, chainItems, chainEndItems, howItems, sumBelow, weightAt, needFor, needOf}
+use Rattle.stitch_run.specs.Stitch.{Given, runOf, loopsOf, totals, loopCount, roundCount, chainCount, roomItems, endItems, chainItems, chainEndItems, howItems, sumBelow, weightAt, needFor, needOf}
 use Rattle.stitch_run.specs.Doubles.{Doubles}
 use Rattle.stitch_run.specs.Demand3.{sumOver}
 use Rattle.stitch_run.specs.Demand3Theorems.{no-rounds-fault}
@@ -27,8 +27,10 @@ use Rattle.join.specs.JoinExamples.{tight, tight-doubles, tight-loops, first-le
 use Rattle.stitch.specs.Lent.{Lists, lists}
 use Rattle.stitch_entries.specs.declared.answer.StitchAnswer.{StitchAnswer}
 use Rattle.stitch_entries.specs.Answers.{stitchRefused, stitchGiven}
-use Rattle.stitch_entries.specs.StitchRows.{listRows, sourcesKnown, codeRows, numberRows, startsInside, offsetsInside, startsFault, indexRows, roomRows}
-use Rattle.stitch_entries.specs.StitchEntry.{shapeRows, guardRows, stitchRefusal, stitchNumber, StitchLeft}
+use Rattle.slice.specs.Slice.{codesAt}
+use Rattle.slice.specs.Faults.{sourceKnown, startInside, offsetInside, eachSlice}
+use Rattle.stitch_entries.specs.StitchRows.{startsFault}
+use Rattle.stitch_entries.specs.StitchEntry.{listPart, codePart, numberPart, indexPart, shapeRows, roomPart, guardRows, stitchRefusal, lengthsOf, stitchNumber, StitchLeft}
 
 -- What a call returned: its loops, which the answer counts, whose vertices and ends are in the lent lists; and behind each of them a chain of the run.
 pub record Returned (excess : ℕ) (g : Given) (r : StitchAnswer) (left : Lists) : Type 0 where
@@ -41,24 +43,13 @@ pub record Returned (excess : ℕ) (g : Given) (r : StitchAnswer) (left : Lists)
 -- ---- what acceptance tells of the numbers
 
 module _ (g : Given) (doubles : Doubles g) where
-  abbrev listed : List Row
-  listed = listRows (length (g .outline1)) (g .vc1) (length (g .outline2)) (g .vc2) (length (g .sliceAt)) (length (g .slice)) (g .slices)
-
-  abbrev coded : List Row
-  coded = codeRows (g .vc1) (g .vc2) (g .selector) (g .sliceAt)
-
-  abbrev numbered : List Row
-  numbered = numberRows (g .tolerance) (g .outline1) (g .outline2) (g .slice)
-
-  abbrev indexed : List Row
-  indexed = indexRows (g .vc1) (g .vc2) (g .sliceAt) (g .starts) (g .slices)
-
   ranged : Clear (shapeRows g) → Ranged 30 g
   ranged ok =
-      let a : Clear listed = clear-left listed (coded ++ (numbered ++ indexed)) ok in
-      let s : Clear (coded ++ (numbered ++ indexed)) = clear-right listed (coded ++ (numbered ++ indexed)) ok in
-      let b : Clear coded = clear-left coded (numbered ++ indexed) s in
-      let c : Clear numbered = clear-left numbered indexed (clear-right coded (numbered ++ indexed) s) in
+      let rest = numberPart g ++ indexPart g in
+      let s : Clear (codePart g ++ rest) = clear-right (listPart g) (codePart g ++ rest) ok in
+      let a : Clear (listPart g) = clear-left (listPart g) (codePart g ++ rest) ok in
+      let b : Clear (codePart g) = clear-left (codePart g) rest s in
+      let c : Clear (numberPart g) = clear-left (numberPart g) (indexPart g) (clear-right (codePart g) rest s) in
       let size1 = size-ok (g .vc1) (b .0) in
       let size2 = size-ok (g .vc2) (b .1 .0) in
       record {
@@ -89,7 +80,7 @@ module _ (g : Given) (x : Lists) (r : StitchAnswer) (left : Lists) (doubles : Do
   stitch-ranged : Ranged 30 g
   unfolding stitchRefusal
   stitch-ranged =
-      let rest = roomRows (g .sliceAt) (g .slices) (length (x .room)) (length (x .ends)) (length (x .chain)) (length (x .chainEnds)) (length (x .chainHow)) ++ guardRows g in
+      let rest = roomPart g (lengthsOf x) ++ guardRows g in
       ranged g doubles (clear-left (shapeRows g) rest (clear (shapeRows g ++ rest) tt number-zero))
 
   returned : (excess : ℕ) → All (Behind g excess) (loopsOf (runOf g)) → Returned excess g r left
@@ -128,7 +119,7 @@ abbrev lent : Lists
 lent = lists (replicate 12 +0) (0 ∷ []) (0 ∷ []) (0 ∷ []) (0 ∷ [])
 
 pub tight-accepted : stitchNumber tight lent ≡ 0
-unfolding stitchRefusal firstOf lengthFault sizeFault sourceFault sourcesKnown eachTo placesBelow tolerable allOf within absF ofBits lt le startsInside offsetsInside startsFault needOf needFor sumBelow weightAt sliceOffset
+unfolding stitchRefusal firstOf lengthFault sizeFault sourceFault eachSlice sourceKnown startInside offsetInside eachTo placesAtMost tolerable allOf within absF ofBits lt le startsFault needOf needFor sumBelow weightAt codesAt
 tight-accepted = rw (no-rounds-fault tight)
 
 -- whatever a call of it answers and leaves: the contract itself, with its right-hand sides
