@@ -6,8 +6,8 @@
  * the masks without arcs at the end, which are in whole microdegrees.
  *
  * Every entry answers a struct by value. Its first field is the refusal: 0 where
- * the call is accepted, else the lowest number of `mask_refusal` that applies.
- * On a refusal every other field is 0, and nothing lent is written.
+ * the call is accepted, else the first of `mask_refusal`, in the order there, that
+ * applies. On a refusal every other field is 0, and nothing lent is written.
  *
  * A list is lent as a pointer and a length. The length counts elements. A length
  * of 0 allows any pointer, also NULL. The caller answers for the length being
@@ -20,6 +20,15 @@
  * entry. Where the call is accepted, the items are written from its start on, then
  * 0 up to the need. What lies beyond the need is left as it was. No two lists of a
  * call may share memory where one of them is room.
+ *
+ * Calls share no state. The library has no variables, keeps nothing from one call to the
+ * next, allocates nothing, and calls nothing but memset of the C library. So any number
+ * of threads may call it at the same time, each with room of its own; lists that are only
+ * read may be shared.
+ *
+ * The entries stand in the order of the work: views and the verdict; cut order,
+ * candidates, pruning, stitch and area pass, each of which takes what the one before it
+ * gives; then masks without arcs.
  */
 #ifndef MASK_H
 #define MASK_H
@@ -31,7 +40,68 @@
 extern "C" {
 #endif
 
-/* Why a call is refused. The lowest number that applies is given. */
+/* This library's version. */
+#define MASK_VERSION "0.2.0"
+#define MASK_VERSION_MAJOR 0
+#define MASK_VERSION_MINOR 2
+#define MASK_VERSION_PATCH 0
+
+/* Widths: how many elements an item of a list has. */
+#define MASK_WIDTH_OUTLINE 3  /* a vertex: x, y, bulge; also in `room` */
+#define MASK_WIDTH_HIT_AT 2   /* a basic intersection */
+#define MASK_WIDTH_HIT 2      /* its point */
+#define MASK_WIDTH_LAP_AT 7   /* a joined overlap */
+#define MASK_WIDTH_LAP 6      /* its view */
+#define MASK_WIDTH_CUT_AT 3   /* a cut */
+#define MASK_WIDTH_CUT 2      /* its point */
+#define MASK_WIDTH_SPLITS 9   /* the splits at a cut */
+#define MASK_WIDTH_CAND_AT 2  /* a candidate */
+#define MASK_WIDTH_CAND 6     /* its view */
+#define MASK_WIDTH_PROBE 6    /* its two vertices to be tested */
+#define MASK_WIDTH_SLICE_AT 4 /* a slice */
+#define MASK_WIDTH_SLICE 6    /* its view */
+#define MASK_WIDTH_STRAIGHT 2 /* a vertex in whole microdegrees: x, y */
+
+/* Sizes. A call beyond them is refused. */
+#define MASK_LEAST_VERTICES 2
+#define MASK_MOST_VERTICES 1024           /* of an outline */
+#define MASK_MOST_HITS 512                /* basic intersections */
+#define MASK_MOST_LAPS 128                /* joined overlaps */
+#define MASK_MOST_CUTS 768                /* hits + 2 laps, of one outline */
+#define MASK_MOST_CANDIDATES 768          /* of one outline */
+#define MASK_MOST_SLICES 1792             /* in a stitch */
+#define MASK_MOST_LOOPS 1792              /* in an area pass */
+#define MASK_MOST_NUMBER 1073741824.0     /* magnitude of a coordinate or a bulge: 2^30 */
+#define MASK_MOST_TOLERANCE 1.0           /* of positions; it is above 0 */
+#define MASK_MOST_WHOLE 400000000         /* magnitude of a whole coordinate */
+#define MASK_MOST_WHOLE_DOUBLED 800000000 /* the same of a point in doubled coordinates */
+#define MASK_MOST_OUTLINES 4096           /* in a report */
+
+/*
+ * Stack: how many bytes a call takes at most, whatever the input; with its return address,
+ * without its arguments. It was read off the machine code of the archive for x86-64, along
+ * every way through each function (host/stack), rounded up, and compared with what calls
+ * with the largest inputs took of a painted stack (host/c/header_test.c). Not counted are
+ * memset itself and a dynamic linker that looks for it at its first call.
+ */
+#define MASK_STACK_VIEW_VERTEX 512
+#define MASK_STACK_CREATE 512
+#define MASK_STACK_CREATE_ON_SINGLE_SEGMENT 512
+#define MASK_STACK_FROM_ENTIRE_PLINE 512
+#define MASK_STACK_VALIDATE_FOR_SOURCE 512
+#define MASK_STACK_CUT_ORDER 20480
+#define MASK_STACK_CANDIDATES 61440
+#define MASK_STACK_PRUNE 512
+#define MASK_STACK_STITCH 32768
+#define MASK_STACK_AREA_PASS 512
+#define MASK_STACK_STRAIGHT_WINDING 512
+#define MASK_STACK_STRAIGHT_AREA 512
+#define MASK_STACK_STRAIGHT_REPORT 512
+
+/*
+ * Why a call is refused: the first that applies, in this order. For 1 to 10 that is the
+ * lowest number.
+ */
 enum mask_refusal {
     MASK_ACCEPTED = 0,
     MASK_REFUSED_LENGTH = 1,    /* a list's length disagrees with its count, or that is too high */
@@ -39,13 +109,13 @@ enum mask_refusal {
     MASK_REFUSED_CODE = 3,      /* an unknown mode, selector, source (1, 2) or yes/no code (0, 1) */
     MASK_REFUSED_TOLERANCE = 4, /* not finite, or out of range (area limit: below 0) */
     MASK_REFUSED_NUMBER = 5,    /* not finite, or beyond 2^30 (areas: not finite) */
+    MASK_REFUSED_RANGE = 18,    /* a whole coordinate is out of range */
+    MASK_REFUSED_LOOPS = 19,    /* more than 4096 outlines in a report */
     MASK_REFUSED_INDEX = 6,     /* an index is not below the vertex count */
     MASK_REFUSED_COUNT = 7,     /* an offset or a traverse count is out of range */
     MASK_REFUSED_STARTS = 8,    /* the starts of the classes fall back, or lie past the slices */
     MASK_REFUSED_ROOM = 9,      /* a list lent to be written is shorter than the need */
-    MASK_REFUSED_STEPS = 10,    /* a walk or a chain took too many steps: proved never to happen */
-    MASK_REFUSED_RANGE = 18,    /* a whole coordinate is out of range */
-    MASK_REFUSED_LOOPS = 19     /* more than 4096 outlines in a report */
+    MASK_REFUSED_STEPS = 10     /* a walk or a chain took too many steps: proved never to happen */
 };
 
 /* What `mask_validate_for_source` found. 0 stands only beside a refusal. */
@@ -57,6 +127,14 @@ enum mask_verdict {
     MASK_VERDICT_END_ON_FINAL_VERTEX = 5,  /* point, vertex */
     MASK_VERDICT_BULGE_MISMATCH = 6,       /* updated_bulge, expected */
     MASK_VERDICT_VALID = 7
+};
+
+/* What the two outlines are made into. */
+enum mask_mode {
+    MASK_MODE_UNION = 0,
+    MASK_MODE_INTERSECTION = 1,
+    MASK_MODE_FIRST_MINUS_SECOND = 2,
+    MASK_MODE_SECOND_MINUS_FIRST = 3
 };
 
 /* Which slice a chain goes on with, where several start at its end. */
@@ -238,6 +316,30 @@ typedef struct mask_starts {
     size_t pline2_overlapping;
 } mask_starts;
 
+typedef struct mask_prune_answer {
+    uint32_t refusal;
+    size_t slices;
+    mask_starts starts;
+} mask_prune_answer;
+
+/*
+ * The slices that `mode`, one of `mask_mode`, keeps. `opposing` is 1 where the two
+ * outlines run in opposing directions, else 0. The candidates of each outline are as
+ * `mask_candidates` gives them, at most 768, and `inside` has for each of them 1 where
+ * it lies inside the other outline, else 0. `lap_at` and `lap` are as above. Written
+ * are `slice_at` and `slice`; their need is count1 + count2 + 2 laps slices.
+ * Refusals 1, 2, 3, 5, 6, 7, 9.
+ */
+mask_prune_answer mask_prune(uint32_t mode, uint32_t opposing, size_t vc1, size_t vc2,
+                             const size_t *cand_at1, size_t cand_at1_len, const double *cand1,
+                             size_t cand1_len, const uint8_t *inside1, size_t inside1_len,
+                             size_t count1, const size_t *cand_at2, size_t cand_at2_len,
+                             const double *cand2, size_t cand2_len, const uint8_t *inside2,
+                             size_t inside2_len, size_t count2, const size_t *lap_at,
+                             size_t lap_at_len, const double *lap, size_t lap_len, size_t laps,
+                             size_t *slice_at, size_t slice_at_len, double *slice,
+                             size_t slice_len);
+
 typedef struct mask_stitch_answer {
     uint32_t refusal;
     size_t rounds; /* as many as slices */
@@ -268,44 +370,12 @@ mask_stitch_answer mask_stitch(const double *outline1, size_t outline1_len, size
                                size_t chain_how_len);
 
 /*
- * The loops whose area, whatever its sign, is not less than `limit`, by number, in order.
- * `areas` has one signed area per loop, of at most 1792. `count` is how many are kept; the need of `kept` is
- * one entry per loop. Refusals 1, 4, 5, 9.
+ * The loops whose area, whatever its sign, is not less than `limit`, by number, in
+ * order. `areas` has one signed area per loop, of at most 1792. `count` is how many are
+ * kept; the need of `kept` is one entry per loop. Refusals 1, 4, 5, 9.
  */
 mask_count_answer mask_area_pass(const double *areas, size_t areas_len, size_t loops, double limit,
                                  size_t *kept, size_t kept_len);
-
-/* What the two outlines are made into. */
-enum mask_mode {
-    MASK_MODE_UNION = 0,
-    MASK_MODE_INTERSECTION = 1,
-    MASK_MODE_FIRST_MINUS_SECOND = 2,
-    MASK_MODE_SECOND_MINUS_FIRST = 3
-};
-
-typedef struct mask_prune_answer {
-    uint32_t refusal;
-    size_t slices;
-    mask_starts starts;
-} mask_prune_answer;
-
-/*
- * The slices that `mode`, one of `mask_mode`, keeps. `opposing` is 1 where the two
- * outlines run in opposing directions, else 0. The candidates of each outline are as
- * `mask_candidates` gives them, at most 768, and `inside` has for each of them 1 where
- * it lies inside the other outline, else 0. `lap_at` and `lap` are as above. Written
- * are `slice_at` and `slice`; their need is count1 + count2 + 2 laps slices.
- * Refusals 1, 2, 3, 5, 6, 7, 9.
- */
-mask_prune_answer mask_prune(uint32_t mode, uint32_t opposing, size_t vc1, size_t vc2,
-                             const size_t *cand_at1, size_t cand_at1_len, const double *cand1,
-                             size_t cand1_len, const uint8_t *inside1, size_t inside1_len,
-                             size_t count1, const size_t *cand_at2, size_t cand_at2_len,
-                             const double *cand2, size_t cand2_len, const uint8_t *inside2,
-                             size_t inside2_len, size_t count2, const size_t *lap_at,
-                             size_t lap_at_len, const double *lap, size_t lap_len, size_t laps,
-                             size_t *slice_at, size_t slice_at_len, double *slice,
-                             size_t slice_len);
 
 /*
  * Masks without arcs, in whole microdegrees. An outline has two numbers to a vertex: x,

@@ -180,11 +180,36 @@ static inline const void *lend(int list, const void *from, size_t len)
     return lend_bytes(list, from, 8 * len);
 }
 
-/* What a list to be written holds before the call, from BEFORE places before it on. */
+/*
+ * What a list to be written holds before the call: as numbers they are NaNs, quiet and
+ * signalling ones of both signs, each with a payload of its own. They are written and
+ * compared as bits.
+ */
+static const uint64_t NANS[] = {
+    0xfff8a5a500000000, /* quiet, negative */
+    0x7ff0000000000001, /* signalling, from the least payload on */
+    0x7ff8000000000000, /* quiet, from no payload on */
+    0xfff0000000000001, /* signalling, negative */
+    0x7ff4a5a500000000, /* signalling */
+    0x7ff7ffffffff0000, /* signalling, the largest payloads */
+    0xfff7ffffffff0000, /* the same, negative */
+    0x7fffffffffff0000, /* quiet, the largest payloads */
+    0xffffffffffff0000  /* the same, negative; of a whole number: all bits set */
+};
+enum { NAN_COUNT = sizeof NANS / sizeof *NANS };
+
+static int only_nan = -1; /* one of NANS in every place, and no other; all in turn where it is -1 */
+
+/* What place i of a list holds, counted from BEFORE places before it on. */
+static inline uint64_t guard_word(size_t i)
+{
+    return NANS[only_nan < 0 ? i % NAN_COUNT : (size_t)only_nan] + i % 0x10000;
+}
+
 static inline void guard(uint64_t *words, size_t len)
 {
     for (size_t i = 0; i < BEFORE + len; i++)
-        words[i] = 0xfff8a5a500000000 + i;
+        words[i] = guard_word(i);
 }
 
 /* A list to be written; NULL where it has no element. */

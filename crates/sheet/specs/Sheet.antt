@@ -127,8 +127,8 @@ Answers (apartInBox o vc i a b t) = singleAnswer o vc i a (posOf b) t .found ≡
 abbrev pub floats : List ℕ → List Float
 floats l = map (λ n. ofInt binary64 (pos n)) l
 
-abbrev pub t : Float
-t = fin false 1 (negsuc 9)
+abbrev pub t : Tolerance
+t = toleranceOf (fin false 1 (negsuc 9))
 
 abbrev pub a : List Float
 a = floats (0 ∷ 0 ∷ 0 ∷ 4 ∷ 0 ∷ 0 ∷ 4 ∷ 4 ∷ 0 ∷ 0 ∷ 4 ∷ 0 ∷ [])

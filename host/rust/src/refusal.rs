@@ -3,7 +3,8 @@
 use std::error::Error;
 use std::fmt;
 
-/// Why a call is refused. The library gives the lowest number that applies, and has then written
+/// Why a call is refused. The library gives the first that applies, in the order of `include/mask.h`
+/// (of 1 to 10 that is the lowest number), and has then written
 /// nothing.
 ///
 /// ```

@@ -6,7 +6,7 @@ use crate::slices::MOST_SLICES;
 use crate::{Outline, Refusal, Slice, Slices, Tolerance, Vertex};
 
 /// The most vertices of an outline.
-const MOST_VERTICES: usize = 1024;
+pub(crate) const MOST_VERTICES: usize = 1024;
 
 /// Which slice a chain goes on with, where several start at its end.
 #[derive(Debug, Clone, Copy, PartialEq, Eq, Hash)]

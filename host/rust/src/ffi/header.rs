@@ -5,6 +5,9 @@ use super::{
     AreaAnswer, CountAnswer, PruneAnswer, ReportAnswer, StitchAnswer, VerdictAnswer, VertexAnswer,
     View, ViewAnswer, WindingAnswer,
 };
+use crate::cuts::MOST_CUTS;
+use crate::slices::MOST_SLICES;
+use crate::stitch::MOST_VERTICES;
 use crate::{ChainEnd, Mode, Point, Refusal, Selector, Split, Starts, Vertex};
 use std::mem::{align_of, size_of};
 
@@ -80,6 +83,26 @@ macro_rules! layout_here {
         )),*];
         (size_of::<$kind>(), align_of::<$kind>(), offsets)
     }};
+}
+
+/// What the header defines a name as.
+fn defined(name: &str) -> String {
+    let text = header();
+    between(&text, &format!("#define {name} "), "\n")
+        .trim()
+        .to_string()
+}
+
+#[test]
+fn version_and_sizes_are_those_of_the_header() {
+    assert_eq!(
+        defined("MASK_VERSION"),
+        format!("{:?}", env!("CARGO_PKG_VERSION"))
+    );
+    assert_eq!(defined("MASK_MOST_VERTICES"), MOST_VERTICES.to_string());
+    assert_eq!(defined("MASK_MOST_CUTS"), MOST_CUTS.to_string());
+    assert_eq!(defined("MASK_MOST_SLICES"), MOST_SLICES.to_string());
+    assert_eq!(defined("MASK_MOST_LOOPS"), MOST_SLICES.to_string());
 }
 
 #[test]

@@ -1,0 +1,235 @@
+/*
+ * What mask.h says beside its declarations: version, widths, sizes, and the stack that a
+ * call takes at most. One line for each check; the status is 0 where none failed.
+ *
+ * Sizes and widths are compared with document 01's and the lists' numbers, written down
+ * here a second time. The stack is measured: a thread of its own paints its stack, makes
+ * one call with the largest inputs, and looks how far down the paint is gone. host/stack
+ * reads the same off the machine code, for every input.
+ */
+#include "testing.h"
+#include <pthread.h>
+
+/* ---- Version, widths, sizes ---- */
+
+#define TEXT(x) #x
+#define DOTTED(a, b, c) TEXT(a) "." TEXT(b) "." TEXT(c)
+
+static void numbers(void)
+{
+    check(strcmp(MASK_VERSION,
+                 DOTTED(MASK_VERSION_MAJOR, MASK_VERSION_MINOR, MASK_VERSION_PATCH)) == 0,
+          "mask.h: the version is the one of its three parts");
+    check(MASK_WIDTH_OUTLINE == 3 && MASK_WIDTH_HIT_AT == 2 && MASK_WIDTH_HIT == 2 &&
+              MASK_WIDTH_LAP_AT == 7 && MASK_WIDTH_LAP == 6 && MASK_WIDTH_CUT_AT == 3 &&
+              MASK_WIDTH_CUT == 2 && MASK_WIDTH_SPLITS == 9 && MASK_WIDTH_CAND_AT == 2 &&
+              MASK_WIDTH_CAND == 6 && MASK_WIDTH_PROBE == 6 && MASK_WIDTH_SLICE_AT == 4 &&
+              MASK_WIDTH_SLICE == 6 && MASK_WIDTH_STRAIGHT == 2,
+          "mask.h: the widths of the lists");
+    check(MASK_LEAST_VERTICES == LEAST_VERTICES && MASK_MOST_VERTICES == MOST_VERTICES &&
+              MASK_MOST_HITS == 512 && MASK_MOST_LAPS == MOST_LAPS && MASK_MOST_CANDIDATES == 768 &&
+              MASK_MOST_SLICES == 1792 && MASK_MOST_LOOPS == 1792 && MASK_MOST_NUMBER == LIMIT &&
+              MASK_MOST_TOLERANCE == 1,
+          "mask.h: the sizes of document 01");
+    check(MASK_MOST_CUTS == MASK_MOST_HITS + 2 * MASK_MOST_LAPS &&
+              MASK_MOST_SLICES == 2 * MASK_MOST_CANDIDATES + 2 * MASK_MOST_LAPS,
+          "mask.h: the most cuts and slices are those that the others give");
+    check(MASK_MOST_WHOLE == 400000000 && MASK_MOST_WHOLE_DOUBLED == 2 * MASK_MOST_WHOLE &&
+              MASK_MOST_OUTLINES == 4096,
+          "mask.h: the sizes of masks without arcs");
+}
+
+/* ---- The largest inputs ---- */
+
+enum {
+    VC = MASK_MOST_VERTICES,
+    HITS = MASK_MOST_HITS,
+    LAPS = MASK_MOST_LAPS,
+    CUTS = MASK_MOST_CUTS,
+    CANDIDATES = MASK_MOST_CANDIDATES,
+    SLICES = MASK_MOST_SLICES,
+    OUTLINES = MASK_MOST_OUTLINES
+};
+
+static double outline[3 * VC], hit[2 * HITS], lap[6 * LAPS], splits[9 * CUTS];
+static size_t hit_at[2 * HITS], lap_at[7 * LAPS];
+static size_t cut_at[3 * CUTS], cand_at[2 * CUTS];
+static double cut[2 * CUTS], cand[6 * CUTS], probe[6 * CUTS];
+static uint8_t inside[CANDIDATES];
+static size_t slice_at[4 * SLICES], ends[SLICES], chain[SLICES], chain_ends[SLICES],
+    chain_how[SLICES], kept[SLICES];
+static double slice[6 * SLICES], room[3 * (1 + 2 * SLICES)], areas[SLICES];
+static int64_t points[2 * VC], many[2 * 2 * OUTLINES];
+static size_t many_ends[OUTLINES];
+
+static void make_inputs(void)
+{
+    for (size_t i = 0; i < VC; i++) {
+        outline[3 * i] = (double)i;
+        outline[3 * i + 1] = i % 2 ? 1 : 0;
+        points[2 * i] = (int64_t)i * 390000;
+        points[2 * i + 1] = i % 2 ? MASK_MOST_WHOLE : -MASK_MOST_WHOLE;
+    }
+    for (size_t i = 0; i < HITS; i++) {
+        hit_at[2 * i] = hit_at[2 * i + 1] = HITS - i;
+        hit[2 * i] = (double)(HITS - i) + 0.5;
+    }
+    for (size_t i = 0; i < LAPS; i++)
+        for (int k = 0; k < 4; k++)
+            lap_at[7 * i + k] = i;
+    for (size_t i = 0; i < SLICES; i++) {
+        slice_at[4 * i] = 1 + i % 2;
+        slice_at[4 * i + 2] = i % VC;
+        slice_at[4 * i + 3] = 1;
+        slice[6 * i] = slice[6 * i + 4] = (double)i;
+        slice[6 * i + 5] = 0.25;
+        areas[i] = (double)i;
+    }
+    for (size_t i = 0; i < OUTLINES; i++)
+        many_ends[i] = 2 * (i + 1);
+}
+
+/* ---- A call of each entry, accepted ---- */
+
+static const mask_view VIEW = {VC - 1, VC, {1, 0, 0.5}, 0.25, {2, 0}, 1};
+static const mask_split SPLIT = {{1, 0, 0.5}, {2, 0, 0.25}};
+static uint32_t refusal;
+
+#define ALL(list) list, sizeof list / sizeof *list
+
+static void view_vertex(void) { refusal = mask_view_vertex(ALL(outline), VC, VIEW, VC).refusal; }
+
+static void create(void)
+{
+    refusal =
+        mask_create(ALL(outline), VC, VC - 1, VIEW.end_point, 5, VIEW.updated_start, VC, T, SPLIT)
+            .refusal;
+}
+
+static void create_on_single_segment(void)
+{
+    refusal = mask_create_on_single_segment(ALL(outline), VC, VC - 1, VIEW.updated_start,
+                                            VIEW.end_point, T)
+                  .refusal;
+}
+
+static void from_entire_pline(void)
+{
+    refusal = mask_from_entire_pline(ALL(outline), VC, 1).refusal;
+}
+
+static void validate_for_source(void)
+{
+    refusal = mask_validate_for_source(ALL(outline), VC, VIEW, 1, 1).refusal;
+}
+
+static void cut_order(void)
+{
+    refusal = mask_cut_order(ALL(outline), VC, 1, ALL(hit_at), ALL(hit), HITS, ALL(lap_at),
+                             ALL(lap), LAPS, T, ALL(cut_at), ALL(cut))
+                  .refusal;
+}
+
+static void candidates(void)
+{
+    refusal = mask_candidates(ALL(outline), VC, 1, ALL(hit_at), ALL(hit), HITS, ALL(lap_at),
+                              ALL(lap), LAPS, ALL(splits), T, ALL(cand_at), ALL(cand), ALL(probe))
+                  .refusal;
+}
+
+static void prune(void)
+{
+    refusal = mask_prune(MASK_MODE_UNION, 0, VC, VC, ALL(cand_at), ALL(cand), ALL(inside),
+                         CANDIDATES, ALL(cand_at), ALL(cand), ALL(inside), CANDIDATES, ALL(lap_at),
+                         ALL(lap), LAPS, ALL(slice_at), ALL(slice))
+                  .refusal;
+}
+
+static void stitch(void)
+{
+    refusal = mask_stitch(ALL(outline), VC, ALL(outline), VC, ALL(slice_at), ALL(slice), SLICES, 0,
+                          SLICES, SLICES, MASK_SELECTOR_OR_AND, 1, ALL(room), ALL(ends), ALL(chain),
+                          ALL(chain_ends), ALL(chain_how))
+                  .refusal;
+}
+
+static void area_pass(void) { refusal = mask_area_pass(ALL(areas), SLICES, 2, ALL(kept)).refusal; }
+
+static void straight_winding(void)
+{
+    refusal = mask_straight_winding(ALL(points), VC, 7, 7).refusal;
+}
+
+static void straight_area(void) { refusal = mask_straight_area(ALL(points), VC).refusal; }
+
+static void straight_report(void)
+{
+    refusal = mask_straight_report(ALL(many), ALL(many_ends), OUTLINES).refusal;
+}
+
+/* ---- The stack ---- */
+
+enum {
+    STACK = 1 << 20,
+    FRAME = 256, /* what is left to the painter's own frame */
+    OWN = 1024,  /* what it and the caller of an entry have themselves, its arguments among it */
+    PAINT = 0xa5
+};
+
+static char *stack;
+static void (*asked)(void);
+static size_t taken;
+
+static void *painted(void *nothing)
+{
+    volatile char here = 0;
+    size_t height = (size_t)((uintptr_t)&here - (uintptr_t)stack), clean = 0;
+    memset(stack, PAINT, height - FRAME);
+    asked();
+    while (clean < height - FRAME && stack[clean] == (char)PAINT)
+        clean++;
+    taken = height - clean;
+    return nothing;
+}
+
+/*
+ * Whether a call with the largest inputs takes no more than the header says; where that is
+ * much, also that it takes more than half of it, which shows that the paint works.
+ */
+static void measure(const char *name, void (*call)(void), size_t most)
+{
+    pthread_t thread;
+    pthread_attr_t how;
+    asked = call;
+    call(); /* so that memset is found before the paint is looked at */
+    if (pthread_attr_init(&how) != 0 || pthread_attr_setstack(&how, stack, STACK) != 0 ||
+        pthread_create(&thread, &how, painted, NULL) != 0 || pthread_join(thread, NULL) != 0) {
+        check(0, "%s: no thread", name);
+        return;
+    }
+    check(refusal == MASK_ACCEPTED && taken <= most + OWN && (most < 4096 || taken > most / 2),
+          "%s: it and its caller took no more than %zu bytes of stack; said of it alone: %zu", name,
+          taken, most);
+}
+
+int main(void)
+{
+    numbers();
+    make_inputs();
+    stack = pages_of(STACK);
+    measure("mask_view_vertex", view_vertex, MASK_STACK_VIEW_VERTEX);
+    measure("mask_create", create, MASK_STACK_CREATE);
+    measure("mask_create_on_single_segment", create_on_single_segment,
+            MASK_STACK_CREATE_ON_SINGLE_SEGMENT);
+    measure("mask_from_entire_pline", from_entire_pline, MASK_STACK_FROM_ENTIRE_PLINE);
+    measure("mask_validate_for_source", validate_for_source, MASK_STACK_VALIDATE_FOR_SOURCE);
+    measure("mask_cut_order", cut_order, MASK_STACK_CUT_ORDER);
+    measure("mask_stitch", stitch, MASK_STACK_STITCH); /* before the slices are written over */
+    measure("mask_candidates", candidates, MASK_STACK_CANDIDATES);
+    measure("mask_prune", prune, MASK_STACK_PRUNE);
+    measure("mask_area_pass", area_pass, MASK_STACK_AREA_PASS);
+    measure("mask_straight_winding", straight_winding, MASK_STACK_STRAIGHT_WINDING);
+    measure("mask_straight_area", straight_area, MASK_STACK_STRAIGHT_AREA);
+    measure("mask_straight_report", straight_report, MASK_STACK_STRAIGHT_REPORT);
+    return finish("header_test");
+}
