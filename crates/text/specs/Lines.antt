@@ -1,4 +1,4 @@
--- Document 02's report as a program: "one vertex a line as two whole numbers, outlines parted by an empty line". How a line is read, byte by byte:
+-- The report of document 02, K8, as a program: a vertex is a line of two whole numbers, and an empty line parts outlines. How a line is read, byte by byte:
 -- blanks, a whole number, blanks, a whole number, blanks; or blanks alone, which is an empty line.
 use Prim.Native.Nat.{ℕ, _+_, _-_, _*_, _≤_}
 use mathlib.Core.Bool.{Bool, true, cond, _&&_}

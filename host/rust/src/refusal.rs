@@ -3,9 +3,8 @@
 use std::error::Error;
 use std::fmt;
 
-/// Why a call is refused. The library gives the first that applies, in the order of `include/mask.h`
-/// (of 1 to 10 that is the lowest number), and has then written
-/// nothing.
+/// Why a call is refused. The library gives the first that applies, in the order of
+/// `include/mask.h` (of 1 to 10 that is the lowest number), and has then written nothing.
 ///
 /// ```
 /// use mask_tools::Refusal;
