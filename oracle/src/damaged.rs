@@ -255,9 +255,9 @@ fn damage_axes(tally: &mut Tally, rng: &mut Random) {
         for value in replacements(Kind::Number, 0) {
             let mut call = base.clone();
             apply(&mut call, &Fault::Word(at, value));
-            tally.compare(FAMILY, &call);
+            tally.compare(Family::Axes, &call);
             apply(&mut call, &others[rng.below(others.len())]);
-            tally.compare(FAMILY, &call);
+            tally.compare(Family::Axes, &call);
         }
     }
 }
