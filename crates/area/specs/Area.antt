@@ -8,6 +8,7 @@ use lib.ListN.{length, getD}
 use lib.Ieee.{Float, nan, lt}
 use Rattle.basis.specs.Number.{absF}
 use Rattle.basis.specs.Room.{roomOf}
+use Rattle.basis.specs.Sizes.{mostSlices}
 
 -- a loop stays: the absolute value of its area is not "below the limit, strictly". "An area of exactly minus the limit is kept."
 unfoldable pub isKept : Float → Float → Bool
@@ -21,10 +22,10 @@ keptTo areas limit (suc n) = keptTo areas limit n ++ cond (isKept limit (getD ar
 unfoldable pub keptOf : List Float → Float → List ℕ
 keptOf areas limit = keptTo areas limit (length areas)
 
--- what a caller has shown: "the list needs one entry per loop", and there are at most 1,792
+-- what a caller has shown: "the list needs one entry per loop", and there are no more than the most
 pub record Roomy (areas : List Float) (kept : List ℕ) : Type 0 where
   pub fits : length areas ≤ length kept
-  pub few : length areas ≤ 1792
+  pub few : length areas ≤ mostSlices
 
 -- what the call leaves: by the room rule, width 1, and one entry per loop as the need
 pub record Kept (areas : List Float) (limit : Float) (entry : List ℕ) (r : ℕ) (exit : List ℕ) : Type 0 where

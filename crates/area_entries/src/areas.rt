@@ -5,11 +5,10 @@ use basis::answer;
 use basis::answer::CountAnswer;
 use basis::number;
 use basis::refuse;
+use basis::sizes::MOST_SLICES;
 
 // The largest f64.
 const LARGEST: f64 = 1.7976931348623157e308;
-
-const MOST_LOOPS: usize = 1792;
 
 // Neither a NaN nor an infinity.
 fn is_finite(x: f64) -> bool
@@ -42,7 +41,7 @@ fn refusal(areas: &[f64], loops: usize, limit: f64, kept: usize) -> u32
     ensures { λ n. ⌜ n ≡ areaRefusal (now (areas .entry)) loops limit kept ⌝ }
 {
     let r = refuse::or_else(0, refuse::bad_length(areas.len(), 1, loops), 1);
-    let r = refuse::or_else(r, MOST_LOOPS < loops, 1);
+    let r = refuse::or_else(r, MOST_SLICES < loops, 1);
     let r = refuse::or_else(r, !good_limit(limit), 4);
     let r = refuse::or_else(r, !all_finite(areas), 5);
     refuse::or_else(r, kept < loops, 9)

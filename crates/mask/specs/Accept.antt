@@ -1,19 +1,19 @@
 -- What an accepted call leaves, and what a call needs to be accepted: the entries of the pipeline one by one.
-use Prim.Native.Nat.{ℕ, _+_, _*_, _/_, _≤_, _<_}
+use Prim.Native.Nat.{ℕ, _+_, _*_, _≤_, _<_}
 use mathlib.Core.Bool.{Bool, true, false, not}
 use mathlib.Core.Path.{_≡_, refl, sym, ap, subst, _∙_}
-use mathlib.Core.Logic.{_⊎_, inl, inr}
 use mathlib.Core.List.{List, _++_}
-use native.Mathlib.Nat.{add-zero, mul-div-right}
+use native.Mathlib.Nat.{add-zero}
 use native.Mathlib.Omega.{arith}
-use lib.ListN.{length, getD, take}
+use lib.ListN.{length, take}
 use lib.Ieee.{Float}
-use borrow.Author.Tests.{le-ltb, lt-ltb, le-leb, not-false}
+use borrow.Author.Tests.{le-ltb, not-false}
 use Rattle.basis.specs.Number.{+0, allWithin, tolerable}
-use Rattle.basis.specs.Each.{placesBelow, placesAtMost}
-use Rattle.basis.specs.EachLaws.{at-each, at-below, at-most}
+use Rattle.basis.specs.Sizes.{mostCandidates, mostLaps, mostSlices}
+use Rattle.basis.specs.Each.{placesBelow, placesAtMost, choicesKnown}
+use Rattle.basis.specs.EachLaws.{at-below, at-most}
 use Rattle.basis.specs.RoomLaws.{room-front}
-use Rattle.basis.specs.Refuse.{sizeFault, sourceFault}
+use Rattle.basis.specs.Refuse.{sizeFault}
 use Rattle.basis.specs.RefuseLaws.{Clear, clear, clear-left, clear-right, clear-both, none-clear, answer-zero, answer-accepted, ok-length, ok-size}
 use Rattle.outline.specs.Outline.{Whole}
 use Rattle.cut.specs.Cuts as cuts
@@ -29,21 +29,20 @@ use Rattle.cut_entries.specs.CutRows.{listRows, valueRows, indexRows}
 use Rattle.candidate_entries.specs.Candidates.{alongCuts, splitLengthRows, splitRows, candRoomRows, candOpenRows, guardRows, candidatesRefusal, candNumber, Sliced, Accepted}
 use Rattle.candidate_entries.specs.CandidatesLaws.{along-sound, cand-accepted}
 use Rattle.select.specs.declared.class.Starts.{Starts}
-use Rattle.prune.specs.Prune.{Cands, Overlaps, needOf, prunedOf, sliceCounts, sliceNumbers}
-use Rattle.prune.specs.Ready as prune
+use Rattle.slice.specs.Slice.{codeWidth, shapeWidth}
+use Rattle.slice.specs.Ready as slice
+use Rattle.slice.specs.Sound as sound
+use Rattle.prune.specs.Prune.{Cands, Overlaps, Given, needOf, prunedOf, sliceCodes, sliceShapes}
 use Rattle.prune.specs.Ready.{OverlapsFit}
-use Rattle.prune_write.specs.PruneTheorems as PruneTheorems
 use Rattle.prune_write.specs.PruneTheorems.{slices-few, starts-ascend, stitch-accepts}
 use Rattle.prune_entries.specs.declared.answer.PruneAnswer.{PruneAnswer}
 use Rattle.prune_entries.specs.Answers.{pruneRefused, pruneGiven}
-use Rattle.prune_entries.specs.PruneRows.{codesKnown, tooMany, roomFault}
-use Rattle.prune_entries.specs.PruneEntry.{Called, candsRows, lapsRows, codesRows, numbersRows, startsRows, reachesRows, inputRows, lentRows, pruneRefusal, pruneNumber, PruneLeft}
+use Rattle.prune_entries.specs.PruneEntry.{candsRows, lapsRows, codesRows, numbersRows, startsRows, reachesRows, inputRows, lentRows, pruneRefusal, pruneNumber, PruneLeft}
 use Rattle.prune_entries.specs.PruneEntryLaws.{prune-accepted, prune-sound}
 use Rattle.stitch_run.specs.Stitch as stitch
 use Rattle.stitch.specs.Lent.{Lists, Long}
 use Rattle.stitch_run.specs.Demand3Theorems.{no-rounds-fault}
-use Rattle.stitch_entries.specs.StitchRows as rows
-use Rattle.stitch_entries.specs.StitchRows.{sourcesKnown, codeRows, numberRows, startsInside, offsetsInside, startsFault, roomRows}
+use Rattle.stitch_entries.specs.StitchRows.{startsFault}
 use Rattle.stitch_entries.specs.StitchEntry as stitched
 use Rattle.stitch_entries.specs.StitchEntry.{shapeRows, stitchRefusal, stitchNumber}
 
@@ -58,7 +57,7 @@ pub record CutsPass (g : cuts.Given) (source : ℕ) (splits : List Float) : Type
 
 -- candidates that `mask_prune` finds in order, over an outline of vc vertices
 pub record CandsMade (vc count : ℕ) (at : List ℕ) (shape : List Float) : Type 0 where
-  pub few : count ≤ 768
+  pub few : count ≤ mostCandidates
   pub places : length at ≡ 2 * count
   pub shapes : length shape ≡ 6 * count
   pub starts : placesBelow 2 0 vc at ≡ true
@@ -124,15 +123,15 @@ module _ (g : cuts.Given) (source : ℕ) (splits : List Float) (l : slices.Rooms
 -- ---- `mask_prune`
 
 -- the candidates of an outline, with a yes or no for each
-pub record CandsPass (vc : ℕ) (c : Cands) : Type 0 where
-  pub made : CandsMade vc (c .count) (c .at) (c .shape)
-  pub told : length (c .inside) ≡ c .count
-  pub known : codesKnown (c .inside) ≡ true
+pub record CandsPass (vc count : ℕ) (c : Cands) : Type 0 where
+  pub made : CandsMade vc count (c .at) (c .shape)
+  pub told : length (c .inside) ≡ count
+  pub known : choicesKnown 1 0 (c .inside) ≡ true
 
 -- overlaps of two outlines, with the view of each, which is of outline 2
-pub record LapsPass (vc1 vc2 : ℕ) (o : Overlaps) : Type 0 where
-  pub fit : OverlapsFit o
-  pub codes : placesAtMost 7 4 1 (o .at) ≡ true
+pub record LapsPass (vc1 vc2 count : ℕ) (o : Overlaps) : Type 0 where
+  pub fit : OverlapsFit o count
+  pub codes : choicesKnown 7 4 (o .at) ≡ true
   pub starts1 : placesBelow 7 0 vc1 (o .at) ≡ true
   pub starts2 : placesBelow 7 1 vc2 (o .at) ≡ true
   pub ends1 : placesBelow 7 2 vc1 (o .at) ≡ true
@@ -142,99 +141,89 @@ pub record LapsPass (vc1 vc2 : ℕ) (o : Overlaps) : Type 0 where
   pub numbers : allWithin (o .shape) ≡ true
 
 -- a call of `mask_prune` in which nothing is out of order
-pub record PrunePass (c : Called) (l : prune.Rooms) : Type 0 where
-  pub sized1 : sizeFault (c .vc1) ≡ false
-  pub sized2 : sizeFault (c .vc2) ≡ false
-  pub mode : c .pruned .mode ≤ 3
-  pub choice : c .opposing ≤ 1
-  pub one : CandsPass (c .vc1) (c .pruned .one)
-  pub two : CandsPass (c .vc2) (c .pruned .two)
-  pub laps : LapsPass (c .vc1) (c .vc2) (c .pruned .laps)
-  pub roomy : prune.Roomy (needOf (c .pruned)) l
+pub record PrunePass (g : Given) (l : slice.Rooms) : Type 0 where
+  pub sized1 : sizeFault (g .call .vc1) ≡ false
+  pub sized2 : sizeFault (g .call .vc2) ≡ false
+  pub mode : g .call .mode ≤ 3
+  pub choice : g .call .opposing ≤ 1
+  pub first : CandsPass (g .call .vc1) (g .call .count1) (g .first)
+  pub second : CandsPass (g .call .vc2) (g .call .count2) (g .second)
+  pub laps : LapsPass (g .call .vc1) (g .call .vc2) (g .call .laps) (g .laps)
+  pub roomy : slice.Roomy (needOf (g .call)) l
 
 told-no : {b : Bool} → b ≡ true → not b ≡ false
 told-no e = ap not e
 
-cands-clear : (vc : ℕ) (c : Cands) → CandsPass vc c → Clear (candsRows c)
-cands-clear vc c p = (
-  ok-length 2 (length (c .at)) (c .count) (p .made .places),
+cands-clear : (vc count : ℕ) (c : Cands) → CandsPass vc count c → Clear (candsRows c count)
+cands-clear vc count c p = (
+  ok-length 2 (length (c .at)) count (p .made .places),
   (
-    ok-length 6 (length (c .shape)) (c .count) (p .made .shapes),
+    ok-length shapeWidth (length (c .shape)) count (p .made .shapes),
     (
-      ok-length 1 (length (c .inside)) (c .count) (let e = p .told in omega arith),
-      (le-ltb 768 (c .count) (p .made .few), tt),
+      ok-length 1 (length (c .inside)) count (let e = p .told in omega arith),
+      (le-ltb mostCandidates count (p .made .few), tt),
     ),
   ),
 )
 
-few-enough : (c : Called) (l : prune.Rooms) → PrunePass c l → tooMany (c .pruned .one .count) (c .pruned .two .count) (c .pruned .laps .count) ≡ false
-unfolding tooMany
-few-enough c l p =
-    rw (le-ltb 768 (c .pruned .one .count) (p .one .made .few), le-ltb 768 (c .pruned .two .count) (p .two .made .few), le-ltb 128 (c .pruned .laps .count) (p .laps .fit .few))
-
-room-none : (w len a b o : ℕ) → tooMany a b o ≡ false → w * (a + b + 2 * o) ≤ len → roomFault w len a b o ≡ false
-unfolding roomFault
-room-none w len a b o e h = rw (e, le-ltb len (w * (a + b + 2 * o)) h)
-
-pub prune-passes : (c : Called) (l : prune.Rooms) → PrunePass c l → pruneNumber c l ≡ 0
+pub prune-passes : (g : Given) (l : slice.Rooms) → PrunePass g l → pruneNumber g l ≡ 0
 unfolding pruneRefusal inputRows
-prune-passes c l p =
-    let g = c .pruned in
+prune-passes g l p =
+    let c = g .call in
     let o = p .laps in
-    let laps : Clear (lapsRows g) =
-    (ok-length 7 (length (g .laps .at)) (g .laps .count) (o .fit .at), (ok-length 6 (length (g .laps .shape)) (g .laps .count) (o .fit .shape), (le-ltb 128 (g .laps .count) (o .fit .few), tt))) in
-    let codes : Clear (codesRows c) =
-    (p .sized1, (p .sized2, (le-ltb 3 (g .mode) (p .mode), (le-ltb 1 (c .opposing) (p .choice), (told-no (p .one .known), (told-no (p .two .known), (told-no (o .codes), tt))))))) in
-    let numbers : Clear (numbersRows g) = (told-no (p .one .made .numbers), (told-no (p .two .made .numbers), (told-no (o .numbers), tt))) in
-    let starts : Clear (startsRows c) =
-    (told-no (p .one .made .starts), (told-no (p .two .made .starts), (told-no (o .starts1), (told-no (o .starts2), (told-no (o .ends1), (told-no (o .ends2), (told-no (o .views), tt))))))) in
-    let reaches : Clear (reachesRows c) = (told-no (p .one .made .reaches), (told-no (p .two .made .reaches), (told-no (o .reaches), tt))) in
-    let few = few-enough c l p in
-    let lent : Clear (lentRows g (length (l .at)) (length (l .shape))) =
-    (room-none 4 (length (l .at)) (g .one .count) (g .two .count) (g .laps .count) few (p .roomy .at), (room-none 6 (length (l .shape)) (g .one .count) (g .two .count) (g .laps .count) few (p .roomy .shape), tt)) in
-    let a = startsRows c ++ reachesRows c in
+    let laps : Clear (lapsRows g) = (
+      ok-length 7 (length (g .laps .at)) (c .laps) (o .fit .at),
+      (ok-length shapeWidth (length (g .laps .shape)) (c .laps) (o .fit .shape), (le-ltb mostLaps (c .laps) (o .fit .few), tt)),
+    ) in
+    let codes : Clear (codesRows g) =
+    (p .sized1, (p .sized2, (le-ltb 3 (c .mode) (p .mode), (le-ltb 1 (c .opposing) (p .choice), (told-no (p .first .known), (told-no (p .second .known), (told-no (o .codes), tt))))))) in
+    let numbers : Clear (numbersRows g) = (told-no (p .first .made .numbers), (told-no (p .second .made .numbers), (told-no (o .numbers), tt))) in
+    let starts : Clear (startsRows g) =
+    (told-no (p .first .made .starts), (told-no (p .second .made .starts), (told-no (o .starts1), (told-no (o .starts2), (told-no (o .ends1), (told-no (o .ends2), (told-no (o .views), tt))))))) in
+    let reaches : Clear (reachesRows g) = (told-no (p .first .made .reaches), (told-no (p .second .made .reaches), (told-no (o .reaches), tt))) in
+    let lent : Clear (lentRows g (length (l .at)) (length (l .shape))) = (le-ltb _ _ (p .roomy .at), (le-ltb _ _ (p .roomy .shape), tt)) in
+    let first = candsRows (g .first) (c .count1) in
+    let second = candsRows (g .second) (c .count2) in
+    let a = startsRows g ++ reachesRows g in
     let b = numbersRows g ++ a in
-    let d = codesRows c ++ b in
+    let d = codesRows g ++ b in
     let e = lapsRows g ++ d in
-    let f = candsRows (g .two) ++ e in
-    none-clear (inputRows c ++ lentRows g (length (l .at)) (length (l .shape)))
-    (clear-both (inputRows c) (lentRows g (length (l .at)) (length (l .shape)))
-    (clear-both (candsRows (g .one)) f (cands-clear (c .vc1) (g .one) (p .one))
-    (clear-both (candsRows (g .two)) e (cands-clear (c .vc2) (g .two) (p .two))
-    (clear-both (lapsRows g) d laps (clear-both (codesRows c) b codes (clear-both (numbersRows g) a numbers (clear-both (startsRows c) (reachesRows c) starts reaches))))))
+    none-clear (inputRows g ++ lentRows g (length (l .at)) (length (l .shape)))
+    (clear-both (inputRows g) (lentRows g (length (l .at)) (length (l .shape)))
+    (clear-both first (second ++ e) (cands-clear (c .vc1) (c .count1) (g .first) (p .first))
+    (clear-both second e (cands-clear (c .vc2) (c .count2) (g .second) (p .second))
+    (clear-both (lapsRows g) d laps (clear-both (codesRows g) b codes (clear-both (numbersRows g) a numbers (clear-both (startsRows g) (reachesRows g) starts reaches))))))
     lent)
 
 -- slices that `mask_stitch` finds in order
 pub record SlicesMade (vc1 vc2 n : ℕ) (starts : Starts) (at : List ℕ) (shape : List Float) : Type 0 where
-  pub few : n ≤ 1792
-  pub fit : PruneTheorems.Accepted vc1 vc2 n at shape
+  pub few : n ≤ mostSlices
+  pub fit : sound.Accepted vc1 vc2 n at shape
   pub ascend : startsFault starts n ≡ false
 
-module _ (c : Called) (l : prune.Rooms) (r : PruneAnswer) (left : prune.Rooms) (holds : PruneLeft c l r left) (accepted : r .refusal ≡ 0) where
-  prune-zero : pruneNumber c l ≡ 0
-  prune-zero = answer-zero pruneRefused (λ a. a .refusal) (pruneNumber c l) _ r (λ k. refl) (holds .answers) accepted
+module _ (g : Given) (l : slice.Rooms) (r : PruneAnswer) (left : slice.Rooms) (holds : PruneLeft g l r left) (accepted : r .refusal ≡ 0) where
+  prune-zero : pruneNumber g l ≡ 0
+  prune-zero = answer-zero pruneRefused (λ a. a .refusal) (pruneNumber g l) _ r (λ k. refl) (holds .answers) accepted
 
-  pub slices-made : SlicesMade (c .vc1) (c .vc2) (r .slices) (r .starts) (take (4 * r .slices) (left .at)) (take (6 * r .slices) (left .shape))
+  pub slices-made : SlicesMade (g .call .vc1) (g .call .vc2) (r .slices) (r .starts) (take (codeWidth * r .slices) (left .at)) (take (shapeWidth * r .slices) (left .shape))
   unfolding startsFault
   slices-made =
-      let g = c .pruned in
-      let given : r ≡ pruneGiven (prunedOf g) = answer-accepted pruneRefused (pruneNumber c l) _ r (holds .answers) prune-zero in
-      let ready = prune-accepted c l 0 (sym prune-zero) refl in
-      let sound = prune-sound c l 0 (sym prune-zero) refl in
+      let given : r ≡ pruneGiven (prunedOf g) = answer-accepted pruneRefused (pruneNumber g l) _ r (holds .answers) prune-zero in
+      let ready = prune-accepted g l 0 (sym prune-zero) refl in
+      let passed = prune-sound g l 0 (sym prune-zero) refl in
       let n : r .slices ≡ prunedOf g .slices = ap (λ (a : PruneAnswer). a .slices) given in
       let s : r .starts ≡ prunedOf g .starts = ap (λ (a : PruneAnswer). a .starts) given in
-      let fit = stitch-accepts (c .vc1) (c .vc2) g (sound .one) (sound .two) (sound .laps) in
-      let at : take (4 * r .slices) (left .at) ≡ sliceCounts g =
-      room-front 0 4 (needOf g) (sliceCounts g) (l .at) (left .at) (4 * r .slices) (answer-accepted (λ _. l .at) (pruneNumber c l) _ (left .at) (holds .at) prune-zero) (fit .counts ∙ ap (λ (k : ℕ). 4 * k) (sym n)) in
-      let shape : take (6 * r .slices) (left .shape) ≡ sliceNumbers g =
-      room-front +0 6 (needOf g) (sliceNumbers g) (l .shape) (left .shape) (6 * r .slices) (answer-accepted (λ _. l .shape) (pruneNumber c l) _ (left .shape) (holds .shape) prune-zero) (fit .shapes ∙ ap (λ (k : ℕ). 6 * k) (sym n)) in
+      let fit = stitch-accepts g (passed .first) (passed .second) (passed .laps) in
+      let at : take (codeWidth * r .slices) (left .at) ≡ sliceCodes g =
+      room-front 0 codeWidth (needOf (g .call)) (sliceCodes g) (l .at) (left .at) (codeWidth * r .slices) (answer-accepted (λ _. l .at) (pruneNumber g l) _ (left .at) (holds .at) prune-zero)
+      (fit .codes ∙ ap (λ (k : ℕ). codeWidth * k) (sym n)) in
+      let shape : take (shapeWidth * r .slices) (left .shape) ≡ sliceShapes g =
+      room-front +0 shapeWidth (needOf (g .call)) (sliceShapes g) (l .shape) (left .shape) (shapeWidth * r .slices) (answer-accepted (λ _. l .shape) (pruneNumber g l) _ (left .shape) (holds .shape) prune-zero)
+      (fit .shapes ∙ ap (λ (k : ℕ). shapeWidth * k) (sym n)) in
       let up = starts-ascend g in
       record {
-        few = omega (arith, n, slices-few g, ready .one .few, ready .two .few, ready .laps .few);
-        fit =
-            subst (λ (k : ℕ). PruneTheorems.Accepted (c .vc1) (c .vc2) k (take (4 * r .slices) (left .at)) (take (6 * r .slices) (left .shape))) (sym n)
-            (subst (λ (x : List ℕ). PruneTheorems.Accepted (c .vc1) (c .vc2) (prunedOf g .slices) x (take (6 * r .slices) (left .shape))) (sym at)
-            (subst (λ (y : List Float). PruneTheorems.Accepted (c .vc1) (c .vc2) (prunedOf g .slices) (sliceCounts g) y) (sym shape) fit));
+        few = omega (arith, n, slices-few g, ready .few .first, ready .few .second, ready .few .laps);
+        fit = rw (at, shape, n) fit;
         ascend =
             subst (λ (k : ℕ). startsFault (r .starts) k ≡ false) (sym n)
             (subst (λ (x : Starts). startsFault x (prunedOf g .slices) ≡ false) (sym s)
@@ -254,49 +243,33 @@ pub record StitchPass (g : stitch.Given) (x : Lists) : Type 0 where
   pub slices : SlicesMade (g .vc1) (g .vc2) (g .slices) (g .starts) (g .sliceAt) (g .slice)
   pub long : Long g x
 
-source-known : (s : ℕ) → (s ≡ 1) ⊎ (s ≡ 2) → not (sourceFault s) ≡ true
-unfolding sourceFault
-source-known s (inl e) = rw e
-source-known s (inr e) = rw e
-
 pub stitch-passes : (g : stitch.Given) (x : Lists) → StitchPass g x → stitchNumber g x ≡ 0
-unfolding stitchRefusal sourcesKnown startsInside offsetsInside
+unfolding stitchRefusal
 stitch-passes g x p =
-    let listed = rows.listRows (length (g .outline1)) (g .vc1) (length (g .outline2)) (g .vc2) (length (g .sliceAt)) (length (g .slice)) (g .slices) in
-    let coded = codeRows (g .vc1) (g .vc2) (g .selector) (g .sliceAt) in
-    let numbered = numberRows (g .tolerance) (g .outline1) (g .outline2) (g .slice) in
-    let indexed = rows.indexRows (g .vc1) (g .vc2) (g .sliceAt) (g .starts) (g .slices) in
-    let lent = roomRows (g .sliceAt) (g .slices) (length (x .room)) (length (x .ends)) (length (x .chain)) (length (x .chainEnds)) (length (x .chainHow)) in
+    let listed = stitched.listPart g in
+    let coded = stitched.codePart g in
+    let numbered = stitched.numberPart g in
+    let indexed = stitched.indexPart g in
+    let lent = stitched.roomPart g (stitched.lengthsOf x) in
     let s = p .slices in
     let a = p .slices .fit in
-    let items : length (g .sliceAt) / 4 ≡ g .slices = ap (λ (n : ℕ). n / 4) (a .counts) ∙ mul-div-right (g .slices) (omega arith) in
-    let inside : (i : ℕ) → i < length (g .sliceAt) / 4 → i < g .slices = λ i h. subst (λ (n : ℕ). i < n) items h in
     let lists : Clear listed = (
       ok-length 3 (length (g .outline1)) (g .vc1) (p .whole1 .triples),
       (
         ok-length 3 (length (g .outline2)) (g .vc2) (p .whole2 .triples),
-        (ok-length 4 (length (g .sliceAt)) (g .slices) (a .counts), (ok-length 6 (length (g .slice)) (g .slices) (a .shapes), (le-ltb 1792 (g .slices) (s .few), tt))),
+        (ok-length codeWidth (length (g .sliceAt)) (g .slices) (a .codes), (ok-length shapeWidth (length (g .slice)) (g .slices) (a .shapes), (le-ltb mostSlices (g .slices) (s .few), tt))),
       ),
     ) in
     let codes : Clear coded = (
       ok-size (g .vc1) (p .whole1 .least) (p .whole1 .most),
       (
         ok-size (g .vc2) (p .whole2 .least) (p .whole2 .most),
-        (
-          le-ltb 1 (g .selector) (p .selector),
-          (
-            told-no (at-each _ (length (g .sliceAt) / 4) (λ i h. source-known (getD (g .sliceAt) (4 * i) 0) (a .source i (inside i h)))),
-            (told-no (at-below 4 1 (g .sliceAt) (g .slices) 2 (omega arith) (a .counts) (λ i h. let t = a .turned i h in omega arith)), tt),
-          ),
-        ),
+        (le-ltb 1 (g .selector) (p .selector), (told-no (a .sources), (told-no (a .turned), tt))),
       ),
     ) in
     let numbers : Clear numbered =
     (told-no (p .tolerance), (told-no (p .numbers1), (told-no (p .numbers2), (told-no (a .numbers), tt)))) in
-    let indexes : Clear indexed = (
-      told-no (at-each _ (length (g .sliceAt) / 4) (λ i h. lt-ltb _ _ (a .starts i (inside i h)))),
-      (told-no (at-each _ (length (g .sliceAt) / 4) (λ i h. le-leb _ _ (a .reaches i (inside i h)))), (s .ascend, tt)),
-    ) in
+    let indexes : Clear indexed = (told-no (a .starts), (told-no (a .reaches), (s .ascend, tt))) in
     let rooms : Clear lent =
     (le-ltb _ _ (p .long .room), (le-ltb _ _ (p .long .ends), (le-ltb _ _ (p .long .chain), (le-ltb _ _ (p .long .chainEnds), (le-ltb _ _ (p .long .chainHow), tt))))) in
     let guard : Clear (stitched.guardRows g) = (no-rounds-fault g, tt) in

@@ -20,11 +20,12 @@ use Rattle.verdict_entries.specs.ValidateEntry.{validateRows, validateRefusal}
 use Rattle.cut.specs.Cuts as cuts
 use Rattle.cut_entries.specs.CutOrder.{cutOrderRows, cutOrderRefusal}
 use Rattle.candidate_entries.specs.Candidates.{candOpenRows, guardRows, candidatesRefusal}
-use Rattle.prune_entries.specs.PruneEntry.{Called, inputRows, lentRows, pruneRefusal}
+use Rattle.prune.specs.Prune as Prune
+use Rattle.prune_entries.specs.PruneEntry.{inputRows, lentRows, pruneRefusal}
 use Rattle.stitch_run.specs.Stitch as stitch
-use Rattle.stitch_entries.specs.StitchRows.{roomRows}
+use Rattle.stitch_entries.specs.declared.faults.Lengths.{Lengths}
 use Rattle.stitch_entries.specs.StitchEntry as stitched
-use Rattle.stitch_entries.specs.StitchEntry.{shapeRows, stitchRefusal}
+use Rattle.stitch_entries.specs.StitchEntry.{shapeRows, roomPart, stitchRefusal}
 use Rattle.area_entries.specs.AreaEntry.{areaRows, areaRefusal}
 use Rattle.straight_entries.specs.WindingEntry.{windingRows, windingRefusal}
 use Rattle.straight_entries.specs.AreaEntry as straight
@@ -59,14 +60,13 @@ pub candidates-first : (g : cuts.Given) (source : ℕ) (splits : List Float) (at
 unfolding candidatesRefusal before refusalOrder
 candidates-first g source splits at cand probe = first-of (candOpenRows g source splits at cand probe ++ guardRows g splits) tt
 
-pub prune-first : (c : Called) (at slice : ℕ) → First (inputRows c ++ lentRows (c .pruned) at slice) (pruneRefusal c at slice)
+pub prune-first : (g : Prune.Given) (at slice : ℕ) → First (inputRows g ++ lentRows g at slice) (pruneRefusal g at slice)
 unfolding pruneRefusal inputRows before refusalOrder
-prune-first c at slice = first-of (inputRows c ++ lentRows (c .pruned) at slice) tt
+prune-first g at slice = first-of (inputRows g ++ lentRows g at slice) tt
 
-pub stitch-first : (g : stitch.Given) (room ends chain chainEnds chainHow : ℕ)
-    → First (shapeRows g ++ (roomRows (g .sliceAt) (g .slices) room ends chain chainEnds chainHow ++ stitched.guardRows g)) (stitchRefusal g room ends chain chainEnds chainHow)
+pub stitch-first : (g : stitch.Given) (l : Lengths) → First (shapeRows g ++ (roomPart g l ++ stitched.guardRows g)) (stitchRefusal g l)
 unfolding stitchRefusal before refusalOrder
-stitch-first g room ends chain chainEnds chainHow = first-of (shapeRows g ++ (roomRows (g .sliceAt) (g .slices) room ends chain chainEnds chainHow ++ stitched.guardRows g)) tt
+stitch-first g l = first-of (shapeRows g ++ (roomPart g l ++ stitched.guardRows g)) tt
 
 pub area-first : (areas : List Float) (loops : ℕ) (limit : Float) (kept : ℕ) → First (areaRows areas loops limit kept) (areaRefusal areas loops limit kept)
 unfolding areaRefusal before refusalOrder

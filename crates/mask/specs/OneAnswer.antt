@@ -24,9 +24,10 @@ use Rattle.candidate.specs.Ready as slices
 use Rattle.basis.specs.declared.answer.CountAnswer.{CountAnswer}
 use Rattle.cut_entries.specs.CutOrder.{CutOrdered}
 use Rattle.candidate_entries.specs.Candidates.{Sliced}
-use Rattle.prune.specs.Ready as prune
+use Rattle.slice.specs.Ready as slice
+use Rattle.prune.specs.Prune.{Given}
 use Rattle.prune_entries.specs.declared.answer.PruneAnswer.{PruneAnswer}
-use Rattle.prune_entries.specs.PruneEntry.{Called, PruneLeft}
+use Rattle.prune_entries.specs.PruneEntry.{PruneLeft}
 use Rattle.stitch_run.specs.Stitch as stitch
 use Rattle.stitch.specs.Lent.{Lists}
 use Rattle.stitch_entries.specs.declared.answer.StitchAnswer.{StitchAnswer}
@@ -64,7 +65,7 @@ pub candidates-one : (g : cuts.Given) (source : ℕ) (splits : List Float) (l : 
 candidates-one g source splits l r s a b x y =
     (one-answer r s _ (x .answers) (y .answers), one-answer (a .at) (b .at) _ (x .at) (y .at), one-answer (a .cand) (b .cand) _ (x .cand) (y .cand), one-answer (a .probe) (b .probe) _ (x .probe) (y .probe))
 
-pub prune-one : (c : Called) (l : prune.Rooms) (r s : PruneAnswer) (a b : prune.Rooms)
+pub prune-one : (c : Given) (l : slice.Rooms) (r s : PruneAnswer) (a b : slice.Rooms)
     → PruneLeft c l r a → PruneLeft c l s b → (r ≡ s) × (a .at ≡ b .at) × (a .shape ≡ b .shape)
 prune-one c l r s a b x y =
     (one-answer r s _ (x .answers) (y .answers), one-answer (a .at) (b .at) _ (x .at) (y .at), one-answer (a .shape) (b .shape) _ (x .shape) (y .shape))

@@ -4,11 +4,10 @@ use Prim.Native.Nat.{ℕ, _+_, _*_, _≤_, _<_}
 use mathlib.Core.Bool.{true}
 use mathlib.Core.Path.{_≡_, sym, ap, subst}
 use mathlib.Core.List.{List}
-use lib.Dec.{eqb}
 use lib.ListN.{length, take}
 use lib.Ieee.{Float}
 use borrow.Author.Tests.{not-false}
-use Rattle.basis.specs.Each.{placesBelow, placesAtMost}
+use Rattle.basis.specs.Each.{placesBelow, placesAtMost, choicesKnown}
 use Rattle.basis.specs.RefuseLaws.{answer-accepted}
 use Rattle.cut.specs.Cuts as cuts
 use Rattle.candidate.specs.Ready as slices
@@ -16,12 +15,12 @@ use Rattle.basis.specs.declared.answer.CountAnswer.{CountAnswer}
 use Rattle.cut_entries.specs.CutRows.{whichOf}
 use Rattle.cut_entries.specs.CutRowsLaws.{which-lt, cuts-ready}
 use Rattle.candidate_entries.specs.Candidates.{Sliced}
-use Rattle.prune.specs.Prune.{Cands, Given, cands, overlaps, given, needOf}
-use Rattle.prune.specs.Ready as prune
+use Rattle.slice.specs.Slice.{codeWidth, shapeWidth}
+use Rattle.slice.specs.Ready as slice
+use Rattle.prune.specs.Prune.{Cands, Given, callOf, cands, overlaps, given, needOf}
 use Rattle.prune_entries.specs.declared.answer.PruneAnswer.{PruneAnswer}
-use Rattle.prune_entries.specs.PruneRows.{codesKnown}
 use Rattle.prune_entries.specs.Answers.{pruneRefused}
-use Rattle.prune_entries.specs.PruneEntry.{Called, called, pruneNumber, PruneLeft}
+use Rattle.prune_entries.specs.PruneEntry.{pruneNumber, PruneLeft}
 use Rattle.stitch_run.specs.Stitch as stitch
 use Rattle.stitch.specs.Lent.{Lists, Long}
 use Rattle.stitch_entries.specs.declared.answer.StitchAnswer.{StitchAnswer}
@@ -44,12 +43,12 @@ pub record Made (source : ℕ) : Type 0 where
 
 -- what the host hands on: as many items as were counted, and its yes or no for each
 abbrev pub handOn : {source : ℕ} → Made source → List ℕ → Cands
-handOn m inside = cands (take (2 * m .answer .count) (m .left .at)) (take (6 * m .answer .count) (m .left .cand)) inside (m .answer .count)
+handOn m inside = cands (take (2 * m .answer .count) (m .left .at)) (take (shapeWidth * m .answer .count) (m .left .cand)) inside
 
 -- one yes or no for each candidate
 pub record Told (n : ℕ) (inside : List ℕ) : Type 0 where
   pub each : length inside ≡ n
-  pub known : codesKnown inside ≡ true
+  pub known : choicesKnown 1 0 inside ≡ true
 
 -- "given its overlaps pass": both calls had the same overlaps, and the view of each, which the entries over cuts do not look at, fits outline 2
 pub record Laps (one : Made 1) (two : Made 2) : Type 0 where
@@ -57,10 +56,10 @@ pub record Laps (one : Made 1) (two : Made 2) : Type 0 where
   pub starts : placesBelow 7 5 (two .handed .vc) (one .handed .lapAt) ≡ true
   pub reaches : placesAtMost 7 6 (two .handed .vc) (one .handed .lapAt) ≡ true
 
-abbrev pub pruneCall : Made 1 → Made 2 → ℕ → ℕ → List ℕ → List ℕ → Called
+abbrev pub pruneCall : Made 1 → Made 2 → ℕ → ℕ → List ℕ → List ℕ → Given
 pruneCall one two mode opposing inside1 inside2 =
-    called opposing (one .handed .vc) (two .handed .vc)
-    (given mode (eqb opposing 1) (handOn one inside1) (handOn two inside2) (overlaps (one .handed .lapAt) (one .handed .lap) (one .handed .laps)))
+    given (callOf mode opposing (one .handed .vc) (two .handed .vc) (one .answer .count) (two .answer .count) (one .handed .laps)) (handOn one inside1) (handOn two inside2)
+    (overlaps (one .handed .lapAt) (one .handed .lap))
 
 which-of : {source : ℕ} (m : Made source) → m .handed .which < 2
 which-of {source = source} m = subst (λ (n : ℕ). n < 2) (sym (m .which)) (which-lt source)
@@ -71,7 +70,7 @@ passed {source = source} m = cuts-pass (m .handed) source (m .splits) (m .lent) 
 ready-of : {source : ℕ} (m : Made source) → cuts.Ready (m .handed)
 ready-of {source = source} m = let p = passed m in cuts-ready (m .handed) source (which-of m) (p .lists) (p .values) (p .indexes)
 
-cands-pass : {source : ℕ} (m : Made source) (inside : List ℕ) → Told (m .answer .count) inside → CandsPass (m .handed .vc) (handOn m inside)
+cands-pass : {source : ℕ} (m : Made source) (inside : List ℕ) → Told (m .answer .count) inside → CandsPass (m .handed .vc) (m .answer .count) (handOn m inside)
 cands-pass {source = source} m inside t =
     record {
       made = cands-made (m .handed) source (m .splits) (m .lent) (m .answer) (m .left) (m .holds) (m .accepted) (which-of m);
@@ -88,7 +87,7 @@ module _ (one : Made 1) (two : Made 2) (laps : Laps one two) where
   of-first : (k : ℕ) → placesBelow 7 k (two .handed .vc) (two .handed .lapAt) ≡ true → placesBelow 7 k (two .handed .vc) (one .handed .lapAt) ≡ true
   of-first k h = subst (λ (l : List ℕ). placesBelow 7 k (two .handed .vc) l ≡ true) (laps .places) h
 
-  laps-pass : LapsPass (one .handed .vc) (two .handed .vc) (overlaps (one .handed .lapAt) (one .handed .lap) (one .handed .laps))
+  laps-pass : LapsPass (one .handed .vc) (two .handed .vc) (one .handed .laps) (overlaps (one .handed .lapAt) (one .handed .lap))
   unfolding whichOf
   laps-pass =
       let p = passed one in
@@ -109,11 +108,11 @@ module _ (one : Made 1) (two : Made 2) (laps : Laps one two) where
 
   -- whatever the mode, the outlines' own directions and the host's yes and no
   module _ (mode opposing : ℕ) (inside1 inside2 : List ℕ) (known : mode ≤ 3) (choice : opposing ≤ 1) (told1 : Told (one .answer .count) inside1) (told2 : Told (two .answer .count) inside2) where
-    abbrev call : Called
+    abbrev call : Given
     call = pruneCall one two mode opposing inside1 inside2
 
     -- what `mask_candidates` returns, `mask_prune` accepts
-    pub prune-accepts : (l : prune.Rooms) → prune.Roomy (needOf (call .pruned)) l → pruneNumber call l ≡ 0
+    pub prune-accepts : (l : slice.Rooms) → slice.Roomy (needOf (call .call)) l → pruneNumber call l ≡ 0
     prune-accepts l roomy =
         prune-passes call l
         (record {
@@ -121,19 +120,19 @@ module _ (one : Made 1) (two : Made 2) (laps : Laps one two) where
           sized2 = passed two .values .0;
           mode = known;
           choice = choice;
-          one = cands-pass one inside1 told1;
-          two = cands-pass two inside2 told2;
+          first = cands-pass one inside1 told1;
+          second = cands-pass two inside2 told2;
           laps = laps-pass;
           roomy = roomy;
         })
 
     -- what `mask_prune` returns, `mask_stitch` accepts
-    module _ (l : prune.Rooms) (r : PruneAnswer) (left : prune.Rooms) (roomy : prune.Roomy (needOf (call .pruned)) l) (holds : PruneLeft call l r left) where
+    module _ (l : slice.Rooms) (r : PruneAnswer) (left : slice.Rooms) (roomy : slice.Roomy (needOf (call .call)) l) (holds : PruneLeft call l r left) where
       -- what the host hands on: the outlines, as many slices as were counted, their starts
       abbrev pub stitchCall : ℕ → stitch.Given
       stitchCall selector =
-          stitch.given (one .handed .outline) (one .handed .vc) (two .handed .outline) (two .handed .vc) (take (4 * r .slices) (left .at)) (take (6 * r .slices) (left .shape)) (r .slices) (r .starts)
-          selector (one .handed .tolerance)
+          stitch.given (one .handed .outline) (two .handed .outline) (take (codeWidth * r .slices) (left .at)) (take (shapeWidth * r .slices) (left .shape))
+          (stitch.planOf (one .handed .vc) (two .handed .vc) (r .slices) (r .starts) selector (one .handed .tolerance))
 
       pub pruned : r .refusal ≡ 0
       pruned = ap (λ (a : PruneAnswer). a .refusal) (answer-accepted pruneRefused (pruneNumber call l) _ r (holds .answers) (prune-accepts l roomy))

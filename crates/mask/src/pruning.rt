@@ -1,8 +1,8 @@
 // Pruning.
-ghost use lib.Dec.{eqb};
-ghost use Rattle.prune.specs.Prune.{given, cands, overlaps};
-ghost use Rattle.prune.specs.Ready.{rooms};
-ghost use Rattle.prune_entries.specs.PruneEntry.{called, PruneLeft};
+ghost use Rattle.slice.specs.Ready.{rooms};
+ghost use Rattle.prune.specs.Prune.{given, callOf, cands, overlaps};
+ghost use Rattle.prune_entries.specs.PruneEntry.{PruneLeft};
+use prune::call::Call;
 use prune_entries::answer::PruneAnswer;
 
 // The slices of a mode: the candidates of each outline that stay, then the overlaps for each outline.
@@ -26,24 +26,27 @@ pub extern "C" fn mask_prune(
     slice_at: &mut [usize],
     slice: &mut [f64],
 ) -> PruneAnswer
-    ensures { λ r. ⌜ PruneLeft (called opposing vc1 vc2 (given mode (eqb opposing 1) (cands (now («cand_at1» .entry)) (now (cand1 .entry)) (now (inside1 .entry)) count1) (cands (now («cand_at2» .entry)) (now (cand2 .entry)) (now (inside2 .entry)) count2) (overlaps (now («lap_at» .entry)) (now (lap .entry)) laps))) (rooms (now («slice_at» .entry)) (now (slice .entry))) r (rooms (now («slice_at» .exit)) (now (slice .exit))) ⌝ }
+    ensures { λ r. ⌜ PruneLeft (given (callOf mode opposing vc1 vc2 count1 count2 laps) (cands (now («cand_at1» .entry)) (now (cand1 .entry)) (now (inside1 .entry))) (cands (now («cand_at2» .entry)) (now (cand2 .entry)) (now (inside2 .entry))) (overlaps (now («lap_at» .entry)) (now (lap .entry)))) (rooms (now («slice_at» .entry)) (now (slice .entry))) r (rooms (now («slice_at» .exit)) (now (slice .exit))) ⌝ }
 {
-    prune_entries::pruning::entry(
+    let call = Call {
         mode,
         opposing,
         vc1,
         vc2,
+        count1,
+        count2,
+        laps,
+    };
+    prune_entries::pruning::entry(
+        call,
         cand_at1,
         cand1,
         inside1,
-        count1,
         cand_at2,
         cand2,
         inside2,
-        count2,
         lap_at,
         lap,
-        laps,
         slice_at,
         slice,
     )

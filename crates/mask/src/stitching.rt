@@ -1,6 +1,6 @@
 // The stitch and the area pass.
 ghost use Rattle.basis.specs.Number.{toleranceOf};
-ghost use Rattle.stitch_run.specs.Stitch.{given};
+ghost use Rattle.stitch_run.specs.Stitch.{given, planOf};
 ghost use Rattle.stitch.specs.Lent.{lists};
 ghost use Rattle.stitch_entries.specs.StitchEntry.{StitchLeft};
 ghost use Rattle.area_entries.specs.AreaEntry.{AreaLeft};
@@ -28,7 +28,7 @@ pub extern "C" fn mask_stitch(
     chain_ends: &mut [usize],
     chain_how: &mut [usize],
 ) -> StitchAnswer
-    ensures { λ r. ⌜ StitchLeft (given (now (outline1 .entry)) vc1 (now (outline2 .entry)) vc2 (now («slice_at» .entry)) (now (slice .entry)) slices (record { pline2 = pline2; «pline1_overlapping» = «pline1_overlapping»; «pline2_overlapping» = «pline2_overlapping» }) selector (toleranceOf tolerance)) (lists (now (room .entry)) (now (ends .entry)) (now (chain .entry)) (now («chain_ends» .entry)) (now («chain_how» .entry))) r (lists (now (room .exit)) (now (ends .exit)) (now (chain .exit)) (now («chain_ends» .exit)) (now («chain_how» .exit))) ⌝ }
+    ensures { λ r. ⌜ StitchLeft (given (now (outline1 .entry)) (now (outline2 .entry)) (now («slice_at» .entry)) (now (slice .entry)) (planOf vc1 vc2 slices (record { pline2 = pline2; «pline1_overlapping» = «pline1_overlapping»; «pline2_overlapping» = «pline2_overlapping» }) selector (toleranceOf tolerance))) (lists (now (room .entry)) (now (ends .entry)) (now (chain .entry)) (now («chain_ends» .entry)) (now («chain_how» .entry))) r (lists (now (room .exit)) (now (ends .exit)) (now (chain .exit)) (now («chain_ends» .exit)) (now («chain_how» .exit))) ⌝ }
 {
     stitch_entries::stitching::entry(
         outline1,

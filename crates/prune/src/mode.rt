@@ -23,8 +23,8 @@ pub struct Part {
 
 // Both outlines' parts.
 pub struct Parts {
-    pub one: Part,
-    pub two: Part,
+    pub first: Part,
+    pub second: Part,
 }
 
 // The row of a mode: 0 Union, 1 Intersection, 2 FirstMinusSecond, 3 SecondMinusFirst.
@@ -97,7 +97,7 @@ pub fn parts_of(mode: u32, opposing: bool) -> Parts
 {
     let w = wanted_of(mode);
     Parts {
-        one: first_part(w, opposing),
-        two: second_part(w),
+        first: first_part(w, opposing),
+        second: second_part(w),
     }
 }

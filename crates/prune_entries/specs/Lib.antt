@@ -1,5 +1,4 @@
 pub mod Answers
 pub mod PruneRows
-pub mod PruneRowsLaws
 pub mod PruneEntry
 pub mod PruneEntryLaws

@@ -1,129 +1,176 @@
--- What the entry `mask_prune` is proved by: the table in its parts, acceptance, and the two ways out.
-use Prim.Native.Nat.{ℕ, _*_, _≤_}
-use mathlib.Core.Path.{_≡_, refl, sym, ap, _∙_}
+-- What the entry `mask_prune` is proved by: the table in its parts, acceptance, and the ways out.
+use Prim.Native.Nat.{ℕ, zero, suc, _*_, _≤_, _<_}
+use mathlib.Core.Path.{_≡_, refl, sym, ap, subst, _∙_}
 use mathlib.Core.List.{_++_}
 use native.Mathlib.Omega.{arith}
 use lib.ListN.{length}
 use borrow.Author.Tests.{ltb-false, not-false}
+use Rattle.basis.specs.Sizes.{mostCandidates, mostLaps}
 use Rattle.basis.specs.Refuse.{firstFrom}
-use Rattle.basis.specs.RefuseLaws.{Clear, clear, clear-left, clear-right, first-from, then-rows, length-ok, answer-no, answer-yes}
+use Rattle.basis.specs.RefuseLaws.{Clear, clear, clear-left, clear-right, first-from, found-stays, then-rows, length-ok, answer-no, answer-yes}
+use Rattle.slice.specs.Slice.{shapeWidth}
+use Rattle.slice.specs.Ready.{Countable, Rooms}
 use Rattle.prune.specs.declared.counts.Pruned.{Pruned}
-use Rattle.prune.specs.Prune.{Cands}
-use Rattle.prune.specs.Ready.{CandsFit, OverlapsFit, Rooms, Ready, Written}
+use Rattle.slice.specs.Faults.{roomRows}
+use Rattle.prune.specs.Prune.{Cands, Given, needOf}
+use Rattle.prune.specs.Ready.{Few, CandsFit, OverlapsFit}
+use Rattle.prune_write.specs.Ready.{Ready, Written}
 use Rattle.prune_write.specs.PruneTheorems.{cands-sound, overlaps-sound}
 use Rattle.prune_entries.specs.declared.answer.PruneAnswer.{PruneAnswer}
 use Rattle.prune_entries.specs.Answers.{pruneRefused, pruneGiven}
-use Rattle.prune_entries.specs.PruneRowsLaws.{few-cands, few-laps, room-ok}
-use Rattle.prune_entries.specs.PruneEntry.{Called, candsRows, lapsRows, codesRows, numbersRows, startsRows, reachesRows, inputRows, lentRows, pruneRefusal, pruneNumber, PruneLeft, Sound}
+use Rattle.prune_entries.specs.PruneEntry.{candsRows, lapsRows, codesRows, numbersRows, startsRows, reachesRows, inputRows, lentRows, pruneRefusal, pruneNumber, PruneLeft, Sound}
 
--- the number, from what is handed in and then from what is lent
-pub prune-number : (c : Called) (at slice r n : ℕ) → n ≡ firstFrom r (lentRows (c .pruned) at slice) → r ≡ firstFrom 0 (inputRows c) → n ≡ pruneRefusal c at slice
-unfolding pruneRefusal inputRows
-prune-number c at slice r n e f =
-    first-from (inputRows c ++ lentRows (c .pruned) at slice) n tt (then-rows n r 0 (inputRows c) (lentRows (c .pruned) at slice) e f)
-
--- ---- the candidates of one outline, and the overlaps
-cands-fit : (c : Cands) → Clear (candsRows c) → CandsFit c
-cands-fit c ok =
-    let n : length (c .inside) ≡ 1 * c .count = length-ok 1 (length (c .inside)) (c .count) (ok .1 .1 .0) in
+-- ---- the candidates of one outline
+cands-fit : (c : Cands) (count : ℕ) → Clear (candsRows c count) → CandsFit c count
+cands-fit c count ok =
+    let n : length (c .inside) ≡ 1 * count = length-ok 1 (length (c .inside)) count (ok .1 .1 .0) in
     record {
-      few = few-cands (c .count) (ok .1 .1 .1 .0);
-      at = length-ok 2 (length (c .at)) (c .count) (ok .0);
-      shape = length-ok 6 (length (c .shape)) (c .count) (ok .1 .0);
+      few = ltb-false mostCandidates count (ok .1 .1 .1 .0);
+      at = length-ok 2 (length (c .at)) count (ok .0);
+      shape = length-ok shapeWidth (length (c .shape)) count (ok .1 .0);
       inside = omega arith;
     }
 
--- ---- the parts of an accepted call's table
-record Parts (c : Called) (at slice : ℕ) : Type 0 where
-  one : CandsFit (c .pruned .one)
-  two : CandsFit (c .pruned .two)
-  laps : OverlapsFit (c .pruned .laps)
-  codes : Clear (codesRows c)
-  numbers : Clear (numbersRows (c .pruned))
-  starts : Clear (startsRows c)
-  reaches : Clear (reachesRows c)
-  lent : Clear (lentRows (c .pruned) at slice)
+-- ---- the parts of the table of what is handed in
+record Parts (g : Given) : Type 0 where
+  first : CandsFit (g .first) (g .call .count1)
+  second : CandsFit (g .second) (g .call .count2)
+  laps : OverlapsFit (g .laps) (g .call .laps)
+  codes : Clear (codesRows g)
+  numbers : Clear (numbersRows g)
+  starts : Clear (startsRows g)
+  reaches : Clear (reachesRows g)
 
-parts : (c : Called) (at slice number : ℕ) → number ≡ pruneRefusal c at slice → number ≡ 0 → Parts c at slice
-unfolding pruneRefusal inputRows
-parts c at slice number e z =
-    let g = c .pruned in
-    let all : Clear (inputRows c ++ lentRows g at slice) = clear (inputRows c ++ lentRows g at slice) tt (sym e ∙ z) in
-    let input : Clear (inputRows c) = clear-left (inputRows c) (lentRows g at slice) all in
-    let from6 = startsRows c ++ reachesRows c in
+parts : (g : Given) → Clear (inputRows g) → Parts g
+unfolding inputRows
+parts g input =
+    let from6 = startsRows g ++ reachesRows g in
     let from5 = numbersRows g ++ from6 in
-    let from2 = codesRows c ++ from5 in
+    let from2 = codesRows g ++ from5 in
     let laps = lapsRows g ++ from2 in
-    let two = candsRows (g .two) ++ laps in
-    let a : Clear two = clear-right (candsRows (g .one)) two input in
-    let b : Clear laps = clear-right (candsRows (g .two)) laps a in
+    let second = candsRows (g .second) (g .call .count2) ++ laps in
+    let a : Clear second = clear-right (candsRows (g .first) (g .call .count1)) second input in
+    let b : Clear laps = clear-right (candsRows (g .second) (g .call .count2)) laps a in
     let d : Clear from2 = clear-right (lapsRows g) from2 b in
-    let f : Clear from5 = clear-right (codesRows c) from5 d in
+    let f : Clear from5 = clear-right (codesRows g) from5 d in
     let h : Clear from6 = clear-right (numbersRows g) from6 f in
     let o : Clear (lapsRows g) = clear-left (lapsRows g) from2 b in
     record {
-      one = cands-fit (g .one) (clear-left (candsRows (g .one)) two input);
-      two = cands-fit (g .two) (clear-left (candsRows (g .two)) laps a);
+      first = cands-fit (g .first) (g .call .count1) (clear-left (candsRows (g .first) (g .call .count1)) second input);
+      second = cands-fit (g .second) (g .call .count2) (clear-left (candsRows (g .second) (g .call .count2)) laps a);
       laps =
           record {
-            few = few-laps (g .laps .count) (o .1 .1 .0);
-            at = length-ok 7 (length (g .laps .at)) (g .laps .count) (o .0);
-            shape = length-ok 6 (length (g .laps .shape)) (g .laps .count) (o .1 .0);
+            few = ltb-false mostLaps (g .call .laps) (o .1 .1 .0);
+            at = length-ok 7 (length (g .laps .at)) (g .call .laps) (o .0);
+            shape = length-ok shapeWidth (length (g .laps .shape)) (g .call .laps) (o .1 .0);
           };
-      codes = clear-left (codesRows c) from5 d;
+      codes = clear-left (codesRows g) from5 d;
       numbers = clear-left (numbersRows g) from6 f;
-      starts = clear-left (startsRows c) (reachesRows c) h;
-      reaches = clear-right (startsRows c) (reachesRows c) h;
-      lent = clear-right (inputRows c) (lentRows g at slice) all;
+      starts = clear-left (startsRows g) (reachesRows g) h;
+      reaches = clear-right (startsRows g) (reachesRows g) h;
     }
 
+module _ (g : Given) (r : ℕ) (e : r ≡ firstFrom 0 (inputRows g)) where
+  -- nothing was found in what is handed in
+  clean : r ≡ 0 → Parts g
+  unfolding inputRows
+  clean z = parts g (clear (inputRows g) tt (sym (first-from (inputRows g) r tt e) ∙ z))
+
+  -- so the need can be worked out
+  pub input-few : r ≡ 0 → Few (g .call)
+  input-few z = let p = clean z in record { first = p .first .few; second = p .second .few; laps = p .laps .few }
+
+  pub input-countable : (need : ℕ) → r ≡ 0 → need ≡ needOf (g .call) → Countable need
+  input-countable need z n = let f = input-few z in record { few = omega (arith, f .first, f .second, f .laps) }
+
+  -- a number that was found stays
+  pub input-found : (at slice : ℕ) → (r ≡ 0 → ⊥) → r ≡ pruneRefusal g at slice
+  unfolding pruneRefusal inputRows
+  input-found at slice h =
+      first-from (inputRows g ++ lentRows g at slice) r tt (then-rows r r 0 (inputRows g) (lentRows g at slice) (stays r h) e)
+    where
+      stays : (n : ℕ) → (n ≡ 0 → ⊥) → n ≡ firstFrom n (lentRows g at slice)
+      stays zero h = absurd (h refl)
+      stays (suc n) h = sym (found-stays n (lentRows g at slice))
+
+  -- else what is lent decides
+  pub lent-found : (at slice n : ℕ) → r ≡ 0 → n ≡ firstFrom 0 (lentRows g at slice) → n ≡ pruneRefusal g at slice
+  unfolding pruneRefusal inputRows
+  lent-found at slice n z q =
+      first-from (inputRows g ++ lentRows g at slice) n tt
+      (then-rows n r 0 (inputRows g) (lentRows g at slice) (subst (λ (k : ℕ). n ≡ firstFrom k (lentRows g at slice)) (sym z) q) e)
+
 -- ---- acceptance
-module _ (c : Called) (l : Rooms) (number : ℕ) where
-  pub prune-accepted : number ≡ pruneNumber c l → number ≡ 0 → Ready (c .pruned) l
+module _ (g : Given) (l : Rooms) (number : ℕ) where
+  all-clear : number ≡ pruneNumber g l → number ≡ 0 → Clear (inputRows g ++ lentRows g (length (l .at)) (length (l .shape)))
+  unfolding pruneRefusal inputRows
+  all-clear e z = clear (inputRows g ++ lentRows g (length (l .at)) (length (l .shape))) tt (sym e ∙ z)
+
+  pub prune-accepted : number ≡ pruneNumber g l → number ≡ 0 → Ready g l
   prune-accepted e z =
-      let g = c .pruned in
-      let p = parts c (length (l .at)) (length (l .shape)) number e z in
-      let mode : g .mode ≤ 3 = ltb-false 3 (g .mode) (p .codes .1 .1 .0) in
+      let lent = lentRows g (length (l .at)) (length (l .shape)) in
+      let all = all-clear e z in
+      let p = parts g (clear-left (inputRows g) lent all) in
+      let room : Clear lent = clear-right (inputRows g) lent all in
+      let mode : g .call .mode ≤ 3 = ltb-false 3 (g .call .mode) (p .codes .1 .1 .0) in
       record {
         known = omega arith;
-        one = p .one;
-        two = p .two;
+        few = record { first = p .first .few; second = p .second .few; laps = p .laps .few };
+        first = p .first;
+        second = p .second;
         laps = p .laps;
-        roomy =
-            record {
-              at = room-ok 4 (length (l .at)) (g .one .count) (g .two .count) (g .laps .count) (p .lent .0);
-              shape = room-ok 6 (length (l .shape)) (g .one .count) (g .two .count) (g .laps .count) (p .lent .1 .0);
-            };
+        roomy = record { at = ltb-false _ _ (room .0); shape = ltb-false _ _ (room .1 .0) };
       }
 
   -- what later theorems start from: every slice that comes of an accepted call is one that a stitch accepts
-  pub prune-sound : number ≡ pruneNumber c l → number ≡ 0 → Sound c
+  pub prune-sound : number ≡ pruneNumber g l → number ≡ 0 → Sound g
   prune-sound e z =
-      let p = parts c (length (l .at)) (length (l .shape)) number e z in
+      let c = g .call in
+      let p = parts g (clear-left (inputRows g) (lentRows g (length (l .at)) (length (l .shape))) (all-clear e z)) in
       let n = p .numbers in
       let s = p .starts in
       let r = p .reaches in
       record {
-        one = cands-sound (c .vc1) (c .pruned .one) (p .one) (not-false _ (s .0)) (not-false _ (r .0)) (not-false _ (n .0));
-        two = cands-sound (c .vc2) (c .pruned .two) (p .two) (not-false _ (s .1 .0)) (not-false _ (r .1 .0)) (not-false _ (n .1 .0));
+        first = cands-sound (c .vc1) (c .count1) (g .first) (p .first) (not-false _ (s .0)) (not-false _ (r .0)) (not-false _ (n .0));
+        second = cands-sound (c .vc2) (c .count2) (g .second) (p .second) (not-false _ (s .1 .0)) (not-false _ (r .1 .0)) (not-false _ (n .1 .0));
         laps =
-            overlaps-sound (c .vc2) (c .pruned .laps) (p .laps) (not-false _ (p .codes .1 .1 .1 .1 .1 .1 .0)) (not-false _ (s .1 .1 .1 .1 .1 .1 .0)) (not-false _ (r .1 .1 .0))
-            (not-false _ (n .1 .1 .0));
+            overlaps-sound (c .vc2) (c .laps) (g .laps) (p .laps) (not-false _ (p .codes .1 .1 .1 .1 .1 .1 .0)) (not-false _ (s .1 .1 .1 .1 .1 .1 .0))
+            (not-false _ (r .1 .1 .0)) (not-false _ (n .1 .1 .0));
       }
 
-  -- ---- what the entry leaves: refused, and accepted
-  pub prune-refused : (r : PruneAnswer) → number ≡ pruneNumber c l → (number ≡ 0 → ⊥) → r ≡ pruneRefused number → PruneLeft c l r l
-  prune-refused r e h q =
+  left-refused : (r : PruneAnswer) → number ≡ pruneNumber g l → (number ≡ 0 → ⊥) → r ≡ pruneRefused number → PruneLeft g l r l
+  left-refused r e h q =
       record {
         answers = answer-no pruneRefused number _ _ r e h q;
         at = answer-no (λ _. l .at) number _ _ (l .at) e h refl;
         shape = answer-no (λ _. l .shape) number _ _ (l .shape) e h refl;
       }
 
-  pub prune-given : (p : Pruned) (r : PruneAnswer) (left : Rooms) → number ≡ pruneNumber c l → number ≡ 0 → Written (c .pruned) l p left → r ≡ pruneGiven p → PruneLeft c l r left
-  prune-given p r left e z w q =
+  left-given : (p : Pruned) (r : PruneAnswer) (left : Rooms) → number ≡ pruneNumber g l → number ≡ 0 → Written g l p left → r ≡ pruneGiven p → PruneLeft g l r left
+  left-given p r left e z w q =
       record {
         answers = answer-yes pruneRefused number _ _ r e z (q ∙ ap (λ (x : Pruned). pruneGiven x) (w .answer));
         at = answer-yes (λ _. l .at) number _ _ (left .at) e z (w .at);
         shape = answer-yes (λ _. l .shape) number _ _ (left .shape) e z (w .shape);
       }
+
+-- ---- the ways through the entry: what is handed in is refused
+pub input-refused : (g : Given) (l : Rooms) (found : ℕ) (r : PruneAnswer) → found ≡ firstFrom 0 (inputRows g) → (found ≡ 0 → ⊥) → r ≡ pruneRefused found → PruneLeft g l r l
+input-refused g l found r e h q = left-refused g l found r (input-found g found e (length (l .at)) (length (l .shape)) h) h q
+
+-- it is not, and the need was worked out
+module _ (g : Given) (l : Rooms) (found need number : ℕ) (e : found ≡ firstFrom 0 (inputRows g)) (z : found ≡ 0) (n : need ≡ needOf (g .call))
+    (f : number ≡ firstFrom 0 (roomRows need (length (l .at)) (length (l .shape)))) where
+  is-number : number ≡ pruneNumber g l
+  is-number = lent-found g found e (length (l .at)) (length (l .shape)) number z (rw n at f)
+
+  pub lent-refused : (r : PruneAnswer) → (number ≡ 0 → ⊥) → r ≡ pruneRefused number → PruneLeft g l r l
+  lent-refused r h q = left-refused g l number r is-number h q
+
+  pub accepted-ready : number ≡ 0 → Ready g l
+  accepted-ready y = prune-accepted g l number is-number y
+
+  pub accepted-given : (p : Pruned) (r : PruneAnswer) (left : Rooms) → number ≡ 0 → Written g l p left → r ≡ pruneGiven p → PruneLeft g l r left
+  accepted-given p r left y w q = left-given g l number p r left is-number y w q
+
+pub ruleset pruning = (input-refused, input-few, input-countable, lent-refused, accepted-ready, accepted-given)

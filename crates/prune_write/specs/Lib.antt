@@ -1,2 +1,3 @@
+pub mod Ready
 pub mod WriteLaws
 pub mod PruneTheorems

@@ -8,18 +8,27 @@ use native.Mathlib.Numerals.{add-one}
 use native.Mathlib.Omega.{arith}
 use lib.Dec.{eqb}
 use lib.ListN.{length, getD, drop, length-append}
-use lib.Seq.{sets, sets-eq}
+use lib.Seq.{sets}
 use borrow.Author.Tests.{eq-eqb, ne-eqb}
-use Rattle.prune.specs.declared.mode.Part.{Part}
-use Rattle.prune.specs.declared.put.Head.{Head}
 use Rattle.basis.specs.Number.{+0}
+use Rattle.basis.specs.StoreLaws.{sets-front}
 use Rattle.basis.specs.RoomLaws.{room-left}
+use Rattle.slice.specs.declared.data.Codes.{Codes}
+use Rattle.slice.specs.declared.data.Shape.{Shape}
+use Rattle.slice.specs.Slice.{codeWidth, shapeWidth, Slice, sliceOf}
+use Rattle.slice.specs.Ready.{Rooms, Placed}
+use Rattle.slice.specs.PutLaws.{codes-length, shapes-length, placed-none, placed-then, placed-at, placed-shape}
+use Rattle.prune.specs.declared.call.Call.{Call}
+use Rattle.prune.specs.declared.mode.Part.{Part}
 use Rattle.prune.specs.declared.mode.Parts.{Parts}
 use Rattle.prune.specs.declared.counts.Ends.{Ends}
 use Rattle.prune.specs.declared.counts.Pruned.{Pruned}
-use Rattle.prune.specs.Prune.{Cands, Overlaps, Given, given, Slice, sliceOf, candHead, candSlice, lapHead, lapSlice, keptTo, lapsTo, partsOf, keptOne, keptTwo, lapsFor, slicesOf, needOf, prunedAt, prunedOf, sliceCounts, sliceNumbers}
-use Rattle.prune.specs.Ready.{Rooms, Ready, Placed, Wrote, BothWritten, TwiceWritten, PutFit, KeepFit, LapsFit, FinishFit, Finished, Written}
-use Rattle.prune.specs.PutLaws.{counts-length, shapes-length, placed-none, placed-then, placed-at, placed-shape}
+use Rattle.prune.specs.Prune.{Cands, Overlaps, Given, given, candSlice, lapSlice, keptTo, lapsTo, partsFor, keptFirst, keptSecond, lapsFor, slicesOf, needOf, prunedAt, prunedOf, sliceCodes, sliceShapes}
+use Rattle.prune_write.specs.Ready.{ItemFit, Ready, Wrote, BothFit, BothWritten, TwiceWritten, KeepFit, LapsFit, Cleared, FinishFit, Finished, Written}
+
+-- a slice that was written is known by other names
+pub placed-as : (x y : Codes) (s t : Shape) (l l′ : Rooms) (m r : ℕ) → x ≡ y → s ≡ t → Placed (sliceOf x s ∷ []) l m r l′ → Placed (sliceOf y t ∷ []) l m r l′
+placed-as x y s t l l′ m r e f p = rw (e, f) at p
 
 -- ---- how many
 
@@ -42,24 +51,28 @@ laps-all o first zero = refl
 laps-all o first (suc j) = length-append (lapsTo o first j) (lapSlice o first j ∷ []) ∙ rw (laps-all o first j) (omega arith)
 
 -- ---- the kept of one outline: the first i candidates were looked at, and the slices end at n
-pub record Keeping (c : Cands) (p : Part) (l : Rooms) (m : ℕ) (l′ : Rooms) (n i : ℕ) : Type 0 where
-  pub ahead : i ≤ c .count
+pub record Keeping (c : Cands) (count : ℕ) (p : Part) (l : Rooms) (m : ℕ) (l′ : Rooms) (n i : ℕ) : Type 0 where
+  pub ahead : i ≤ count
   pub few : n ≤ m + i
   pub placed : Placed (keptTo c p i) l m n l′
   pub size-at : length (l′ .at) ≡ length (l .at)
   pub size-shape : length (l′ .shape) ≡ length (l .shape)
 
-module _ (c : Cands) (p : Part) (l : Rooms) (m : ℕ) where
-  pub keep-none : Keeping c p l m l m 0
+module _ (c : Cands) (count : ℕ) (p : Part) (l : Rooms) (m : ℕ) where
+  pub keep-none : Keeping c count p l m l m 0
   unfolding keptTo
   keep-none = record { ahead = zero-le; few = omega arith; placed = placed-none l m; size-at = refl; size-shape = refl }
 
-  pub keep-fit : (l′ : Rooms) (n i : ℕ) → Keeping c p l m l′ n i → i < c .count → KeepFit c l m → PutFit (c .shape) i l′ n
+  pub keep-fit : (l′ : Rooms) (n i : ℕ) → Keeping c count p l m l′ n i → i < count → KeepFit c count l m → ItemFit 2 (c .at) (c .shape) i l′ n
   keep-fit l′ n i k h f =
       record {
-        low = omega (arith, f .low, f .cands .few);
-        source = omega (arith, f .cands .shape);
-        roomy = record { at = omega (arith, f .roomy .at, k .size-at); shape = omega (arith, f .roomy .shape, k .size-shape) };
+        codes = omega (arith, f .cands .at);
+        shape-there = record { inside = omega (arith, f .cands .shape) };
+        put =
+            record {
+              low = omega (arith, f .low, f .cands .few);
+              roomy = record { at = omega (arith, f .roomy .at, k .size-at); shape = omega (arith, f .roomy .shape, k .size-shape) };
+            };
       }
 
   kept-no : (i : ℕ) → (getD (c .inside) i 0 ≡ p .keep → ⊥) → keptTo c p (i + 1) ≡ keptTo c p i
@@ -69,69 +82,70 @@ module _ (c : Cands) (p : Part) (l : Rooms) (m : ℕ) where
   kept-yes i e = rw (add-one i) (unfold keptTo in rw (eq-eqb (getD (c .inside) i 0) (p .keep) e))
 
   -- a candidate that does not stay
-  pub keep-no : (l′ : Rooms) (n i : ℕ) → Keeping c p l m l′ n i → i < c .count → (getD (c .inside) i 0 ≡ p .keep → ⊥) → Keeping c p l m l′ n (i + 1)
+  pub keep-no : (l′ : Rooms) (n i : ℕ) → Keeping c count p l m l′ n i → i < count → (getD (c .inside) i 0 ≡ p .keep → ⊥) → Keeping c count p l m l′ n (i + 1)
   keep-no l′ n i k h e =
       record { ahead = omega arith; few = omega (arith, k .few); placed = rw (kept-no i e) (k .placed); size-at = k .size-at; size-shape = k .size-shape }
 
   -- one that stays, and was written
-  pub keep-yes : (l′ l″ : Rooms) (n i : ℕ) (h : Head) → Keeping c p l m l′ n i → i < c .count → getD (c .inside) i 0 ≡ p .keep → h ≡ candHead (c .at) p i
-      → Placed (sliceOf h (c .shape) i ∷ []) l′ n (n + 1) l″ → Keeping c p l m l″ (n + 1) (i + 1)
-  keep-yes l′ l″ n i h k b e f w =
-      let x : Placed (candSlice c p i ∷ []) l′ n (n + 1) l″ = rw f at w in
+  pub keep-yes : (l′ l″ : Rooms) (n i : ℕ) → Keeping c count p l m l′ n i → i < count → getD (c .inside) i 0 ≡ p .keep
+      → Placed (candSlice c p i ∷ []) l′ n (n + 1) l″ → Keeping c count p l m l″ (n + 1) (i + 1)
+  keep-yes l′ l″ n i k b e w =
       record {
         ahead = omega arith;
         few = omega (arith, k .few);
-        placed = rw (kept-yes i e) (placed-then (keptTo c p i) (candSlice c p i ∷ []) l l′ l″ m n (n + 1) (k .placed) x);
-        size-at = placed-at (candSlice c p i ∷ []) l′ l″ n (n + 1) x ∙ k .size-at;
-        size-shape = placed-shape (candSlice c p i ∷ []) l′ l″ n (n + 1) x ∙ k .size-shape;
+        placed = rw (kept-yes i e) (placed-then (keptTo c p i) (candSlice c p i ∷ []) l l′ l″ m n (n + 1) (k .placed) w);
+        size-at = placed-at (candSlice c p i ∷ []) l′ l″ n (n + 1) w ∙ k .size-at;
+        size-shape = placed-shape (candSlice c p i ∷ []) l′ l″ n (n + 1) w ∙ k .size-shape;
       }
 
-  pub keep-end : (l′ : Rooms) (n i : ℕ) → Keeping c p l m l′ n i → c .count ≤ i → Wrote (keptTo c p (c .count)) (c .count) l m n l′
+  pub keep-end : (l′ : Rooms) (n i : ℕ) → Keeping c count p l m l′ n i → count ≤ i → Wrote (keptTo c p (count)) (count) l m n l′
   keep-end l′ n i k h =
-      let e : i ≡ c .count = omega arith in
+      let e : i ≡ count = omega arith in
       record { placed = rw e at (k .placed); few = omega (arith, k .few); size-at = k .size-at; size-shape = k .size-shape }
 
 pub ruleset keeping = (keep-none, keep-fit, keep-no, keep-yes, keep-end)
 
 -- ---- the overlaps: the first j were written
-pub record Lapping (o : Overlaps) (first : Bool) (l : Rooms) (m : ℕ) (l′ : Rooms) (n j : ℕ) : Type 0 where
-  pub ahead : j ≤ o .count
+pub record Lapping (o : Overlaps) (count : ℕ) (first : Bool) (l : Rooms) (m : ℕ) (l′ : Rooms) (n j : ℕ) : Type 0 where
+  pub ahead : j ≤ count
   pub few : n ≤ m + j
   pub placed : Placed (lapsTo o first j) l m n l′
   pub size-at : length (l′ .at) ≡ length (l .at)
   pub size-shape : length (l′ .shape) ≡ length (l .shape)
 
-module _ (o : Overlaps) (first : Bool) (l : Rooms) (m : ℕ) where
-  pub lap-none : Lapping o first l m l m 0
+module _ (o : Overlaps) (count : ℕ) (first : Bool) (l : Rooms) (m : ℕ) where
+  pub lap-none : Lapping o count first l m l m 0
   unfolding lapsTo
   lap-none = record { ahead = zero-le; few = omega arith; placed = placed-none l m; size-at = refl; size-shape = refl }
 
-  pub lap-fit : (l′ : Rooms) (n j : ℕ) → Lapping o first l m l′ n j → j < o .count → LapsFit o l m → PutFit (o .shape) j l′ n
+  pub lap-fit : (l′ : Rooms) (n j : ℕ) → Lapping o count first l m l′ n j → j < count → LapsFit o count l m → ItemFit 7 (o .at) (o .shape) j l′ n
   lap-fit l′ n j k h f =
       record {
-        low = omega (arith, f .low, f .laps .few, k .few);
-        source = omega (arith, f .laps .shape);
-        roomy = record { at = omega (arith, f .roomy .at, k .size-at, k .few); shape = omega (arith, f .roomy .shape, k .size-shape, k .few) };
+        codes = omega (arith, f .laps .at);
+        shape-there = record { inside = omega (arith, f .laps .shape) };
+        put =
+            record {
+              low = omega (arith, f .low, f .laps .few, k .few);
+              roomy = record { at = omega (arith, f .roomy .at, k .size-at, k .few); shape = omega (arith, f .roomy .shape, k .size-shape, k .few) };
+            };
       }
 
   lap-next : (j : ℕ) → lapsTo o first (j + 1) ≡ lapsTo o first j ++ (lapSlice o first j ∷ [])
   lap-next j = rw (add-one j) (unfold lapsTo in refl)
 
-  pub lap-more : (l′ l″ : Rooms) (n j : ℕ) (h : Head) → Lapping o first l m l′ n j → j < o .count → h ≡ lapHead (o .at) first j
-      → Placed (sliceOf h (o .shape) j ∷ []) l′ n (n + 1) l″ → Lapping o first l m l″ (n + 1) (j + 1)
-  lap-more l′ l″ n j h k b f w =
-      let x : Placed (lapSlice o first j ∷ []) l′ n (n + 1) l″ = rw f at w in
+  pub lap-more : (l′ l″ : Rooms) (n j : ℕ) → Lapping o count first l m l′ n j → j < count → Placed (lapSlice o first j ∷ []) l′ n (n + 1) l″ → Lapping o count first l m l″ (n + 1) (j + 1)
+  lap-more l′ l″ n j k b w =
       record {
         ahead = omega arith;
         few = omega (arith, k .few);
-        placed = rw (lap-next j) (placed-then (lapsTo o first j) (lapSlice o first j ∷ []) l l′ l″ m n (n + 1) (k .placed) x);
-        size-at = placed-at (lapSlice o first j ∷ []) l′ l″ n (n + 1) x ∙ k .size-at;
-        size-shape = placed-shape (lapSlice o first j ∷ []) l′ l″ n (n + 1) x ∙ k .size-shape;
+        placed = rw (lap-next j) (placed-then (lapsTo o first j) (lapSlice o first j ∷ []) l l′ l″ m n (n + 1) (k .placed) w);
+        size-at = placed-at (lapSlice o first j ∷ []) l′ l″ n (n + 1) w ∙ k .size-at;
+        size-shape = placed-shape (lapSlice o first j ∷ []) l′ l″ n (n + 1) w ∙ k .size-shape;
       }
 
-  pub lap-end : (l′ : Rooms) (n j : ℕ) → Lapping o first l m l′ n j → o .count ≤ j → Wrote (lapsTo o first (o .count)) (o .count) l m n l′
+  pub lap-end : (l′ : Rooms) (n j : ℕ) → Lapping o count first l m l′ n j → count ≤ j → Wrote (lapsTo o first (count)) (count) l m n l′
   lap-end l′ n j k h =
-      let e : j ≡ o .count = omega arith in
+      let e : j ≡ count = omega arith in
       record { placed = rw e at (k .placed); few = omega (arith, k .few); size-at = k .size-at; size-shape = k .size-shape }
 
 pub ruleset lapping = (lap-none, lap-fit, lap-more, lap-end)
@@ -146,84 +160,109 @@ wrote-then xs ys a b l l′ l″ m k r x y =
       size-shape = y .size-shape ∙ x .size-shape;
     }
 
-module _ (one two : Cands) (p q : Part) (l l₁ : Rooms) (a : ℕ) where
-  pub both-of : (l₂ : Rooms) (b : ℕ) → Wrote (keptTo one p (one .count)) (one .count) l 0 a l₁ → Wrote (keptTo two q (two .count)) (two .count) l₁ a b l₂
-      → BothWritten one two p q l (record { first = a; second = b }) l₂
-  both-of l₂ b x y =
+module _ (call : Call) (c d : Cands) (l l₁ : Rooms) (a : ℕ) where
+  pub both-of : (p : Parts) (l₂ : Rooms) (b : ℕ) → p ≡ partsFor call → Wrote (keptTo c (p .first) (call .count1)) (call .count1) l 0 a l₁
+      → Wrote (keptTo d (p .second) (call .count2)) (call .count2) l₁ a b l₂ → BothWritten call c d l (record { first = a; second = b }) l₂
+  both-of p l₂ b e x₀ y₀ =
+      let x : Wrote (keptTo c (partsFor call .first) (call .count1)) (call .count1) l 0 a l₁ = rw e at x₀ in
+      let y : Wrote (keptTo d (partsFor call .second) (call .count2)) (call .count2) l₁ a b l₂ = rw e at y₀ in
       record {
         first = omega (arith, x .placed .counted);
-        wrote = wrote-then (keptTo one p (one .count)) (keptTo two q (two .count)) (one .count) (two .count) l l₁ l₂ 0 a b x y;
+        wrote =
+            wrote-then (keptTo c (partsFor call .first) (call .count1)) (keptTo d (partsFor call .second) (call .count2)) (call .count1) (call .count2) l l₁ l₂ 0 a b x y;
       }
 
-module _ (o : Overlaps) (l l₁ : Rooms) (m a : ℕ) where
-  pub twice-of : (l₂ : Rooms) (b : ℕ) → Wrote (lapsTo o true (o .count)) (o .count) l m a l₁ → Wrote (lapsTo o false (o .count)) (o .count) l₁ a b l₂
-      → TwiceWritten o l m (record { first = a; second = b }) l₂
+  -- the second outline's candidates behind the first's
+  pub both-next : (s : List Slice) → BothFit call c d l → Wrote s (call .count1) l 0 a l₁ → KeepFit d (call .count2) l₁ a
+  both-next s f w =
+      record {
+        cands = f .second;
+        low = omega (arith, w .few, f .first .few);
+        roomy = record { at = omega (arith, w .few, w .size-at, f .roomy .at); shape = omega (arith, w .few, w .size-shape, f .roomy .shape) };
+      }
+
+pub ruleset both = (both-of, both-next)
+
+module _ (o : Overlaps) (n : ℕ) (l l₁ : Rooms) (m a : ℕ) where
+  pub twice-of : (l₂ : Rooms) (b : ℕ) → Wrote (lapsTo o true n) n l m a l₁ → Wrote (lapsTo o false n) n l₁ a b l₂
+      → TwiceWritten o n l m (record { first = a; second = b }) l₂
   twice-of l₂ b x y =
-      let e : o .count + o .count ≡ 2 * o .count = omega arith in
+      let e : n + n ≡ 2 * n = omega arith in
       record {
         first = x .placed .counted;
-        wrote = rw e at (wrote-then (lapsTo o true (o .count)) (lapsTo o false (o .count)) (o .count) (o .count) l l₁ l₂ m a b x y);
+        wrote = rw e at (wrote-then (lapsTo o true n) (lapsTo o false n) n n l l₁ l₂ m a b x y);
       }
 
--- ---- all four parts
-pub record AllWritten (g : Given) (l : Rooms) (r : Pruned) (l′ : Rooms) : Type 0 where
-  pub answer : r ≡ prunedOf g
-  pub wrote : Wrote (slicesOf g) (needOf g) l 0 (r .slices) l′
+-- then the rest is cleared
+pub finished-of : (call : Call) (kept twice : Ends) (o : Overlaps) (l l₁ l₂ : Rooms) (need : ℕ) (r : Pruned) → FinishFit call kept o l → TwiceWritten o (call .laps) l (kept .second) twice l₁
+    → need ≡ needOf call → Cleared l₁ (twice .second) need l₂ → r ≡ prunedAt kept twice → Finished call kept o l r l₂
+finished-of call kept twice o l l₁ l₂ need r f w e c q =
+    record { roomy = f .roomy; twice = twice; between = l₁; wrote = w; rest = rw e at c; answer = q }
 
-module _ (mode : ℕ) (own : Bool) (one two : Cands) (laps : Overlaps) (l : Rooms) where
-  pub fit-finish : (p q : Part) (r : Ends) (l₁ : Rooms) (need : ℕ) → Ready (given mode own one two laps) l → BothWritten one two p q l r l₁
-      → need ≡ one .count + two .count + 2 * laps .count → FinishFit laps l₁ r need
-  fit-finish p q r l₁ need f w e =
+-- ---- all four parts
+record AllWritten (g : Given) (l : Rooms) (r : Pruned) (l′ : Rooms) : Type 0 where
+  answer : r ≡ prunedOf g
+  wrote : Wrote (slicesOf g) (needOf (g .call)) l 0 (r .slices) l′
+
+pub fit-both : (call : Call) (c d : Cands) (laps : Overlaps) (l : Rooms) → Ready (given call c d laps) l → BothFit call c d l
+fit-both call c d laps l f =
+    record {
+      first = f .first;
+      second = f .second;
+      roomy = record { at = omega (arith, f .roomy .at); shape = omega (arith, f .roomy .shape) };
+    }
+
+module _ (call : Call) (c d : Cands) (laps : Overlaps) (l l₁ : Rooms) (kept : Ends) where
+  abbrev g : Given
+  g = given call c d laps
+
+  pub fit-finish : Ready g l → BothWritten call c d l kept l₁ → FinishFit call kept laps l₁
+  fit-finish f w =
       record {
+        few = f .few;
         laps = f .laps;
-        low = omega (arith, w .wrote .few, f .one .few, f .two .few);
         within = omega (arith, w .wrote .few);
-        few = omega (arith, f .one .few, f .two .few, f .laps .few);
         roomy = record { at = omega (arith, w .wrote .size-at, f .roomy .at); shape = omega (arith, w .wrote .size-shape, f .roomy .shape) };
       }
 
-  all-of : (p : Parts) (r s : Ends) (l₁ l₂ : Rooms) → p ≡ partsOf mode own → BothWritten one two (p .one) (p .two) l r l₁ → TwiceWritten laps l₁ (r .second) s l₂
-      → AllWritten (given mode own one two laps) l (prunedAt r s) l₂
+  all-of : (s : Ends) (l₂ : Rooms) → BothWritten call c d l kept l₁ → TwiceWritten laps (call .laps) l₁ (kept .second) s l₂ → AllWritten g l (prunedAt kept s) l₂
   unfolding slicesOf prunedOf prunedAt
-  all-of p r s l₁ l₂ e x y =
-      let G : Given = given mode own one two laps in
-      let x₂ : BothWritten one two (partsOf mode own .one) (partsOf mode own .two) l r l₁ = rw e at x in
-      let a : List Slice = keptOne G in
-      let b : List Slice = keptTwo G in
-      let n : r .second ≡ length a + length b = omega (arith, x₂ .wrote .placed .counted, length-append a b) in
-      let k : s .second ≡ r .second + (length (lapsFor true G) + length (lapsFor false G)) =
-      y .wrote .placed .counted ∙ ap (λ (z : ℕ). r .second + z) (length-append (lapsFor true G) (lapsFor false G)) in
-      let u : s .second ≡ length a + length b + length (lapsFor true G) + length (lapsFor false G) = omega (arith, n, k) in
-      let all : Wrote ((a ++ b) ++ (lapsFor true G ++ lapsFor false G)) (one .count + two .count + 2 * laps .count) l 0 (s .second) l₂ =
-      wrote-then (a ++ b) (lapsFor true G ++ lapsFor false G) (one .count + two .count) (2 * laps .count) l l₁ l₂ 0 (r .second) (s .second) (x₂ .wrote) (y .wrote) in
+  all-of s l₂ x y =
+      let a : List Slice = keptFirst g in
+      let b : List Slice = keptSecond g in
+      let n : kept .second ≡ length a + length b = omega (arith, x .wrote .placed .counted, length-append a b) in
+      let k : s .second ≡ kept .second + (length (lapsFor true g) + length (lapsFor false g)) =
+      y .wrote .placed .counted ∙ ap (λ (z : ℕ). kept .second + z) (length-append (lapsFor true g) (lapsFor false g)) in
+      let u : s .second ≡ length a + length b + length (lapsFor true g) + length (lapsFor false g) = omega (arith, n, k) in
+      let all : Wrote ((a ++ b) ++ (lapsFor true g ++ lapsFor false g)) (needOf call) l 0 (s .second) l₂ =
+      wrote-then (a ++ b) (lapsFor true g ++ lapsFor false g) (call .count1 + call .count2) (2 * call .laps) l l₁ l₂ 0 (kept .second) (s .second) (x .wrote) (y .wrote) in
       record {
-        answer = rw (u, x₂ .first, y .first, n);
+        answer = rw (u, x .first, y .first, n);
         wrote = rw append-assoc at all;
       }
 
--- written from the front, a run is its items and then what was there
-front : {A : Type 0} (l l′ vs : List A) (k : ℕ) → l′ ≡ sets l 0 vs → k ≡ length vs → k ≤ length l → l′ ≡ vs ++ drop k l
-front l l′ vs k e n h = e ∙ sets-eq vs l 0 (omega arith) ∙ rw n (rw zero-add)
+  -- written from the front, a run is its items and then what was there
+  front : {A : Type 0} (l l′ vs : List A) (k : ℕ) → l′ ≡ sets l 0 vs → k ≡ length vs → k ≤ length l → l′ ≡ vs ++ drop k l
+  front l l′ vs k e n h = e ∙ sets-front l vs (omega arith) ∙ ap (λ (j : ℕ). vs ++ drop j l) (sym n)
 
--- the four parts, and the rest cleared
-pub written-of : (mode : ℕ) (own : Bool) (one two : Cands) (laps : Overlaps) (l l₁ l₂ : Rooms) (p : Parts) (kept : Ends) (r : Pruned)
-    → p ≡ partsOf mode own → BothWritten one two (p .one) (p .two) l kept l₁
-    → (need : ℕ) → need ≡ one .count + two .count + 2 * laps .count → Finished laps l₁ kept need r l₂ → Written (given mode own one two laps) l r l₂
-unfolding prunedAt
-written-of mode own one two laps l l₁ l₂ p kept r e x need q f₀ =
-    let g : Given = given mode own one two laps in
-    let f : Finished laps l₁ kept (needOf g) r l₂ = rw q at f₀ in
-    let n : ℕ = f .twice .second in
-    let m : Rooms = f .between in
-    let all : AllWritten g l (prunedAt kept (f .twice)) m = all-of mode own one two laps l p kept (f .twice) l₁ m e x (f .wrote) in
-    let few : n ≤ needOf g = omega (arith, all .wrote .few) in
-    let k : n ≡ length (slicesOf g) = omega (arith, all .wrote .placed .counted) in
-    let c : 4 * n ≡ length (sliceCounts g) = rw k (sym (counts-length (slicesOf g))) in
-    let d : 6 * n ≡ length (sliceNumbers g) = rw k (sym (shapes-length (slicesOf g))) in
-    record {
-      answer = f .answer ∙ all .answer;
-      at = room-left 0 4 (needOf g) (sliceCounts g) (l .at) (m .at) (l₂ .at) (4 * n) (4 * needOf g) (f .rest .at)
-          (front (l .at) (m .at) (sliceCounts g) (4 * n) (all .wrote .placed .at) c (omega (arith, f .roomy .at, x .wrote .size-at))) c refl (omega arith);
-      shape = room-left +0 6 (needOf g) (sliceNumbers g) (l .shape) (m .shape) (l₂ .shape) (6 * n) (6 * needOf g) (f .rest .shape)
-          (front (l .shape) (m .shape) (sliceNumbers g) (6 * n) (all .wrote .placed .shape) d (omega (arith, f .roomy .shape, x .wrote .size-shape))) d refl (omega arith);
-    }
+  -- the four parts, and the rest cleared
+  pub written-of : (l₂ : Rooms) (r : Pruned) → BothWritten call c d l kept l₁ → Finished call kept laps l₁ r l₂ → Written g l r l₂
+  unfolding prunedAt
+  written-of l₂ r x f =
+      let need : ℕ = needOf call in
+      let n : ℕ = f .twice .second in
+      let m : Rooms = f .between in
+      let all : AllWritten g l (prunedAt kept (f .twice)) m = all-of (f .twice) m x (f .wrote) in
+      let few : n ≤ need = omega (arith, all .wrote .few) in
+      let k : n ≡ length (slicesOf g) = omega (arith, all .wrote .placed .counted) in
+      let p : codeWidth * n ≡ length (sliceCodes g) = rw k (sym (codes-length (slicesOf g))) in
+      let q : shapeWidth * n ≡ length (sliceShapes g) = rw k (sym (shapes-length (slicesOf g))) in
+      record {
+        answer = f .answer ∙ all .answer;
+        at =
+            room-left 0 codeWidth need (sliceCodes g) (l .at) (m .at) (l₂ .at) (codeWidth * n) (codeWidth * need) (f .rest .at)
+            (front (l .at) (m .at) (sliceCodes g) (codeWidth * n) (all .wrote .placed .at) p (omega (arith, f .roomy .at, x .wrote .size-at))) p refl (omega arith);
+        shape =
+            room-left +0 shapeWidth need (sliceShapes g) (l .shape) (m .shape) (l₂ .shape) (shapeWidth * n) (shapeWidth * need) (f .rest .shape)
+            (front (l .shape) (m .shape) (sliceShapes g) (shapeWidth * n) (all .wrote .placed .shape) q (omega (arith, f .roomy .shape, x .wrote .size-shape))) q refl (omega arith);
+      }

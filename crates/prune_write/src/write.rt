@@ -1,14 +1,57 @@
 // The slices of a mode, written into lent room.
-ghost use Rattle.prune.specs.Prune.{cands, overlaps, keptTo, lapsTo, given};
-ghost use Rattle.prune.specs.Ready.{rooms, KeepFit, LapsFit, BothFit, TwiceFit, Wrote, BothWritten, TwiceWritten, ClearFit, Cleared, FinishFit, Finished, Ready, Written};
+ghost use mathlib.Core.List.{[], _∷_};
+ghost use Prim.Native.Nat.{_+_};
+ghost use Rattle.slice.specs.Slice.{sliceOf, shapeAt};
+ghost use Rattle.slice.specs.Ready.{rooms, Placed};
+ghost use Rattle.prune.specs.Prune.{cands, overlaps, candCodes, lapCodes, keptTo, lapsTo};
+ghost use Rattle.prune_write.specs.Ready.{ItemFit, KeepFit, LapsFit, BothFit, TwiceFit, Wrote, BothWritten, TwiceWritten, ClearFit, Cleared, FinishFit, Finished};
 use basis::room;
+use prune::call;
+use prune::call::Call;
+use prune::codes;
 use prune::counts;
 use prune::counts::Ends;
 use prune::counts::Pruned;
 use prune::mode;
 use prune::mode::Part;
-use prune::mode::Parts;
-use prune::put;
+use slice::data::CODE_WIDTH;
+use slice::data::SHAPE_WIDTH;
+use slice::read;
+use slice::write;
+
+// Writes candidate number k as slice number n.
+fn put_cand(
+    cand_at: &[usize],
+    cand: &[f64],
+    part: Part,
+    k: usize,
+    slice_at: &mut [usize],
+    slice: &mut [f64],
+    n: usize,
+)
+    requires { ⌜ ItemFit 2 (now «cand_at») (now cand) k (rooms (now «slice_at») (now slice)) n ⌝ }
+    ensures { λ _. ⌜ Placed (sliceOf (candCodes (now («cand_at» .entry)) part k) (shapeAt (now (cand .entry)) k) ∷ []) (rooms (now («slice_at» .entry)) (now (slice .entry))) n (n + 1) (rooms (now («slice_at» .exit)) (now (slice .exit))) ⌝ }
+{
+    let c = codes::cand_codes(cand_at, part, k);
+    write::put_slice(c, read::shape_at(cand, k), slice_at, slice, n);
+}
+
+// Writes overlap number j, for outline 1 or for outline 2, as slice number n.
+fn put_lap(
+    lap_at: &[usize],
+    lap: &[f64],
+    first: bool,
+    j: usize,
+    slice_at: &mut [usize],
+    slice: &mut [f64],
+    n: usize,
+)
+    requires { ⌜ ItemFit 7 (now «lap_at») (now lap) j (rooms (now «slice_at») (now slice)) n ⌝ }
+    ensures { λ _. ⌜ Placed (sliceOf (lapCodes (now («lap_at» .entry)) first j) (shapeAt (now (lap .entry)) j) ∷ []) (rooms (now («slice_at» .entry)) (now (slice .entry))) n (n + 1) (rooms (now («slice_at» .exit)) (now (slice .exit))) ⌝ }
+{
+    let c = codes::lap_codes(lap_at, first, j);
+    write::put_slice(c, read::shape_at(lap, j), slice_at, slice, n);
+}
 
 // Writes the candidates of one outline that stay, as slices from number m on, and says where they end.
 fn write_kept(
@@ -21,8 +64,8 @@ fn write_kept(
     slice: &mut [f64],
     m: usize,
 ) -> usize
-    requires { ⌜ KeepFit (cands (now «cand_at») (now cand) (now inside) count) (rooms (now «slice_at») (now slice)) m ⌝ }
-    ensures { λ r. ⌜ Wrote (keptTo (cands (now («cand_at» .entry)) (now (cand .entry)) (now (inside .entry)) count) part count) count (rooms (now («slice_at» .entry)) (now (slice .entry))) m r (rooms (now («slice_at» .exit)) (now (slice .exit))) ⌝ }
+    requires { ⌜ KeepFit (cands (now «cand_at») (now cand) (now inside)) count (rooms (now «slice_at») (now slice)) m ⌝ }
+    ensures { λ r. ⌜ Wrote (keptTo (cands (now («cand_at» .entry)) (now (cand .entry)) (now (inside .entry))) part count) count (rooms (now («slice_at» .entry)) (now (slice .entry))) m r (rooms (now («slice_at» .exit)) (now (slice .exit))) ⌝ }
 {
     let mut n = m;
     let mut i = 0;
@@ -32,8 +75,7 @@ fn write_kept(
         if inside[k] != part.keep {
             continue;
         }
-        let h = put::cand_head(cand_at, part, k);
-        put::put_slice(h, cand, k, slice_at, slice, n);
+        put_cand(cand_at, cand, part, k, slice_at, slice, n);
         n += 1;
     }
     n
@@ -49,42 +91,58 @@ fn write_laps(
     slice: &mut [f64],
     m: usize,
 ) -> usize
-    requires { ⌜ LapsFit (overlaps (now «lap_at») (now lap) laps) (rooms (now «slice_at») (now slice)) m ⌝ }
-    ensures { λ r. ⌜ Wrote (lapsTo (overlaps (now («lap_at» .entry)) (now (lap .entry)) laps) first laps) laps (rooms (now («slice_at» .entry)) (now (slice .entry))) m r (rooms (now («slice_at» .exit)) (now (slice .exit))) ⌝ }
+    requires { ⌜ LapsFit (overlaps (now «lap_at») (now lap)) laps (rooms (now «slice_at») (now slice)) m ⌝ }
+    ensures { λ r. ⌜ Wrote (lapsTo (overlaps (now («lap_at» .entry)) (now (lap .entry))) first laps) laps (rooms (now («slice_at» .entry)) (now (slice .entry))) m r (rooms (now («slice_at» .exit)) (now (slice .exit))) ⌝ }
 {
     let mut n = m;
     let mut j = 0;
     while j < laps {
         let k = j;
         j += 1;
-        let h = put::lap_head(lap_at, first, k);
-        put::put_slice(h, lap, k, slice_at, slice, n);
+        put_lap(lap_at, lap, first, k, slice_at, slice, n);
         n += 1;
     }
     n
 }
 
-// Writes what stays of both outlines, from the front.
-fn write_both(
+// Writes what stays of both outlines, from the front, and says where each ends.
+pub fn write_both(
+    call: Call,
     cand_at1: &[usize],
     cand1: &[f64],
     inside1: &[u8],
-    count1: usize,
     cand_at2: &[usize],
     cand2: &[f64],
     inside2: &[u8],
-    count2: usize,
-    parts: Parts,
     slice_at: &mut [usize],
     slice: &mut [f64],
 ) -> Ends
-    requires { ⌜ BothFit (cands (now «cand_at1») (now cand1) (now inside1) count1) (cands (now «cand_at2») (now cand2) (now inside2) count2) (rooms (now «slice_at») (now slice)) ⌝ }
-    ensures { λ r. ⌜ BothWritten (cands (now («cand_at1» .entry)) (now (cand1 .entry)) (now (inside1 .entry)) count1) (cands (now («cand_at2» .entry)) (now (cand2 .entry)) (now (inside2 .entry)) count2) (parts .one) (parts .two) (rooms (now («slice_at» .entry)) (now (slice .entry))) r (rooms (now («slice_at» .exit)) (now (slice .exit))) ⌝ }
+    requires { ⌜ BothFit call (cands (now «cand_at1») (now cand1) (now inside1)) (cands (now «cand_at2») (now cand2) (now inside2)) (rooms (now «slice_at») (now slice)) ⌝ }
+    ensures { λ r. ⌜ BothWritten call (cands (now («cand_at1» .entry)) (now (cand1 .entry)) (now (inside1 .entry))) (cands (now («cand_at2» .entry)) (now (cand2 .entry)) (now (inside2 .entry))) (rooms (now («slice_at» .entry)) (now (slice .entry))) r (rooms (now («slice_at» .exit)) (now (slice .exit))) ⌝ }
 {
-    let one = parts.one;
-    let two = parts.two;
-    let a = write_kept(cand_at1, cand1, inside1, count1, one, slice_at, slice, 0);
-    let b = write_kept(cand_at2, cand2, inside2, count2, two, slice_at, slice, a);
+    let parts = mode::parts_of(call.mode, call.opposing == 1);
+    let first = parts.first;
+    let second = parts.second;
+    let a = write_kept(
+        cand_at1,
+        cand1,
+        inside1,
+        call.count1,
+        first,
+        slice_at,
+        slice,
+        0,
+    );
+    let b = write_kept(
+        cand_at2,
+        cand2,
+        inside2,
+        call.count2,
+        second,
+        slice_at,
+        slice,
+        a,
+    );
     Ends {
         first: a,
         second: b,
@@ -100,8 +158,8 @@ fn write_twice(
     slice: &mut [f64],
     m: usize,
 ) -> Ends
-    requires { ⌜ TwiceFit (overlaps (now «lap_at») (now lap) laps) (rooms (now «slice_at») (now slice)) m ⌝ }
-    ensures { λ r. ⌜ TwiceWritten (overlaps (now («lap_at» .entry)) (now (lap .entry)) laps) (rooms (now («slice_at» .entry)) (now (slice .entry))) m r (rooms (now («slice_at» .exit)) (now (slice .exit))) ⌝ }
+    requires { ⌜ TwiceFit (overlaps (now «lap_at») (now lap)) laps (rooms (now «slice_at») (now slice)) m ⌝ }
+    ensures { λ r. ⌜ TwiceWritten (overlaps (now («lap_at» .entry)) (now (lap .entry))) laps (rooms (now («slice_at» .entry)) (now (slice .entry))) m r (rooms (now («slice_at» .exit)) (now (slice .exit))) ⌝ }
 {
     let c = write_laps(lap_at, lap, laps, true, slice_at, slice, m);
     let d = write_laps(lap_at, lap, laps, false, slice_at, slice, c);
@@ -116,64 +174,24 @@ fn clear_rest(slice_at: &mut [usize], slice: &mut [f64], n: usize, need: usize)
     requires { ⌜ ClearFit (rooms (now «slice_at») (now slice)) n need ⌝ }
     ensures { λ _. ⌜ Cleared (rooms (now («slice_at» .entry)) (now (slice .entry))) n need (rooms (now («slice_at» .exit)) (now (slice .exit))) ⌝ }
 {
-    room::clear_counts(slice_at, 4 * n, 4 * need);
-    room::clear_numbers(slice, 6 * n, 6 * need);
+    room::clear_counts(slice_at, CODE_WIDTH * n, CODE_WIDTH * need);
+    room::clear_numbers(slice, SHAPE_WIDTH * n, SHAPE_WIDTH * need);
 }
 
-// Behind the kept of both outlines: the overlaps, then zero up to the need. Gives the answer.
-fn finish(
-    lap_at: &[usize],
-    lap: &[f64],
-    laps: usize,
-    slice_at: &mut [usize],
-    slice: &mut [f64],
+// Behind the kept of both outlines: the overlaps for 1, the overlaps for 2, then zero up to the need. Says how many slices there are, and where their
+// classes begin.
+pub fn finish(
+    call: Call,
     kept: Ends,
-    need: usize,
-) -> Pruned
-    requires { ⌜ FinishFit (overlaps (now «lap_at») (now lap) laps) (rooms (now «slice_at») (now slice)) kept need ⌝ }
-    ensures { λ r. ⌜ Finished (overlaps (now («lap_at» .entry)) (now (lap .entry)) laps) (rooms (now («slice_at» .entry)) (now (slice .entry))) kept need r (rooms (now («slice_at» .exit)) (now (slice .exit))) ⌝ }
-{
-    let twice = write_twice(lap_at, lap, laps, slice_at, slice, kept.second);
-    clear_rest(slice_at, slice, twice.second, need);
-    counts::pruned_at(kept, twice)
-}
-
-// Writes the slices of a mode, the kept of 1, the kept of 2, the overlaps for 1, the overlaps for 2, then zero up to the need. Says how many there are, and
-// where their classes begin.
-pub fn write_slices(
-    mode: u32,
-    opposing: bool,
-    cand_at1: &[usize],
-    cand1: &[f64],
-    inside1: &[u8],
-    count1: usize,
-    cand_at2: &[usize],
-    cand2: &[f64],
-    inside2: &[u8],
-    count2: usize,
     lap_at: &[usize],
     lap: &[f64],
-    laps: usize,
     slice_at: &mut [usize],
     slice: &mut [f64],
 ) -> Pruned
-    requires { ⌜ Ready (given mode opposing (cands (now «cand_at1») (now cand1) (now inside1) count1) (cands (now «cand_at2») (now cand2) (now inside2) count2) (overlaps (now «lap_at») (now lap) laps)) (rooms (now «slice_at») (now slice)) ⌝ }
-    ensures { λ r. ⌜ Written (given mode opposing (cands (now («cand_at1» .entry)) (now (cand1 .entry)) (now (inside1 .entry)) count1) (cands (now («cand_at2» .entry)) (now (cand2 .entry)) (now (inside2 .entry)) count2) (overlaps (now («lap_at» .entry)) (now (lap .entry)) laps)) (rooms (now («slice_at» .entry)) (now (slice .entry))) r (rooms (now («slice_at» .exit)) (now (slice .exit))) ⌝ }
+    requires { ⌜ FinishFit call kept (overlaps (now «lap_at») (now lap)) (rooms (now «slice_at») (now slice)) ⌝ }
+    ensures { λ r. ⌜ Finished call kept (overlaps (now («lap_at» .entry)) (now (lap .entry))) (rooms (now («slice_at» .entry)) (now (slice .entry))) r (rooms (now («slice_at» .exit)) (now (slice .exit))) ⌝ }
 {
-    let need = count1 + count2 + 2 * laps;
-    let parts = mode::parts_of(mode, opposing);
-    let kept = write_both(
-        cand_at1,
-        cand1,
-        inside1,
-        count1,
-        cand_at2,
-        cand2,
-        inside2,
-        count2,
-        parts,
-        slice_at,
-        slice,
-    );
-    finish(lap_at, lap, laps, slice_at, slice, kept, need)
+    let twice = write_twice(lap_at, lap, call.laps, slice_at, slice, kept.second);
+    clear_rest(slice_at, slice, twice.second, call::need_of(call));
+    counts::pruned_at(kept, twice)
 }

@@ -23,16 +23,18 @@ use Rattle.basis.specs.declared.answer.CountAnswer.{CountAnswer}
 use Rattle.candidate_entries.specs.Candidates.{alongCuts, candidatesRefusal, Sliced}
 use Rattle.select.specs.declared.class.Starts.{Starts}
 use Rattle.prune.specs.declared.counts.Pruned.{Pruned}
-use Rattle.prune.specs.Prune.{cands, overlaps, given, needOf, prunedOf, sliceCounts, sliceNumbers}
-use Rattle.prune.specs.Ready as prune
+use Rattle.slice.specs.Slice.{codeWidth, shapeWidth}
+use Rattle.slice.specs.Ready as slice
+use Rattle.prune.specs.Prune.{Given, callOf, cands, overlaps, given, needOf, prunedOf, sliceCodes, sliceShapes}
 use Rattle.prune_entries.specs.declared.answer.PruneAnswer.{PruneAnswer}
 use Rattle.prune_entries.specs.Answers.{pruneGiven}
-use Rattle.prune_entries.specs.PruneEntry.{Called, called, pruneRefusal, PruneLeft}
+use Rattle.prune_entries.specs.PruneEntry.{pruneRefusal, PruneLeft}
 use Rattle.stitch_run.specs.Stitch as stitch
 use Rattle.stitch_run.specs.Stitch.{roundCount, roomItems, endItems}
 use Rattle.stitch.specs.Lent.{Lists}
 use Rattle.stitch_entries.specs.declared.answer.StitchAnswer.{StitchAnswer}
 use Rattle.stitch_entries.specs.Answers.{stitchRefused}
+use Rattle.stitch_entries.specs.StitchRows.{lengths}
 use Rattle.stitch_entries.specs.StitchEntry.{stitchRefusal, StitchLeft}
 
 -- ---- what a case says
@@ -43,7 +45,7 @@ pub data Said : Type 0 where
   -- a view over an outline has so many vertices
   verticesAre : (outline : List Float) → (vc : ℕ) → View → ℕ → Said
   -- what pruning gives: so many slices, and where their classes start
-  slicesAre : Called → Pruned → Said
+  slicesAre : Given → Pruned → Said
   -- what a stitch gives: its rounds, where its loops end, their vertices; and the room that it needs, in vertices
   loopsAre : stitch.Given → (rounds : ℕ) → (ends : List ℕ) → (loops : List Float) → (room : ℕ) → Said
   -- a stitch with room for so many vertices is refused with a number
@@ -66,14 +68,14 @@ Holds (candidatesAre g source splits numbers) =
     (candNumbers (alongCuts g splits) ≡ numbers)
     × (candidatesRefusal g source splits (2 * cuts.cutCount g) (6 * cuts.cutCount g) (6 * cuts.cutCount g) ≡ 0)
 Holds (verticesAre o vc v n) = (vertexCount (viewData v) ≡ n) × (viewVertexRefusal o vc v ≡ 0)
-Holds (slicesAre c p) = (prunedOf (c .pruned) ≡ p) × (pruneRefusal c (4 * needOf (c .pruned)) (6 * needOf (c .pruned)) ≡ 0)
+Holds (slicesAre c p) = (prunedOf c ≡ p) × (pruneRefusal c (codeWidth * needOf (c .call)) (shapeWidth * needOf (c .call)) ≡ 0)
 Holds (loopsAre g rounds ends loops room) =
     (roundCount g ≡ rounds)
     × ((stitch.loopCount g ≡ length ends) × (endItems g ≡ ends))
     × (roomItems g ≡ loops)
     × (stitch.needOf (g .sliceAt) (g .slices) ≡ room)
-    × (stitchRefusal g (3 * room) (g .slices) (g .slices) (g .slices) (g .slices) ≡ 0)
-Holds (refusedWith g room number) = (stitchRefusal g (3 * room) (g .slices) (g .slices) (g .slices) (g .slices) ≡ number) × (0 < number)
+    × (stitchRefusal g (lengths (3 * room) (g .slices) (g .slices) (g .slices) (g .slices)) ≡ 0)
+Holds (refusedWith g room number) = (stitchRefusal g (lengths (3 * room) (g .slices) (g .slices) (g .slices) (g .slices)) ≡ number) × (0 < number)
 Holds (apartInBox o vc i a b t) =
     (pointsAgree t (posOf a) (posOf b) ≡ false) × (pointsAgree t (posOf b) (posOf a) ≡ false) × (inBox t (posOf a) (posOf b) ≡ true) × (inBox t (posOf b) (posOf a) ≡ true)
     × (singleRefusal o vc i a (posOf b) t ≡ 0)
@@ -85,9 +87,9 @@ pub record CandRooms (g : cuts.Given) (l : slices.Rooms) : Type 0 where
   pub cand : length (l .cand) ≡ 6 * cuts.cutCount g
   pub probe : length (l .probe) ≡ 6 * cuts.cutCount g
 
-pub record SliceRooms (c : Called) (l : prune.Rooms) : Type 0 where
-  pub at : length (l .at) ≡ 4 * needOf (c .pruned)
-  pub shape : length (l .shape) ≡ 6 * needOf (c .pruned)
+pub record SliceRooms (c : Given) (l : slice.Rooms) : Type 0 where
+  pub at : length (l .at) ≡ codeWidth * needOf (c .call)
+  pub shape : length (l .shape) ≡ shapeWidth * needOf (c .call)
 
 -- room for so many vertices, and one entry per slice in the other lists
 pub record LoopRooms (g : stitch.Given) (vertices : ℕ) (x : Lists) : Type 0 where
@@ -112,7 +114,7 @@ Answers (candidatesAre g source splits numbers) =
 -- `mask_view_vertex`: the last vertex is found, and none after it
 Answers (verticesAre o vc v n) = (viewVertexAnswer o vc v (n - 1) .found ≡ 1) × (viewVertexAnswer o vc v n .found ≡ 0)
 -- `mask_prune`
-Answers (slicesAre c p) = (l : prune.Rooms) (r : PruneAnswer) (left : prune.Rooms) → SliceRooms c l → PruneLeft c l r left → r ≡ pruneGiven p
+Answers (slicesAre c p) = (l : slice.Rooms) (r : PruneAnswer) (left : slice.Rooms) → SliceRooms c l → PruneLeft c l r left → r ≡ pruneGiven p
 -- `mask_stitch`
 Answers (loopsAre g rounds ends loops room) =
     (x : Lists) (r : StitchAnswer) (left : Lists) → LoopRooms g room x → StitchLeft g x r left
@@ -150,10 +152,10 @@ splitAt x y u v = floats (x ∷ y ∷ 0 ∷ u ∷ v ∷ 0 ∷ u ∷ v ∷ 0 ∷ 
 abbrev fromTo : ℕ → ℕ → ℕ → ℕ → List Float
 fromTo x y u v = floats (x ∷ y ∷ 0 ∷ 0 ∷ u ∷ v ∷ [])
 
-abbrev pub prunedBy : ℕ → Called
+abbrev pub prunedBy : ℕ → Given
 prunedBy mode =
-    called 0 4 4
-    (given mode false (cands (1 ∷ 1 ∷ 2 ∷ 3 ∷ []) (fromTo 4 2 2 4 ++ fromTo 2 4 4 2) (1 ∷ 0 ∷ []) 2) (cands (0 ∷ 3 ∷ 3 ∷ 1 ∷ []) (fromTo 4 2 2 4 ++ fromTo 2 4 4 2) (0 ∷ 1 ∷ []) 2) (overlaps [] [] 0))
+    given (callOf mode 0 4 4 2 2 0) (cands (1 ∷ 1 ∷ 2 ∷ 3 ∷ []) (fromTo 4 2 2 4 ++ fromTo 2 4 4 2) (1 ∷ 0 ∷ [])) (cands (0 ∷ 3 ∷ 3 ∷ 1 ∷ []) (fromTo 4 2 2 4 ++ fromTo 2 4 4 2) (0 ∷ 1 ∷ []))
+    (overlaps [] [])
 
 abbrev starts : ℕ → ℕ → ℕ → Starts
 starts i j k = record { pline2 = i; «pline1_overlapping» = j; «pline2_overlapping» = k }
@@ -163,10 +165,10 @@ twoFrom i j k = record { slices = 2; starts = starts i j k }
 
 -- the stitch of what pruning gives
 abbrev pub stitchOf : ℕ → ℕ → stitch.Given
-stitchOf mode selector = stitch.given a 4 b 4 (sliceCounts (prunedBy mode .pruned)) (sliceNumbers (prunedBy mode .pruned)) 2 (starts 1 2 2) selector t
+stitchOf mode selector = stitch.given a b (sliceCodes (prunedBy mode)) (sliceShapes (prunedBy mode)) (stitch.planOf 4 4 2 (starts 1 2 2) selector t)
 
 abbrev pub nothing : stitch.Given
-nothing = stitch.given a 4 b 4 [] [] 0 (starts 0 0 0) 0 t
+nothing = stitch.given a b [] [] (stitch.planOf 4 4 0 (starts 0 0 0) 0 t)
 
 -- a corner of a loop, and one from an inverted slice, whose bulge is −0
 abbrev at : ℕ → ℕ → List Float
@@ -209,7 +211,7 @@ on x = record { x = x; y = +0; bulge = +0 }
 
 abbrev pub overTheGap : stitch.Given
 overTheGap =
-    stitch.given a 4 b 4 (1 ∷ 0 ∷ 0 ∷ 4 ∷ []) (oneHalf ∷ +0 ∷ +0 ∷ +0 ∷ ofInt binary64 (pos 1) ∷ +0 ∷ []) 1 (starts 1 1 1) 0 half
+    stitch.given a b (1 ∷ 0 ∷ 0 ∷ 4 ∷ []) (oneHalf ∷ +0 ∷ +0 ∷ +0 ∷ ofInt binary64 (pos 1) ∷ +0 ∷ []) (stitch.planOf 4 4 1 (starts 1 1 1) 0 half)
 
 -- ---- the list
 abbrev pub sheet : List Case

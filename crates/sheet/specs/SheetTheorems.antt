@@ -40,21 +40,22 @@ use Rattle.basis.specs.Answers.{countRefused, counted}
 use Rattle.candidate_entries.specs.Candidates.{alongCuts, candidatesRefusal, candNumber}
 use Rattle.select.specs.Select.{classOf, preferenceOf, suitsOf, firstThat, orElse, choose, choicesOf, pickOf, selectOf}
 use Rattle.prune.specs.declared.counts.Pruned.{Pruned}
-use Rattle.prune.specs.Prune.{candHead, lapHead, lapInverted, keptTo, lapsTo, wantedOf, turnedOf, firstPart, secondPart, partsOf, slicesOf, prunedAt, prunedOf}
-use Rattle.prune_entries.specs.PruneRows as pruneRows
-use Rattle.prune_entries.specs.PruneRows.{codesKnown, roomFault}
+use Rattle.prune.specs.Prune as prune
+use Rattle.prune.specs.Prune.{candCodes, lapCodes, lapInverted, keptTo, lapsTo, wantedOf, turnedOf, firstPart, secondPart, partsOf, slicesOf, prunedAt, prunedOf}
+use Rattle.slice.specs.Faults.{sourceKnown, startInside, offsetInside, eachSlice}
 use Rattle.prune_entries.specs.Answers.{pruneRefused, pruneGiven}
-use Rattle.prune_entries.specs.PruneEntry.{Called, inputRows, pruneRefusal, pruneNumber}
+use Rattle.prune_entries.specs.PruneEntry.{inputRows, pruneRefusal, pruneNumber}
 use Rattle.stitch_vertices.specs.Vertices.{addVertex, addFirst, addView, dropLast}
 use Rattle.stitch_run.specs.Run as run
 use Rattle.stitch_run.specs.Run.{passing, free, candidate, taken, answered, asked, nextOf, roundOf, opened, onward, ended}
 use Rattle.stitch_run.specs.Run.{stopped, walk, chainFrom, added, begun, turn, turns, roundsOf}
 use Rattle.stitch_run.specs.Stitch as stitch
-use Rattle.stitch_run.specs.Stitch.{ofFirst, sliceOffset, sliceEnd, sliceView, sliceOutline, sliceCount, sliceVertex, startPoint, addSlice}
+use Rattle.stitch_run.specs.Stitch.{sliceOutline, sliceCount, sliceVertex, startPoint, addSlice}
+use Rattle.slice.specs.Slice.{codesAt, shapeAt, sliceView}
 use Rattle.stitch_run.specs.Stitch.{offersTo, rulesOf, runOf, loopOf, loopsOf, howOf, totals, roundCount, loopCount, roomItems}
 use Rattle.stitch_run.specs.Stitch.{endItems, isSpent, anySpent, roundsFault, sumBelow, weightAt, needFor}
 use Rattle.stitch.specs.Lent.{Lists}
-use Rattle.stitch_entries.specs.StitchRows.{sourcesKnown, startsInside, offsetsInside, startsFault}
+use Rattle.stitch_entries.specs.StitchRows.{startsFault, lengths}
 use Rattle.stitch_entries.specs.declared.answer.StitchAnswer.{StitchAnswer}
 use Rattle.stitch_entries.specs.Answers.{stitchRefused, stitchGiven}
 use Rattle.stitch_entries.specs.StitchEntry.{stitchRefusal, stitchNumber}
@@ -79,7 +80,7 @@ unfolding cutting sameNext slices.firstFrom firstCut traverseFrom traverseOf sli
 slicing = tt
 
 pruning : Unit {0}
-unfolding numbers flatMap candHead lapHead lapInverted keptTo lapsTo wantedOf turnedOf firstPart secondPart partsOf slicesOf prunedAt prunedOf
+unfolding numbers flatMap candCodes lapCodes lapInverted keptTo lapsTo wantedOf turnedOf firstPart secondPart partsOf slicesOf prunedAt prunedOf
 pruning = tt
 
 rounds : Unit {0}
@@ -87,11 +88,11 @@ unfolding passing free candidate run.candidatesOf taken answered asked nextOf ro
 rounds = tt
 
 stitching : Unit {0}
-unfolding views pruning rounds addVertex addFirst addView dropLast ofFirst sliceOffset sliceEnd sliceView sliceOutline sliceCount sliceVertex startPoint addSlice offersTo rulesOf runOf loopOf loopsOf howOf totals roundCount loopCount roomItems endItems roundsOf isSpent anySpent roundsFault sumBelow weightAt needFor stitch.needOf run.slicesOf run.orderOf
+unfolding views pruning rounds addVertex addFirst addView dropLast codesAt shapeAt sliceView sliceOutline sliceCount sliceVertex startPoint addSlice offersTo rulesOf runOf loopOf loopsOf howOf totals roundCount loopCount roomItems endItems roundsOf isSpent anySpent roundsFault sumBelow weightAt needFor stitch.needOf run.slicesOf run.orderOf
 stitching = tt
 
 refusals : Unit {0}
-unfolding firstOf lengthFault sizeFault sourceFault tooMany cutRoomFault cutLengthFault candidatesRefusal pruneRows.tooMany codesKnown roomFault inputRows pruneRefusal sourcesKnown startsInside offsetsInside startsFault stitchRefusal viewVertexRefusal singleRefusal
+unfolding firstOf lengthFault sizeFault sourceFault tooMany cutRoomFault cutLengthFault candidatesRefusal inputRows pruneRefusal eachSlice sourceKnown startInside offsetInside startsFault stitchRefusal viewVertexRefusal singleRefusal
 refusals = tt
 
 -- ---- the theorem of the definitions
@@ -159,13 +160,13 @@ vertices-answer o vc v n h =
         ap (λ (x : VertexAnswer). x .found)
         (answer-accepted vertexRefused (viewVertexRefusal o vc v) _ (viewVertexAnswer o vc v k) refl (h .1) ∙ ap vertexFound e)
 
-slices-answer : (c : Called) (p : Pruned) → Holds (slicesAre c p) → Answers (slicesAre c p)
+slices-answer : (c : prune.Given) (p : Pruned) → Holds (slicesAre c p) → Answers (slicesAre c p)
 slices-answer c p h l r left rooms holds =
     let none : pruneNumber c l ≡ 0 = rw (rooms .at, rooms .shape) (h .1) in
     answer-accepted pruneRefused (pruneNumber c l) _ r (holds .answers) none ∙ ap pruneGiven (h .0)
 
 module _ (g : stitch.Given) (room : ℕ) (x : Lists) (rooms : LoopRooms g room x) where
-  number-is : (n : ℕ) → stitchRefusal g (3 * room) (g .slices) (g .slices) (g .slices) (g .slices) ≡ n → stitchNumber g x ≡ n
+  number-is : (n : ℕ) → stitchRefusal g (lengths (3 * room) (g .slices) (g .slices) (g .slices) (g .slices)) ≡ n → stitchNumber g x ≡ n
   number-is n h = rw (rooms .room, rooms .ends, rooms .chain, rooms .chainEnds, rooms .chainHow) h
 
 loops-answer : (g : stitch.Given) (n : ℕ) (ends : List ℕ) (loops : List Float) (room : ℕ) → Holds (loopsAre g n ends loops room) → Answers (loopsAre g n ends loops room)

@@ -1,5 +1,5 @@
 -- Document 01's refusals of slices: the faults of one slice, and the rows of a table over lists of them.
-use Prim.Native.Nat.{ℕ, _/_}
+use Prim.Native.Nat.{ℕ, _*_, _/_}
 use mathlib.Core.Bool.{Bool, not}
 use mathlib.Core.List.{List, [], _∷_}
 use lib.ListN.{length}
@@ -51,3 +51,7 @@ codeRows at = row (not (sourcesKnown at)) 3 ∷ row (not (choicesKnown codeWidth
 -- 6 and 7: of each slice's own outline
 abbrev pub indexRows : ℕ → ℕ → List ℕ → List Row
 indexRows vc1 vc2 at = row (not (startsInside vc1 vc2 at)) 6 ∷ row (not (offsetsInside vc1 vc2 at)) 7 ∷ []
+
+-- 9: "lent room smaller than the need": there is no room for so many slices
+abbrev pub roomRows : ℕ → ℕ → ℕ → List Row
+roomRows need at shape = row (ltb at (codeWidth * need)) 9 ∷ row (ltb shape (shapeWidth * need)) 9 ∷ []

@@ -3,3 +3,5 @@ pub mod Faults
 pub mod Ready
 pub mod SliceLaws
 pub mod PutLaws
+pub mod Sound
+pub mod SoundLaws

@@ -20,7 +20,11 @@ pub record SliceThere (at : List ℕ) (shape : List Float) (i : ℕ) : Type 0 wh
   pub codes : CodesThere at i
   pub shape-there : ShapeThere shape i
 
--- ---- writing
+-- ---- rooms
+
+-- a count of 16 bits: its multiples by the widths fit
+pub record Countable (n : ℕ) : Type 0 where
+  pub few : n < 65536
 
 -- the two lists that slices are written to
 pub record Rooms : Type 0 where

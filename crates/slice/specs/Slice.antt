@@ -62,7 +62,7 @@ shapeAt l i =
 unfoldable pub sliceView : List ℕ → List Float → ℕ → ViewData
 sliceView at shape i = viewOf (codesAt at i) (shapeAt shape i)
 
-unfoldable pub sliceOffset : List ℕ → ℕ → ℕ
+abbrev pub sliceOffset : List ℕ → ℕ → ℕ
 sliceOffset at i = codesAt at i .offset
 
 -- ---- written to the lists

@@ -1,7 +1,8 @@
 // What is refused of slices: the faults of one, and the parts of a table over lists of them. Each part goes on from what was found so far.
 ghost use mathlib.Core.Path.{_≡_};
 ghost use Rattle.basis.specs.Refuse.{firstFrom, countFor};
-ghost use Rattle.slice.specs.Faults.{sourceKnown, startInside, offsetInside, sourcesKnown, startsInside, offsetsInside, listRows, codeRows, indexRows};
+ghost use Rattle.slice.specs.Faults.{sourceKnown, startInside, offsetInside, sourcesKnown, startsInside, offsetsInside, listRows, codeRows, indexRows, roomRows};
+ghost use Rattle.slice.specs.Ready.{Countable};
 use crate::data::CODE_WIDTH;
 use crate::data::Codes;
 use crate::data::SHAPE_WIDTH;
@@ -101,4 +102,13 @@ pub fn index_refusal(r: u32, vc1: usize, vc2: usize, slice_at: &[usize]) -> u32
 {
     let r = refuse::or_else(r, !starts_inside(vc1, vc2, slice_at), 6);
     refuse::or_else(r, !offsets_inside(vc1, vc2, slice_at), 7)
+}
+
+// Number 9: room of these lengths is too small for so many slices.
+pub fn room_refusal(r: u32, need: usize, at: usize, shape: usize) -> u32
+    requires { ⌜ Countable need ⌝ }
+    ensures { λ n. ⌜ n ≡ firstFrom r (roomRows need at shape) ⌝ }
+{
+    let r = refuse::or_else(r, at < CODE_WIDTH * need, 9);
+    refuse::or_else(r, shape < SHAPE_WIDTH * need, 9)
 }

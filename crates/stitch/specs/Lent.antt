@@ -7,6 +7,7 @@ use lib.Dec.{eqb}
 use lib.ListN.{length, set, replicate}
 use lib.Ieee.{Float}
 use Rattle.basis.specs.Number.{+0}
+use Rattle.basis.specs.Sizes.{mostVertices, mostSlices}
 use Rattle.basis.specs.Room.{roomOf, cleared, Stretch}
 use Rattle.outline.specs.declared.point.Vertex.{Vertex}
 use Rattle.outline.specs.Points.{vertexNumbers}
@@ -14,7 +15,8 @@ use Rattle.stitch_chain.specs.declared.rounds.ChainEnd.{ChainEnd}
 use Rattle.stitch.specs.declared.turn.Tally.{Tally}
 use Rattle.stitch.specs.declared.write.Stitched.{Stitched}
 use Rattle.stitch_run.specs.Run.{Chain, closed, turns, slicesOf, orderOf}
-use Rattle.stitch_run.specs.Stitch.{Given, sliceOffset, rulesOf, runOf, loopsOf, howOf, totals, needOf, roundCount, loopCount, chainCount, roomItems, endItems, chainItems, chainEndItems, howItems}
+use Rattle.stitch_run.specs.Stitch.{Given, rulesOf, runOf, loopsOf, howOf, totals, needOf, roundCount, loopCount, chainCount, roomItems, endItems, chainItems, chainEndItems, howItems}
+use Rattle.slice.specs.Slice.{codeWidth, sliceOffset}
 use Rattle.stitch_run.specs.Demand3.{finished}
 use Rattle.stitch_round.specs.Ready.{Sound, Points}
 use Rattle.stitch_chain.specs.Ready.{Begun, chainsTo}
@@ -82,11 +84,15 @@ tallyAfter w r =
 unfoldable pub endsAfter : Tally → ChainEnd → List ℕ → List ℕ
 endsAfter w r ends = cond (eqb (r .how) (howOf closed)) (set ends (w .loops) (loopEnd w r)) ends
 
+-- what the need comes to for the most slices, each of the greatest offset
+abbrev pub mostNeed : ℕ
+mostNeed = 1 + mostSlices * (mostVertices + 1)
+
 pub record LoopFit (ends : List ℕ) (w : Tally) (r : ChainEnd) : Type 0 where
   pub inside : w .loops < length ends
   pub some : 0 < r .verts
-  pub few : w .done + r .verts ≤ 1836801
-  pub chains : w .chains < 1792
+  pub few : w .done + r .verts ≤ mostNeed
+  pub chains : w .chains < mostSlices
 
 pub record LoopListed (w : Tally) (r : ChainEnd) (ends : List ℕ) (w′ : Tally) (ends′ : List ℕ) : Type 0 where
   pub tally : w′ ≡ tallyAfter w r
@@ -121,9 +127,9 @@ pub record AllTurned (g : Given) (x : Lists) (w : Tally) (x′ : Lists) : Type 0
 -- ---- the room behind what was written
 
 pub record NeedFit (at : List ℕ) (n : ℕ) : Type 0 where
-  pub long : 4 * n ≤ length at
-  pub few : n ≤ 1792
-  pub offsets : (i : ℕ) → i < n → sliceOffset at i ≤ 1024
+  pub long : codeWidth * n ≤ length at
+  pub few : n ≤ mostSlices
+  pub offsets : (i : ℕ) → i < n → sliceOffset at i ≤ mostVertices
 
 pub record RestFit (x : Lists) (w : Tally) (need n : ℕ) : Type 0 where
   pub room : Stretch (x .room) (3 * w .done) (3 * need)

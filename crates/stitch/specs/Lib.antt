@@ -1,3 +1,1 @@
 pub mod Lent
-pub mod TurnLaws
-pub mod WriteLaws

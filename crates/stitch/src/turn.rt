@@ -1,10 +1,10 @@
 // Document 01: "A chain starts at the lowest unvisited slice." Each slice has its turn, in ascending number.
-ghost use Rattle.stitch_round.specs.Ready.{planned};
+ghost use Rattle.stitch_run.specs.Stitch.{given};
 ghost use Rattle.stitch.specs.Lent.{lists, EndFit, EndListed, LoopFit, LoopListed, TurnFit, Turned, TurnsFit, AllTurned};
 use stitch_chain::rounds;
 use stitch_chain::rounds::ChainEnd;
-use stitch_round::plan::Plan;
 use stitch_round::step;
+use stitch_run::plan::Plan;
 
 // What is finished: vertices of the loops, loops, chains, rounds.
 pub(crate) struct Tally {
@@ -64,8 +64,8 @@ fn take_turn(
     w: Tally,
     i: usize,
 ) -> Tally
-    requires { ⌜ TurnFit (planned (now outline1) (now outline2) (now «slice_at») (now slice) p) i (now points) (now visited) w (lists (now room) (now ends) (now chain) (now «chain_ends») (now «chain_how»)) ⌝ }
-    ensures { λ r. ⌜ Turned (planned (now (outline1 .entry)) (now (outline2 .entry)) (now («slice_at» .entry)) (now (slice .entry)) p) i (lists (now (room .entry)) (now (ends .entry)) (now (chain .entry)) (now («chain_ends» .entry)) (now («chain_how» .entry))) r (now (visited .exit)) (lists (now (room .exit)) (now (ends .exit)) (now (chain .exit)) (now («chain_ends» .exit)) (now («chain_how» .exit))) ⌝ }
+    requires { ⌜ TurnFit (given (now outline1) (now outline2) (now «slice_at») (now slice) p) i (now points) (now visited) w (lists (now room) (now ends) (now chain) (now «chain_ends») (now «chain_how»)) ⌝ }
+    ensures { λ r. ⌜ Turned (given (now (outline1 .entry)) (now (outline2 .entry)) (now («slice_at» .entry)) (now (slice .entry)) p) i (lists (now (room .entry)) (now (ends .entry)) (now (chain .entry)) (now («chain_ends» .entry)) (now («chain_how» .entry))) r (now (visited .exit)) (lists (now (room .exit)) (now (ends .exit)) (now (chain .exit)) (now («chain_ends» .exit)) (now («chain_how» .exit))) ⌝ }
 {
     if visited[i] {
         return w;
@@ -103,8 +103,8 @@ pub(crate) fn take_turns(
     points: &[f64],
     p: Plan,
 ) -> Tally
-    requires { ⌜ TurnsFit (planned (now outline1) (now outline2) (now «slice_at») (now slice) p) (now points) (now visited) (lists (now room) (now ends) (now chain) (now «chain_ends») (now «chain_how»)) ⌝ }
-    ensures { λ r. ⌜ AllTurned (planned (now (outline1 .entry)) (now (outline2 .entry)) (now («slice_at» .entry)) (now (slice .entry)) p) (lists (now (room .entry)) (now (ends .entry)) (now (chain .entry)) (now («chain_ends» .entry)) (now («chain_how» .entry))) r (lists (now (room .exit)) (now (ends .exit)) (now (chain .exit)) (now («chain_ends» .exit)) (now («chain_how» .exit))) ⌝ }
+    requires { ⌜ TurnsFit (given (now outline1) (now outline2) (now «slice_at») (now slice) p) (now points) (now visited) (lists (now room) (now ends) (now chain) (now «chain_ends») (now «chain_how»)) ⌝ }
+    ensures { λ r. ⌜ AllTurned (given (now (outline1 .entry)) (now (outline2 .entry)) (now («slice_at» .entry)) (now (slice .entry)) p) (lists (now (room .entry)) (now (ends .entry)) (now (chain .entry)) (now («chain_ends» .entry)) (now («chain_how» .entry))) r (lists (now (room .exit)) (now (ends .exit)) (now (chain .exit)) (now («chain_ends» .exit)) (now («chain_how» .exit))) ⌝ }
 {
     let mut w = Tally {
         done: 0,
@@ -113,7 +113,7 @@ pub(crate) fn take_turns(
         rounds: 0,
     };
     let mut i = 0;
-    while i < p.count {
+    while i < p.slices {
         w = take_turn(
             visited,
             room,

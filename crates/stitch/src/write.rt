@@ -1,15 +1,14 @@
 // The stitch over lists that have been looked at: what it writes into the lent room and what it reports.
 ghost use mathlib.Core.Path.{_≡_};
-ghost use Rattle.stitch_round.specs.Ready.{planned};
 ghost use Rattle.stitch_run.specs.Stitch.{given, needOf};
 ghost use Rattle.stitch.specs.Lent.{lists, NeedFit, RestFit, RestCleared, StitchFit, Few, Tabled, Written};
 use crate::turn;
 use crate::turn::Tally;
-use basis::number::Tolerance;
 use basis::room;
-use select::class::Starts;
-use stitch_round::plan::Plan;
-use stitch_round::slice;
+use basis::sizes::MOST_SLICES;
+use slice::data::CODE_WIDTH;
+use stitch_round::slices;
+use stitch_run::plan::Plan;
 
 // What is reported: the rounds taken, the loops returned, the chains walked.
 pub struct Stitched {
@@ -29,7 +28,7 @@ pub fn room_need(slice_at: &[usize], count: usize) -> usize
     let mut sum = 1;
     let mut i = 0;
     while i < count {
-        let a = 4 * i + 3;
+        let a = CODE_WIDTH * i + 3;
         sum += slice_at[a] + 1;
         i += 1;
     }
@@ -72,10 +71,10 @@ fn write_with(
     chain_ends: &mut [usize],
     chain_how: &mut [usize],
 ) -> Stitched
-    requires { ⌜ Tabled (planned (now outline1) (now outline2) (now «slice_at») (now slice) p) (now points) (now visited) (lists (now room) (now ends) (now chain) (now «chain_ends») (now «chain_how»)) ⌝ }
-    ensures { λ r. ⌜ Written (planned (now (outline1 .entry)) (now (outline2 .entry)) (now («slice_at» .entry)) (now (slice .entry)) p) (lists (now (room .entry)) (now (ends .entry)) (now (chain .entry)) (now («chain_ends» .entry)) (now («chain_how» .entry))) r (lists (now (room .exit)) (now (ends .exit)) (now (chain .exit)) (now («chain_ends» .exit)) (now («chain_how» .exit))) ⌝ }
+    requires { ⌜ Tabled (given (now outline1) (now outline2) (now «slice_at») (now slice) p) (now points) (now visited) (lists (now room) (now ends) (now chain) (now «chain_ends») (now «chain_how»)) ⌝ }
+    ensures { λ r. ⌜ Written (given (now (outline1 .entry)) (now (outline2 .entry)) (now («slice_at» .entry)) (now (slice .entry)) p) (lists (now (room .entry)) (now (ends .entry)) (now (chain .entry)) (now («chain_ends» .entry)) (now («chain_how» .entry))) r (lists (now (room .exit)) (now (ends .exit)) (now (chain .exit)) (now («chain_ends» .exit)) (now («chain_how» .exit))) ⌝ }
 {
-    slice::fill_points(points, outline1, outline2, slice_at, slice, p);
+    slices::fill_points(points, outline1, outline2, slice_at, slice, p);
     let w = turn::take_turns(
         visited,
         room,
@@ -90,8 +89,8 @@ fn write_with(
         points,
         p,
     );
-    let need = room_need(slice_at, p.count);
-    clear_rest(room, ends, chain, chain_ends, chain_how, w, need, p.count);
+    let need = room_need(slice_at, p.slices);
+    clear_rest(room, ends, chain, chain_ends, chain_how, w, need, p.slices);
     Stitched {
         rounds: w.rounds,
         loops: w.loops,
@@ -99,7 +98,9 @@ fn write_with(
     }
 }
 
-// The same by small lists, which cost little to set up, and by lists for the most.
+// For so many slices the working lists are small, and cost little to set up.
+const FEW: usize = 64;
+
 fn write_few(
     outline1: &[f64],
     outline2: &[f64],
@@ -112,14 +113,14 @@ fn write_few(
     chain_ends: &mut [usize],
     chain_how: &mut [usize],
 ) -> Stitched
-    requires { ⌜ Few 64 (planned (now outline1) (now outline2) (now «slice_at») (now slice) p) (lists (now room) (now ends) (now chain) (now «chain_ends») (now «chain_how»)) ⌝ }
-    ensures { λ r. ⌜ Written (planned (now (outline1 .entry)) (now (outline2 .entry)) (now («slice_at» .entry)) (now (slice .entry)) p) (lists (now (room .entry)) (now (ends .entry)) (now (chain .entry)) (now («chain_ends» .entry)) (now («chain_how» .entry))) r (lists (now (room .exit)) (now (ends .exit)) (now (chain .exit)) (now («chain_ends» .exit)) (now («chain_how» .exit))) ⌝ }
+    requires { ⌜ Few 64 (given (now outline1) (now outline2) (now «slice_at») (now slice) p) (lists (now room) (now ends) (now chain) (now «chain_ends») (now «chain_how»)) ⌝ }
+    ensures { λ r. ⌜ Written (given (now (outline1 .entry)) (now (outline2 .entry)) (now («slice_at» .entry)) (now (slice .entry)) p) (lists (now (room .entry)) (now (ends .entry)) (now (chain .entry)) (now («chain_ends» .entry)) (now («chain_how» .entry))) r (lists (now (room .exit)) (now (ends .exit)) (now (chain .exit)) (now («chain_ends» .exit)) (now («chain_how» .exit))) ⌝ }
 {
-    let mut points = [0.0; 128];
-    let mut visited = [false; 64];
+    let mut points = [0.0; 2 * FEW];
+    let mut visited = [false; FEW];
     write_with(
         &mut points,
-        &mut visited[..p.count],
+        &mut visited[..p.slices],
         outline1,
         outline2,
         slice_at,
@@ -133,6 +134,7 @@ fn write_few(
     )
 }
 
+// The same by lists for the most.
 fn write_many(
     outline1: &[f64],
     outline2: &[f64],
@@ -145,14 +147,14 @@ fn write_many(
     chain_ends: &mut [usize],
     chain_how: &mut [usize],
 ) -> Stitched
-    requires { ⌜ StitchFit (planned (now outline1) (now outline2) (now «slice_at») (now slice) p) (lists (now room) (now ends) (now chain) (now «chain_ends») (now «chain_how»)) ⌝ }
-    ensures { λ r. ⌜ Written (planned (now (outline1 .entry)) (now (outline2 .entry)) (now («slice_at» .entry)) (now (slice .entry)) p) (lists (now (room .entry)) (now (ends .entry)) (now (chain .entry)) (now («chain_ends» .entry)) (now («chain_how» .entry))) r (lists (now (room .exit)) (now (ends .exit)) (now (chain .exit)) (now («chain_ends» .exit)) (now («chain_how» .exit))) ⌝ }
+    requires { ⌜ StitchFit (given (now outline1) (now outline2) (now «slice_at») (now slice) p) (lists (now room) (now ends) (now chain) (now «chain_ends») (now «chain_how»)) ⌝ }
+    ensures { λ r. ⌜ Written (given (now (outline1 .entry)) (now (outline2 .entry)) (now («slice_at» .entry)) (now (slice .entry)) p) (lists (now (room .entry)) (now (ends .entry)) (now (chain .entry)) (now («chain_ends» .entry)) (now («chain_how» .entry))) r (lists (now (room .exit)) (now (ends .exit)) (now (chain .exit)) (now («chain_ends» .exit)) (now («chain_how» .exit))) ⌝ }
 {
-    let mut points = [0.0; 3584];
-    let mut visited = [false; 1792];
+    let mut points = [0.0; 2 * MOST_SLICES];
+    let mut visited = [false; MOST_SLICES];
     write_with(
         &mut points,
-        &mut visited[..p.count],
+        &mut visited[..p.slices],
         outline1,
         outline2,
         slice_at,
@@ -169,33 +171,20 @@ fn write_many(
 // Stitches the slices: the loops' vertices into `room`, each loop's end, each chain's slices, where they end and how it ended.
 pub fn write_stitch(
     outline1: &[f64],
-    vc1: usize,
     outline2: &[f64],
-    vc2: usize,
     slice_at: &[usize],
     slice: &[f64],
-    count: usize,
-    starts: Starts,
-    selector: u32,
-    t: Tolerance,
+    p: Plan,
     room: &mut [f64],
     ends: &mut [usize],
     chain: &mut [usize],
     chain_ends: &mut [usize],
     chain_how: &mut [usize],
 ) -> Stitched
-    requires { ⌜ StitchFit (given (now outline1) vc1 (now outline2) vc2 (now «slice_at») (now slice) count starts selector t) (lists (now room) (now ends) (now chain) (now «chain_ends») (now «chain_how»)) ⌝ }
-    ensures { λ r. ⌜ Written (given (now (outline1 .entry)) vc1 (now (outline2 .entry)) vc2 (now («slice_at» .entry)) (now (slice .entry)) count starts selector t) (lists (now (room .entry)) (now (ends .entry)) (now (chain .entry)) (now («chain_ends» .entry)) (now («chain_how» .entry))) r (lists (now (room .exit)) (now (ends .exit)) (now (chain .exit)) (now («chain_ends» .exit)) (now («chain_how» .exit))) ⌝ }
+    requires { ⌜ StitchFit (given (now outline1) (now outline2) (now «slice_at») (now slice) p) (lists (now room) (now ends) (now chain) (now «chain_ends») (now «chain_how»)) ⌝ }
+    ensures { λ r. ⌜ Written (given (now (outline1 .entry)) (now (outline2 .entry)) (now («slice_at» .entry)) (now (slice .entry)) p) (lists (now (room .entry)) (now (ends .entry)) (now (chain .entry)) (now («chain_ends» .entry)) (now («chain_how» .entry))) r (lists (now (room .exit)) (now (ends .exit)) (now (chain .exit)) (now («chain_ends» .exit)) (now («chain_how» .exit))) ⌝ }
 {
-    let p = Plan {
-        vc1,
-        vc2,
-        count,
-        starts,
-        selector,
-        t,
-    };
-    if count <= 64 {
+    if p.slices <= FEW {
         return write_few(
             outline1,
             outline2,

@@ -1,10 +1,10 @@
 // A chain: round after round, from its first slice to its end.
-ghost use Rattle.stitch_round.specs.Ready.{planned};
+ghost use Rattle.stitch_run.specs.Stitch.{given};
 ghost use Rattle.stitch_chain.specs.Ready.{Placing, Placed, Opening, Walked};
-use stitch_round::plan::Plan;
-use stitch_round::slice;
+use stitch_round::slices;
 use stitch_round::step;
 use stitch_round::step::Step;
+use stitch_run::plan::Plan;
 
 // A chain at its end: how many vertices it has, how many rounds were taken up to now, how it ended.
 pub struct ChainEnd {
@@ -25,11 +25,11 @@ fn place(
     p: Plan,
     j: usize,
 ) -> usize
-    requires { ⌜ Placing (planned (now outline1) (now outline2) (now «slice_at») (now slice) p) j (now visited) (now room) n ⌝ }
-    ensures { λ r. ⌜ Placed (planned (now (outline1 .entry)) (now (outline2 .entry)) (now («slice_at» .entry)) (now (slice .entry)) p) j n (now (visited .entry)) (now (room .entry)) r (now (visited .exit)) (now (room .exit)) ⌝ }
+    requires { ⌜ Placing (given (now outline1) (now outline2) (now «slice_at») (now slice) p) j (now visited) (now room) n ⌝ }
+    ensures { λ r. ⌜ Placed (given (now (outline1 .entry)) (now (outline2 .entry)) (now («slice_at» .entry)) (now (slice .entry)) p) j n (now (visited .entry)) (now (room .entry)) r (now (visited .exit)) (now (room .exit)) ⌝ }
 {
     visited[j] = true;
-    slice::add_slice(room, n, outline1, outline2, slice_at, slice, p, j)
+    slices::add_slice(room, n, outline1, outline2, slice_at, slice, p, j)
 }
 
 // The chain that begins with slice `first`, in a room that begins with it. Each round lists its slice, after the rounds of the chains before.
@@ -46,8 +46,8 @@ pub fn walk_chain(
     first: usize,
     before: usize,
 ) -> ChainEnd
-    requires { ⌜ Opening (planned (now outline1) (now outline2) (now «slice_at») (now slice) p) first (now points) (now visited) (now room) (now chain) before ⌝ }
-    ensures { λ r. ⌜ Walked (planned (now (outline1 .entry)) (now (outline2 .entry)) (now («slice_at» .entry)) (now (slice .entry)) p) first (now (room .entry)) (now (chain .entry)) r (now (visited .exit)) (now (room .exit)) (now (chain .exit)) ⌝ }
+    requires { ⌜ Opening (given (now outline1) (now outline2) (now «slice_at») (now slice) p) first (now points) (now visited) (now room) (now chain) before ⌝ }
+    ensures { λ r. ⌜ Walked (given (now (outline1 .entry)) (now (outline2 .entry)) (now («slice_at» .entry)) (now (slice .entry)) p) first (now (room .entry)) (now (chain .entry)) r (now (visited .exit)) (now (room .exit)) (now (chain .exit)) ⌝ }
 {
     let mut n = place(
         visited,

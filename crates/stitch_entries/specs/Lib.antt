@@ -1,5 +1,7 @@
 pub mod Answers
 pub mod StitchRows
 pub mod StitchEntry
-pub mod StitchEntryLaws
 pub mod StitchEntryExamples
+pub mod Demand
+pub mod TightLaws
+pub mod DemandTheorems

@@ -9,27 +9,45 @@ use Rattle.basis.specs.Refuse.{Row, row, firstOf, answer}
 use Rattle.stitch_run.specs.Stitch.{Given, needOf, roundCount, loopCount, chainCount, roomItems, endItems, chainItems, chainEndItems, howItems, roundsFault}
 use Rattle.stitch.specs.Lent.{Lists}
 use Rattle.stitch_entries.specs.declared.answer.StitchAnswer.{StitchAnswer}
+use Rattle.stitch_entries.specs.declared.faults.Lengths.{Lengths}
 use Rattle.stitch_entries.specs.Answers.{stitchRefused, stitchGiven}
-use Rattle.stitch_entries.specs.StitchRows.{listRows, codeRows, numberRows, indexRows, roomRows}
+use Rattle.stitch_entries.specs.StitchRows.{listRows, codeRows, numberRows, indexRows, lengths, roomRows}
+
+-- a call's table, part by part
+abbrev pub listPart : Given → List Row
+listPart g = listRows (length (g .outline1)) (g .vc1) (length (g .outline2)) (g .vc2) (length (g .sliceAt)) (length (g .slice)) (g .slices)
+
+abbrev pub codePart : Given → List Row
+codePart g = codeRows (g .vc1) (g .vc2) (g .selector) (g .sliceAt)
+
+abbrev pub numberPart : Given → List Row
+numberPart g = numberRows (g .tolerance) (g .outline1) (g .outline2) (g .slice)
+
+abbrev pub indexPart : Given → List Row
+indexPart g = indexRows (g .vc1) (g .vc2) (g .sliceAt) (g .starts) (g .slices)
 
 -- 1 to 8
 abbrev pub shapeRows : Given → List Row
-shapeRows g =
-    listRows (length (g .outline1)) (g .vc1) (length (g .outline2)) (g .vc2) (length (g .sliceAt)) (length (g .slice)) (g .slices)
-    ++ (codeRows (g .vc1) (g .vc2) (g .selector) (g .sliceAt)
-    ++ (numberRows (g .tolerance) (g .outline1) (g .outline2) (g .slice) ++ indexRows (g .vc1) (g .vc2) (g .sliceAt) (g .starts) (g .slices)))
+shapeRows g = listPart g ++ (codePart g ++ (numberPart g ++ indexPart g))
+
+-- 9
+abbrev pub roomPart : Given → Lengths → List Row
+roomPart g l = roomRows (g .sliceAt) (g .slices) l
 
 -- 10: "a chain of n slices more than n + 1 rounds"
 abbrev pub guardRows : Given → List Row
 guardRows g = row (roundsFault g) 10 ∷ []
 
-unfoldable pub stitchRefusal : Given → ℕ → ℕ → ℕ → ℕ → ℕ → ℕ
-stitchRefusal g room ends chain chainEnds chainHow =
-    firstOf (shapeRows g ++ (roomRows (g .sliceAt) (g .slices) room ends chain chainEnds chainHow ++ guardRows g))
+unfoldable pub stitchRefusal : Given → Lengths → ℕ
+stitchRefusal g l = firstOf (shapeRows g ++ (roomPart g l ++ guardRows g))
+
+-- how long the lists of a call are
+abbrev pub lengthsOf : Lists → Lengths
+lengthsOf x = lengths (length (x .room)) (length (x .ends)) (length (x .chain)) (length (x .chainEnds)) (length (x .chainHow))
 
 -- the number of a call with these lists lent
 abbrev pub stitchNumber : Given → Lists → ℕ
-stitchNumber g x = stitchRefusal g (length (x .room)) (length (x .ends)) (length (x .chain)) (length (x .chainEnds)) (length (x .chainHow))
+stitchNumber g x = stitchRefusal g (lengthsOf x)
 
 -- the answer, and each lent list at exit: by the room rule where the call is accepted, untouched where it is refused
 pub record StitchLeft (g : Given) (x : Lists) (r : StitchAnswer) (left : Lists) : Type 0 where

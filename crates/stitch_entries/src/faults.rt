@@ -1,67 +1,50 @@
 // The refusals of `mask_stitch`, part by part of their table. Each part goes on from what was found so far.
 ghost use mathlib.Core.Path.{_≡_};
-ghost use mathlib.Core.Bool.{not};
-ghost use Rattle.basis.specs.Refuse.{firstFrom, countFor, sourceFault};
+ghost use lib.ListN.{length};
+ghost use Rattle.basis.specs.Refuse.{firstFrom};
 ghost use Rattle.stitch.specs.Lent.{NeedFit};
-ghost use Rattle.stitch_entries.specs.StitchRows.{listRows, sourcesKnown, codeRows, numberRows, startsInside, offsetsInside, startsFault, indexRows, roomRows};
-use basis::items;
+ghost use Rattle.stitch_entries.specs.StitchRows.{listRows, codeRows, numberRows, startsFault, indexRows, roomRows};
 use basis::number;
 use basis::number::Tolerance;
 use basis::refuse;
+use basis::sizes::MOST_SLICES;
 use select::class::Starts;
 use stitch::write;
+use stitch_run::plan::Plan;
 
-const MOST_SLICES: usize = 1792;
+// How long the lent lists are.
+pub struct Lengths {
+    pub room: usize,
+    pub ends: usize,
+    pub chain: usize,
+    pub chain_ends: usize,
+    pub chain_how: usize,
+}
 
 // Number 1.
 pub fn list_refusal(
-    len1: usize,
-    vc1: usize,
-    len2: usize,
-    vc2: usize,
-    at: usize,
-    numbers: usize,
-    count: usize,
+    outline1: &[f64],
+    outline2: &[f64],
+    slice_at: &[usize],
+    slice: &[f64],
+    p: Plan,
 ) -> u32
-    ensures { λ n. ⌜ n ≡ firstFrom 0 (listRows len1 vc1 len2 vc2 at numbers count) ⌝ }
+    ensures { λ n. ⌜ n ≡ firstFrom 0 (listRows (length (now (outline1 .entry))) (p .vc1) (length (now (outline2 .entry))) (p .vc2) (length (now («slice_at» .entry))) (length (now (slice .entry))) (p .slices)) ⌝ }
 {
-    let r = refuse::or_else(0, refuse::bad_length(len1, 3, vc1), 1);
-    let r = refuse::or_else(r, refuse::bad_length(len2, 3, vc2), 1);
-    let r = refuse::or_else(r, refuse::bad_length(at, 4, count), 1);
-    let r = refuse::or_else(r, refuse::bad_length(numbers, 6, count), 1);
-    refuse::or_else(r, MOST_SLICES < count, 1)
-}
-
-// A source that is 1 or 2.
-fn known_source(source: usize) -> bool
-    ensures { λ r. ⌜ r ≡ not (sourceFault source) ⌝ }
-{
-    source == 1 || source == 2
-}
-
-// Every slice's source is 1 or 2.
-fn sources_known(slice_at: &[usize]) -> bool
-    ensures { λ r. ⌜ r ≡ sourcesKnown (now («slice_at» .entry)) ⌝ }
-{
-    let count = slice_at.len() / 4;
-    let mut ok = true;
-    let mut i = 0;
-    while i < count {
-        ok = ok & known_source(slice_at[4 * i]);
-        i += 1;
-    }
-    ok
+    let r = refuse::or_else(0, refuse::bad_length(outline1.len(), 3, p.vc1), 1);
+    let r = refuse::or_else(r, refuse::bad_length(outline2.len(), 3, p.vc2), 1);
+    let r = slice::faults::list_refusal(r, slice_at.len(), slice.len(), p.slices);
+    refuse::or_else(r, MOST_SLICES < p.slices, 1)
 }
 
 // Numbers 2 and 3.
-pub fn code_refusal(r: u32, vc1: usize, vc2: usize, selector: u32, slice_at: &[usize]) -> u32
-    ensures { λ n. ⌜ n ≡ firstFrom r (codeRows vc1 vc2 selector (now («slice_at» .entry))) ⌝ }
+pub fn code_refusal(r: u32, slice_at: &[usize], p: Plan) -> u32
+    ensures { λ n. ⌜ n ≡ firstFrom r (codeRows (p .vc1) (p .vc2) (p .selector) (now («slice_at» .entry))) ⌝ }
 {
-    let r = refuse::or_else(r, refuse::bad_size(vc1), 2);
-    let r = refuse::or_else(r, refuse::bad_size(vc2), 2);
-    let r = refuse::or_else(r, refuse::bad_choice(selector), 3);
-    let r = refuse::or_else(r, !sources_known(slice_at), 3);
-    refuse::or_else(r, !items::all_below(slice_at, 4, 1, 2), 3)
+    let r = refuse::or_else(r, refuse::bad_size(p.vc1), 2);
+    let r = refuse::or_else(r, refuse::bad_size(p.vc2), 2);
+    let r = refuse::or_else(r, refuse::bad_choice(p.selector), 3);
+    slice::faults::code_refusal(r, slice_at)
 }
 
 // Numbers 4 and 5.
@@ -80,43 +63,6 @@ pub fn number_refusal(
     refuse::or_else(r, !number::all_in_range(slice), 5)
 }
 
-// The vertex count of a slice's own outline.
-fn count_for(vc1: usize, vc2: usize, source: usize) -> usize
-    ensures { λ r. ⌜ r ≡ countFor vc1 vc2 source ⌝ }
-{
-    if source == 1 { vc1 } else { vc2 }
-}
-
-// Every slice's start index is below its outline's vertex count.
-fn starts_inside(vc1: usize, vc2: usize, slice_at: &[usize]) -> bool
-    ensures { λ r. ⌜ r ≡ startsInside vc1 vc2 (now («slice_at» .entry)) ⌝ }
-{
-    let count = slice_at.len() / 4;
-    let mut ok = true;
-    let mut i = 0;
-    while i < count {
-        let most = count_for(vc1, vc2, slice_at[4 * i]);
-        ok = ok & (slice_at[4 * i + 2] < most);
-        i += 1;
-    }
-    ok
-}
-
-// Every slice's offset is at most its outline's vertex count.
-fn offsets_inside(vc1: usize, vc2: usize, slice_at: &[usize]) -> bool
-    ensures { λ r. ⌜ r ≡ offsetsInside vc1 vc2 (now («slice_at» .entry)) ⌝ }
-{
-    let count = slice_at.len() / 4;
-    let mut ok = true;
-    let mut i = 0;
-    while i < count {
-        let most = count_for(vc1, vc2, slice_at[4 * i]);
-        ok = ok & (slice_at[4 * i + 3] <= most);
-        i += 1;
-    }
-    ok
-}
-
 // Number 8: the classes do not begin in order.
 fn bad_starts(s: Starts, count: usize) -> bool
     ensures { λ r. ⌜ r ≡ startsFault s count ⌝ }
@@ -126,38 +72,23 @@ fn bad_starts(s: Starts, count: usize) -> bool
 }
 
 // Numbers 6, 7 and 8.
-pub fn index_refusal(
-    r: u32,
-    vc1: usize,
-    vc2: usize,
-    slice_at: &[usize],
-    starts: Starts,
-    count: usize,
-) -> u32
-    ensures { λ n. ⌜ n ≡ firstFrom r (indexRows vc1 vc2 (now («slice_at» .entry)) starts count) ⌝ }
+pub fn index_refusal(r: u32, slice_at: &[usize], p: Plan) -> u32
+    ensures { λ n. ⌜ n ≡ firstFrom r (indexRows (p .vc1) (p .vc2) (now («slice_at» .entry)) (p .starts) (p .slices)) ⌝ }
 {
-    let r = refuse::or_else(r, !starts_inside(vc1, vc2, slice_at), 6);
-    let r = refuse::or_else(r, !offsets_inside(vc1, vc2, slice_at), 7);
-    refuse::or_else(r, bad_starts(starts, count), 8)
+    let starts = p.starts;
+    let r = slice::faults::index_refusal(r, p.vc1, p.vc2, slice_at);
+    refuse::or_else(r, bad_starts(starts, p.slices), 8)
 }
 
 // Number 9.
-pub fn room_refusal(
-    slice_at: &[usize],
-    count: usize,
-    room: usize,
-    ends: usize,
-    chain: usize,
-    chain_ends: usize,
-    chain_how: usize,
-) -> u32
-    requires { ⌜ NeedFit (now «slice_at») count ⌝ }
-    ensures { λ n. ⌜ n ≡ firstFrom 0 (roomRows (now («slice_at» .entry)) count room ends chain «chain_ends» «chain_how») ⌝ }
+pub fn room_refusal(slice_at: &[usize], slices: usize, l: Lengths) -> u32
+    requires { ⌜ NeedFit (now «slice_at») slices ⌝ }
+    ensures { λ n. ⌜ n ≡ firstFrom 0 (roomRows (now («slice_at» .entry)) slices l) ⌝ }
 {
-    let need = write::room_need(slice_at, count);
-    let r = refuse::or_else(0, room / 3 < need, 9);
-    let r = refuse::or_else(r, ends < count, 9);
-    let r = refuse::or_else(r, chain < count, 9);
-    let r = refuse::or_else(r, chain_ends < count, 9);
-    refuse::or_else(r, chain_how < count, 9)
+    let need = write::room_need(slice_at, slices);
+    let r = refuse::or_else(0, l.room / 3 < need, 9);
+    let r = refuse::or_else(r, l.ends < slices, 9);
+    let r = refuse::or_else(r, l.chain < slices, 9);
+    let r = refuse::or_else(r, l.chain_ends < slices, 9);
+    refuse::or_else(r, l.chain_how < slices, 9)
 }

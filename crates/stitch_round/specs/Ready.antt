@@ -7,6 +7,7 @@ use mathlib.Core.List.{List, [], _∷_}
 use lib.ListN.{length}
 use lib.Ieee.{Float}
 use Rattle.outline.specs.Outline.{pointAt}
+use Rattle.basis.specs.Sizes.{mostSlices}
 use Rattle.basis.specs.declared.number.Tolerance.{Tolerance}
 use Rattle.outline.specs.declared.point.Point.{Point}
 use Rattle.outline.specs.declared.point.Vertex.{Vertex}
@@ -16,30 +17,23 @@ use Rattle.select.specs.declared.class.Starts.{Starts}
 use Rattle.select.specs.declared.table.Choices.{Choices}
 use Rattle.select.specs.Select.{Scanned}
 use Rattle.stitch_vertices.specs.Held.{chainOf, Grown}
-use Rattle.stitch_round.specs.declared.plan.Plan.{Plan}
+use Rattle.stitch_run.specs.declared.plan.Plan.{Plan}
 use Rattle.stitch_round.specs.declared.scan.Seen.{Seen}
 use Rattle.stitch_round.specs.declared.step.Step.{Step}
 use Rattle.stitch_round.specs.declared.step.Step.the-variants.{Onto, Ends}
 use Rattle.stitch_run.specs.Run.{Next, onto, ends, closed, tooSmall, Underway, passing, free, nextOf}
-use Rattle.stitch_run.specs.Stitch.{Given, given, sliceOffset, sliceView, sliceOutline, sliceCount, startPoint, addSlice, rulesOf, howOf}
-
--- a call, as the functions below the top have it
-abbrev pub planned : List Float → List Float → List ℕ → List Float → Plan → Given
-planned o1 o2 at numbers p = given o1 (p .vc1) o2 (p .vc2) at numbers (p .count) (p .starts) (p .selector) (p .t)
+use Rattle.stitch_run.specs.Stitch.{Given, given, sliceOutline, sliceCount, startPoint, addSlice, rulesOf, howOf}
+use Rattle.slice.specs.Slice.{codeWidth, shapeWidth, sliceView, sliceOffset}
 
 -- the lists are as long as the count says, and each slice's view fits its outline
 pub record Sound (g : Given) : Type 0 where
-  pub at : length (g .sliceAt) ≡ 4 * g .slices
-  pub numbers : length (g .slice) ≡ 6 * g .slices
-  pub few : g .slices ≤ 1792
+  pub at : length (g .sliceAt) ≡ codeWidth * g .slices
+  pub numbers : length (g .slice) ≡ shapeWidth * g .slices
+  pub few : g .slices ≤ mostSlices
   pub selectors : g .selector < 2
   pub views : (i : ℕ) → i < g .slices → Fit (sliceOutline g i) (sliceCount g i) (sliceView (g .sliceAt) (g .slice) i)
 
 -- ---- slices
-
-pub record SliceThere (at : List ℕ) (numbers : List Float) (i : ℕ) : Type 0 where
-  pub four : 4 * i + 3 < length at
-  pub six : 6 * i + 5 < length numbers
 
 pub record SliceFit (g : Given) (i : ℕ) : Type 0 where
   pub sound : Sound g
@@ -79,7 +73,7 @@ pub record BothThere (points : List Float) (visited : List Bool) (j : ℕ) : Typ
 pub record ScanFit (points : List Float) (visited : List Bool) (n : ℕ) : Type 0 where
   pub size : 2 * n ≤ length points
   pub marks : length visited ≡ n
-  pub few : n ≤ 1792
+  pub few : n ≤ mostSlices
 
 -- slice j is a candidate of the end
 abbrev pub nearEnd : List Float → List Bool → ℕ → Point → Tolerance → ℕ → Bool
@@ -106,7 +100,7 @@ unfoldable pub stepOf : ℕ → ℕ → ℕ → Step
 stepOf n first j = cond (eqb j first) (cond (ltb n 3) (Ends (howOf tooSmall)) (Ends (howOf closed))) (Onto j)
 
 pub record RoundFit (points : List Float) (visited : List Bool) (room : List Float) (n : ℕ) (p : Plan) : Type 0 where
-  pub scan : ScanFit points visited (p .count)
+  pub scan : ScanFit points visited (p .slices)
   pub some : 0 < n
   pub fits : 3 * n ≤ length room
   pub selectors : p .selector < 2
@@ -117,5 +111,5 @@ standing first current vs visited = record { first = first; current = current; b
 
 -- the round of the definition, for whichever slices have these start points
 pub record Rounded (points : List Float) (visited : List Bool) (room : List Float) (n first current : ℕ) (p : Plan) (r : Step) : Type 0 where
-  pub is : (o1 o2 : List Float) (at : List ℕ) (numbers : List Float) → Points (planned o1 o2 at numbers p) points
-      → r ≡ toldOf (nextOf (rulesOf (planned o1 o2 at numbers p)) (standing first current (chainOf room n) visited))
+  pub is : (o1 o2 : List Float) (at : List ℕ) (numbers : List Float) → Points (given o1 o2 at numbers p) points
+      → r ≡ toldOf (nextOf (rulesOf (given o1 o2 at numbers p)) (standing first current (chainOf room n) visited))

@@ -1,5 +1,4 @@
 // A round of the stitch: the slices, the candidates of an end, what the selector answers.
-pub mod plan;
 pub mod scan;
-pub mod slice;
+pub mod slices;
 pub mod step;

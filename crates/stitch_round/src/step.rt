@@ -5,7 +5,6 @@ ghost use Rattle.outline.specs.Points.{posOf};
 ghost use Rattle.outline.specs.Outline.{vertexAt};
 ghost use Rattle.select.specs.Select.{choicesOf};
 ghost use Rattle.stitch_round.specs.Ready.{nearEnd, Met, stepOf, RoundFit, Rounded};
-use crate::plan::Plan;
 use crate::scan;
 use crate::scan::Seen;
 use outline::point;
@@ -13,6 +12,7 @@ use outline::read;
 use select::best;
 use select::best::Selected;
 use select::table;
+use stitch_run::plan::Plan;
 
 // How a chain ended.
 pub const CLOSED: usize = 0;
@@ -53,12 +53,21 @@ fn look(
     p: Plan,
 ) -> Seen
     requires { ⌜ RoundFit (now points) (now visited) (now room) n p ⌝ }
-    ensures { λ r. ⌜ Met (nearEnd (now (points .entry)) (now (visited .entry)) first (posOf (vertexAt (now (room .entry)) (n - 1))) (p .t)) (p .starts) (choicesOf (p .selector) (p .starts) current) (p .count) r ⌝ }
+    ensures { λ r. ⌜ Met (nearEnd (now (points .entry)) (now (visited .entry)) first (posOf (vertexAt (now (room .entry)) (n - 1))) (p .tolerance)) (p .starts) (choicesOf (p .selector) (p .starts) current) (p .slices) r ⌝ }
 {
     let last = read::vertex_at(room, n - 1);
     let end = point::pos(last);
     let choices = table::choices_of(p.selector, p.starts, current);
-    scan::scan(points, visited, first, end, p.t, p.starts, choices, p.count)
+    scan::scan(
+        points,
+        visited,
+        first,
+        end,
+        p.tolerance,
+        p.starts,
+        choices,
+        p.slices,
+    )
 }
 
 // What the round comes to. No candidate, or no slice selected, discards the chain.

@@ -7,6 +7,7 @@ use lib.Dec.{eqb}
 use lib.ListN.{length, getD}
 use Rattle.basis.specs.Choice.{codeOf}
 use Rattle.basis.specs.All.{All}
+use Rattle.select.specs.SelectTheorems.{Ascending}
 use Rattle.stitch_run.specs.Run.{Rules, Chain, Ending, closed, tooSmall, noCandidate, noSelection, spent, Next, onto, ends, Round, run, slicesOf, roundsOf, orderOf}
 
 -- ---- words
@@ -24,11 +25,6 @@ times k l = sumOver (λ j. codeOf (eqb k j)) l
 abbrev pub LowestFirst : List ℕ → Type 0
 LowestFirst [] = ⊥
 LowestFirst (i ∷ l) = All (λ j. i < j) l
-
--- each number is below all that follow it
-abbrev pub Ascending : List ℕ → Type 0
-Ascending [] = Unit {0}
-Ascending (i ∷ l) = All (λ j. i < j) l × Ascending l
 
 -- a chain's first slice
 abbrev pub firstSlice : {C : Type 0} → Chain C → ℕ

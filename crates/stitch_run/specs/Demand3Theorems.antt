@@ -10,9 +10,11 @@ use Rattle.basis.specs.All.{All}
 use Rattle.outline.specs.declared.point.Vertex.{Vertex}
 use Rattle.stitch_vertices.specs.Vertices.{addFirst, dropLast}
 use Rattle.stitch_run.specs.Run.{spent, onto, slicesOf, orderOf}
-use Rattle.stitch_run.specs.Stitch.{Given, sliceOffset, sliceVertex, rulesOf, runOf, loopsOf, howOf, roundCount, loopCount, chainCount}
+use Rattle.stitch_run.specs.Stitch.{Given, sliceVertex, rulesOf, runOf, loopsOf, howOf, roundCount, loopCount, chainCount}
+use Rattle.slice.specs.Slice.{sliceOffset}
 use Rattle.stitch_run.specs.Stitch.{roomItems, endItems, chainItems, chainEndItems, howItems, roundsFault, weightAt, needFor, needOf}
-use Rattle.stitch_run.specs.Demand3.{sumOver, times, LowestFirst, Ascending, firstSlice, Demand3, reach, Enough}
+use Rattle.stitch_run.specs.Demand3.{sumOver, times, LowestFirst, firstSlice, Demand3, reach, Enough}
+use Rattle.select.specs.SelectTheorems.{Ascending}
 use Rattle.stitch_run.specs.RunLaws.{demand3, same-length, no-slices}
 use Rattle.stitch_run.specs.NeedLaws.{enough, enough-end}
 use Rattle.stitch_run.specs.StitchLaws.{first-most, drop-length, weight, among, grows}

@@ -5,7 +5,9 @@ pub mod SumLaws
 pub mod TallyLaws
 pub mod RunLaws
 pub mod NeedLaws
+pub mod LineLaws
 pub mod StitchLaws
 pub mod ReportLaws
 pub mod Demand3Theorems
 pub mod StitchExamples
+pub mod NeedIsTight

@@ -17,7 +17,8 @@ use Rattle.stitch_run.specs.Run.{Rules, Ending, closed, tooSmall, noCand
 use Rattle.stitch_run.specs.Run.{free, candidate, candidatesOf, taken, answered, asked, nextOf, roundOf, opened, onward, ended}
 use Rattle.stitch_run.specs.Run.{walk, chainFrom, added, begun, turn, turns, run, slicesOf, roundsOf, orderOf}
 use Rattle.stitch_run.specs.Stitch.{sumBelow}
-use Rattle.stitch_run.specs.Demand3.{sumOver, LowestFirst, Ascending, firstSlice, Demand3}
+use Rattle.stitch_run.specs.Demand3.{sumOver, LowestFirst, firstSlice, Demand3}
+use Rattle.select.specs.SelectTheorems.{Ascending}
 use Rattle.stitch_run.specs.SumLaws.{below-ones, below-out, below-in, weighed-all, sum-ones, ascending-snoc}
 use Rattle.basis.specs.FlatLaws.{flat-snoc}
 use Rattle.stitch_run.specs.TallyLaws.{passing-mem, clash, unvisited, past-marks, marks-more, Tally, tally-none, tally-one, tally-most}

@@ -1,23 +1,24 @@
 -- Document 01, "Stitching": the rules over the lists of a call, and what is reported.
-use Prim.Native.Nat.{ℕ, zero, suc, _+_, _*_}
-use mathlib.Core.Bool.{Bool, true, false, cond, _||_}
+use Prim.Native.Nat.{ℕ, zero, suc, _+_}
+use mathlib.Core.Bool.{Bool, true, false, _||_}
 use mathlib.Core.List.{List, [], _∷_, map, flatMap, reverse}
-use lib.Dec.{eqb, ltb}
-use lib.ListN.{length, getD}
-use lib.Ieee.{Float, nan}
+use lib.Dec.{ltb}
+use lib.ListN.{length}
+use lib.Ieee.{Float}
 use Rattle.basis.specs.declared.number.Tolerance.{Tolerance}
 use Rattle.outline.specs.declared.point.Point.{Point}
 use Rattle.outline.specs.declared.point.Vertex.{Vertex}
 use Rattle.outline.specs.Points.{posOf, vertexNumbers, inBox}
-use Rattle.outline.specs.Outline.{vertexAt}
-use Rattle.view.specs.declared.data.ViewData.{ViewData}
+use Rattle.basis.specs.Refuse.{bySource, countFor}
 use Rattle.view.specs.View.{vertexOf}
+use Rattle.slice.specs.Slice.{codesAt, sliceView, sliceOffset}
 use Rattle.select.specs.declared.class.Starts.{Starts}
 use Rattle.select.specs.Select.{selectOf}
 use Rattle.stitch_vertices.specs.Vertices.{addView, dropLast}
+use Rattle.stitch_run.specs.declared.plan.Plan.{Plan}
 use Rattle.stitch_run.specs.Run.{Rules, Chain, Ending, closed, tooSmall, noCandidate, noSelection, spent, run, slicesOf, roundsOf, orderOf}
 
--- What a call has: both outlines with their counts; the slices, as a list of indexes, a list of numbers and a count; where their classes start;
+-- What a call has: both outlines with their counts; the slices, as a list of codes, a list of numbers and a count; where their classes start;
 -- the selector, 0 for OrAnd and 1 for NotXor; the tolerance.
 pub record Given : Type 0 where
   pub outline1 : List Float
@@ -31,54 +32,35 @@ pub record Given : Type 0 where
   pub selector : ℕ
   pub tolerance : Tolerance
 
--- the same of the parameters of a function, in their order
-abbrev pub given : List Float → ℕ → List Float → ℕ → List ℕ → List Float → ℕ → Starts → ℕ → Tolerance → Given
-given o1 vc1 o2 vc2 at numbers n starts selector t =
+-- the same of a function's parameters: the four lists, and the plan that holds all else
+abbrev pub given : List Float → List Float → List ℕ → List Float → Plan → Given
+given o1 o2 at numbers p =
     record {
       outline1 = o1;
-      vc1 = vc1;
+      vc1 = p .vc1;
       outline2 = o2;
-      vc2 = vc2;
+      vc2 = p .vc2;
       sliceAt = at;
       slice = numbers;
-      slices = n;
-      starts = starts;
-      selector = selector;
-      tolerance = t;
+      slices = p .slices;
+      starts = p .starts;
+      selector = p .selector;
+      tolerance = p .tolerance;
     }
 
--- ---- a slice: source, inverted, start, offset; updated start x, y, bulge, end bulge, end x, y
+-- a plan of its numbers, in the order in which an entry has them
+abbrev pub planOf : ℕ → ℕ → ℕ → Starts → ℕ → Tolerance → Plan
+planOf vc1 vc2 n starts selector t = record { vc1 = vc1; vc2 = vc2; slices = n; starts = starts; selector = selector; tolerance = t }
 
--- it is of outline 1
-unfoldable pub ofFirst : List ℕ → ℕ → Bool
-ofFirst at i = eqb (getD at (4 * i) 0) 1
-
--- its offset
-unfoldable pub sliceOffset : List ℕ → ℕ → ℕ
-sliceOffset at i = getD at (4 * i + 3) 0
-
--- its view's end point
-unfoldable pub sliceEnd : List Float → ℕ → Point
-sliceEnd numbers i = record { x = getD numbers (6 * i + 4) nan; y = getD numbers (6 * i + 5) nan }
-
-unfoldable pub sliceView : List ℕ → List Float → ℕ → ViewData
-sliceView at numbers i =
-    record {
-      «start_index» = getD at (4 * i + 2) 0;
-      «end_index_offset» = sliceOffset at i;
-      «updated_start» = vertexAt numbers (2 * i);
-      «updated_end_bulge» = getD numbers (6 * i + 3) nan;
-      «end_point» = sliceEnd numbers i;
-      «inverted_direction» = eqb (getD at (4 * i + 1) 0) 1;
-    }
+-- ---- a slice
 
 module _ (g : Given) where
   -- the outline that slice i is of, and its vertex count
   unfoldable pub sliceOutline : ℕ → List Float
-  sliceOutline i = cond (ofFirst (g .sliceAt) i) (g .outline1) (g .outline2)
+  sliceOutline i = bySource (g .outline1) (g .outline2) (codesAt (g .sliceAt) i .source)
 
   unfoldable pub sliceCount : ℕ → ℕ
-  sliceCount i = cond (ofFirst (g .sliceAt) i) (g .vc1) (g .vc2)
+  sliceCount i = countFor (g .vc1) (g .vc2) (codesAt (g .sliceAt) i .source)
 
   -- vertex k of slice i's view
   unfoldable pub sliceVertex : ℕ → ℕ → Vertex

@@ -1,9 +1,8 @@
 -- Closed examples of the stitch, computed: document 01's T3, T4, T5 and T8, on its sheet of two squares.
-use Prim.Native.Nat.{ℕ, _≤_}
+use Prim.Native.Nat.{ℕ}
 use mathlib.Core.Bool.{false}
 use mathlib.Core.Path.{_≡_, refl}
 use mathlib.Core.List.{List, [], _∷_, _++_, flatMap}
-use lib.ListN.{length}
 use lib.Ieee.{Float, fin, binary64, ofBits, neg, add, sub, lt, le}
 use lib.IntN.{pos, negsuc}
 use Rattle.basis.specs.Number.{+0, absF, agree, inSpan, toleranceOf}
@@ -15,11 +14,10 @@ use Rattle.select.specs.Select.{classOf, preferenceOf, suitsOf, firstThat, orEl
 use Rattle.stitch_vertices.specs.Vertices.{addVertex, addFirst, addView, dropLast}
 use Rattle.stitch_run.specs.Run.{passing, free, candidate, candidatesOf, taken, answered, asked, nextOf, roundOf, opened, onward, ended}
 use Rattle.stitch_run.specs.Run.{stopped, walk, chainFrom, added, begun, turn, turns, run, slicesOf, roundsOf, orderOf}
-use Rattle.stitch_run.specs.Stitch.{Given, given, ofFirst, sliceOffset, sliceEnd, sliceView, sliceOutline, sliceCount, sliceVertex, startPoint, addSlice}
+use Rattle.stitch_run.specs.Stitch.{Given, given, planOf, sliceOutline, sliceCount, sliceVertex, startPoint, addSlice}
+use Rattle.slice.specs.Slice.{codesAt, shapeAt, sliceView}
 use Rattle.stitch_run.specs.Stitch.{offersTo, rulesOf, runOf, loopOf, loopsOf, howOf, totals, roundCount, loopCount, chainCount, roomItems}
 use Rattle.stitch_run.specs.Stitch.{endItems, chainItems, chainEndItems, howItems, isSpent, anySpent, roundsFault, sumBelow, weightAt, needFor, needOf}
-use Rattle.stitch_run.specs.Demand3.{Enough}
-use Rattle.stitch_run.specs.StitchLaws.{weight}
 
 -- ---- what an example opens, under one name each: `unfolding tells` opens all that its own line does
 
@@ -31,8 +29,8 @@ views : Unit {0}
 unfolding numbers vertexAt wrap outlineAt forwardAt turnedAt invertedAt vertexOf addVertex addFirst addView dropLast
 views = tt
 
-slices : Unit {0}
-unfolding views ofFirst sliceOffset sliceEnd sliceView sliceOutline sliceCount sliceVertex startPoint addSlice offersTo
+unfoldable pub slices : Unit {0}
+unfolding views codesAt shapeAt sliceView sliceOutline sliceCount sliceVertex startPoint addSlice offersTo
 slices = tt
 
 selectors : Unit {0}
@@ -51,29 +49,29 @@ tells : Unit {0}
 unfolding runs flatMap slicesOf roundsOf orderOf loopOf loopsOf howOf totals roundCount loopCount chainCount roomItems endItems chainItems chainEndItems howItems isSpent anySpent roundsFault
 tells = tt
 
-needs : Unit {0}
-unfolding sliceOffset sumBelow weightAt needFor needOf
+unfoldable pub needs : Unit {0}
+unfolding codesAt sumBelow weightAt needFor needOf
 needs = tt
 
 -- ---- the sheet: A is (0,0) (4,0) (4,4) (0,4); B is (2,2) (6,2) (6,6) (2,6); bulges 0, t = 1/1024
 
-abbrev n2 : Float
+abbrev pub n2 : Float
 n2 = fin false 1 (pos 1)
 
-abbrev n4 : Float
+abbrev pub n4 : Float
 n4 = fin false 1 (pos 2)
 
 abbrev n6 : Float
 n6 = fin false 3 (pos 1)
 
-abbrev t : Tolerance
+abbrev pub t : Tolerance
 t = toleranceOf (fin false 1 (negsuc 9))
 
 abbrev -0 : Float
 -0 = ofBits binary64 0x8000_0000_0000_0000
 
 -- a vertex with bulge +0, and one of an inverted slice, with bulge −0
-abbrev at : Float → Float → List Float
+abbrev pub at : Float → Float → List Float
 at px py = px ∷ py ∷ +0 ∷ []
 
 abbrev turned : Float → Float → List Float
@@ -86,13 +84,13 @@ abbrev squareB : List Float
 squareB = at n2 n2 ++ at n6 n2 ++ at n6 n6 ++ at n2 n6
 
 -- the numbers of a straight slice: its start, an end bulge of 0, its end
-abbrev from : Float → Float → Float → Float → List Float
+abbrev pub from : Float → Float → Float → Float → List Float
 from sx sy ex ey = at sx sy ++ (+0 ∷ ex ∷ ey ∷ [])
 
 -- a stitch on the sheet, with n slices, their starts a, b and c, and a selector
 abbrev sheet : List ℕ → List Float → ℕ → ℕ → ℕ → ℕ → ℕ → Given
 sheet sliceAt slice n a b c selector =
-    given squareA 4 squareB 4 sliceAt slice n (record { pline2 = a; «pline1_overlapping» = b; «pline2_overlapping» = c }) selector t
+    given squareA squareB sliceAt slice (planOf 4 4 n (record { pline2 = a; «pline1_overlapping» = b; «pline2_overlapping» = c }) selector t)
 
 abbrev needed : Given → ℕ
 needed g = needOf (g .sliceAt) (g .slices)
@@ -124,11 +122,6 @@ t3-loop = refl
 pub t3-need : needed union ≡ 9
 unfolding needs
 t3-need = refl
-
--- The need is tight: any room that is enough for this stitch at every moment has all 9 vertices of its need.
-pub need-is-tight : (room : ℕ) → Enough length (weight union) room 0 (runOf union) → needed union ≤ room
-unfolding tells needs
-need-is-tight room h = h .0 .rounds .1 .0 .fits
 
 -- ---- T4, the intersection: A from (4,2) on segment 1, offset 1, to (2,4); B from (2,4) on segment 3, offset 1, to (4,2)
 

@@ -15,7 +15,8 @@ use Rattle.view.specs.declared.data.ViewData.{ViewData}
 use Rattle.view.specs.View.{vertexOf, vertexCount}
 use Rattle.select.specs.SelectTheorems.{selected-among}
 use Rattle.stitch_vertices.specs.Vertices.{addVertex, addFirst, addView, dropLast}
-use Rattle.stitch_run.specs.Stitch.{Given, sliceOffset, sliceView, sliceOutline, sliceCount, sliceVertex, addSlice, rulesOf, weightAt}
+use Rattle.stitch_run.specs.Stitch.{Given, sliceOutline, sliceCount, sliceVertex, addSlice, rulesOf, weightAt}
+use Rattle.slice.specs.Slice.{sliceView, sliceOffset}
 use Rattle.stitch_run.specs.RunLaws.{Among}
 use Rattle.stitch_run.specs.NeedLaws.{Grows}
 

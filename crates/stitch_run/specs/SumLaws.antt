@@ -12,7 +12,8 @@ use lib.Seq.{getD-set-same, getD-set-other}
 use Rattle.basis.specs.Choice.{codeOf}
 use Rattle.basis.specs.All.{All, all-snoc}
 use Rattle.stitch_run.specs.Stitch.{sumBelow}
-use Rattle.stitch_run.specs.Demand3.{sumOver, Ascending}
+use Rattle.stitch_run.specs.Demand3.{sumOver}
+use Rattle.select.specs.SelectTheorems.{Ascending}
 
 -- ---- below a number
 

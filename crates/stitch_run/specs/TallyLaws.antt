@@ -9,11 +9,11 @@ use native.Mathlib.Nat.{not-suc-le-zero}
 use native.Mathlib.Decide.{decLt}
 use native.Mathlib.Omega.{arith}
 use lib.ListN.{length, getD, set, replicate, length-set, length-replicate, getD-replicate}
-use Rattle.basis.specs.All.{All, all-mem, all-imp, all-snoc}
-use Rattle.select.specs.SelectTheorems as selecting
+use Rattle.basis.specs.All.{All, all-imp, all-snoc}
+use Rattle.select.specs.SelectTheorems.{Ascending}
 use Rattle.stitch_run.specs.Run.{passing}
 use Rattle.stitch_run.specs.Stitch.{sumBelow}
-use Rattle.stitch_run.specs.Demand3.{sumOver, Ascending}
+use Rattle.stitch_run.specs.Demand3.{sumOver}
 use Rattle.stitch_run.specs.SumLaws.{below-ones, weighed, weighed-set, weighed-most, weighed-none, sum-append, sum-ones, ascending-snoc}
 
 -- ---- the candidates
@@ -46,6 +46,12 @@ passing-all p (suc n) j e h = go (decLt j n) (passing-all p n j e)
     go (yes d) r = Memᴰ·append-left (cond (p n) (n ∷ []) []) (r d)
     go (no d) r = let q : j ≡ n = omega arith in Memᴰ·append-right (passing p n) (last (p n) (ap p (sym q) ∙ e) q)
 
+-- Two tests that say the same of each number below n list the same.
+pub passing-same : (p q : ℕ → Bool) (n : ℕ) → ((j : ℕ) → j < n → p j ≡ q j) → passing p n ≡ passing q n
+unfolding passing
+passing-same p q zero h = refl
+passing-same p q (suc n) h = rw (passing-same p q n (λ j d. h j (omega arith)), h n (omega arith))
+
 -- They ascend.
 passing-below : (p : ℕ → Bool) (n : ℕ) → All (λ j. j < n) (passing p n)
 unfolding passing
@@ -64,14 +70,6 @@ passing-ascends p (suc n) = go (p n) (passing-ascends p n)
     go : (b : Bool) → Ascending (passing p n) → Ascending (passing p n ++ cond b (n ∷ []) [])
     go true a = ascending-snoc (passing p n) n a (passing-below p n)
     go false a = rw append-nil a
-
--- The same in the selectors' words, so that their theorems speak of it: within a choice the lowest number.
-in-order : (l : List ℕ) → Ascending l → selecting.Ascending l
-in-order [] a = tt
-in-order (i ∷ l) a = (λ j m. all-mem (λ k. i < k) l j (a .0) m, in-order l (a .1))
-
-pub passing-in-order : (p : ℕ → Bool) (n : ℕ) → selecting.Ascending (passing p n)
-passing-in-order p n = in-order (passing p n) (passing-ascends p n)
 
 -- ---- marks
 

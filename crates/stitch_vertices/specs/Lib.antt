@@ -1,4 +1,3 @@
 pub mod Vertices
 pub mod Held
-pub mod VertexLaws
 pub mod RestLaws

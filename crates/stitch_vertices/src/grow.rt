@@ -1,27 +1,13 @@
 // Document 01, "Stitching": adding to a chain. A chain is the first n vertices of the room that is lent.
 ghost use mathlib.Core.Path.{_≡_};
-ghost use lib.Seq.{sets};
-ghost use Prim.Native.Nat.{_*_};
-ghost use Rattle.outline.specs.Points.{vertexNumbers};
-ghost use Rattle.outline.specs.Outline.{Triple};
 ghost use Rattle.stitch_vertices.specs.Held.{chainOf, repeats, Held, OneMore, Added, ViewMore, Extended};
 use basis::number::Tolerance;
 use outline::point;
 use outline::point::Vertex;
 use outline::read;
+use outline::write;
 use view::data::ViewData;
 use view::vertex;
-
-// Writes a vertex at place k.
-fn put_vertex(room: &mut [f64], k: usize, v: Vertex)
-    requires { ⌜ Triple (now room) k ⌝ }
-    ensures { λ _. ⌜ now (room .exit) ≡ sets (now (room .entry)) (3 * k) (vertexNumbers v) ⌝ }
-{
-    let i = 3 * k;
-    room[i] = v.x;
-    room[i + 1] = v.y;
-    room[i + 2] = v.bulge;
-}
 
 // The vertex agrees in position with the chain's last. A chain of no vertices has no last.
 fn is_repeat(room: &[f64], n: usize, v: Vertex, t: Tolerance) -> bool
@@ -45,7 +31,7 @@ pub(crate) fn add_or_replace_vertex(room: &mut [f64], n: usize, v: Vertex, t: To
         room[last_bulge] = v.bulge;
         return n;
     }
-    put_vertex(room, n, v);
+    write::put_vertex(room, 3 * n, v);
     n + 1
 }
 

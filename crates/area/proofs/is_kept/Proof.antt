@@ -1,5 +1,5 @@
 use borrow.Author.Needs.{needs}
-use Rattle.area.specs.AreaLaws.{kept-by}
+use Rattle.area.proofs.Listing.{kept-by}
 use Rattle.area.proofs.is_kept.Statement.{statement}
 use Rattle.area.proofs.is_kept.Tie as tie
 

@@ -2,7 +2,7 @@ use borrow.Author.Needs.{needs}
 use Prim.Native.Nat.{_-_}
 use lib.ListN.{length}
 use Rattle.basis.specs.Choice.{cases}
-use Rattle.area.specs.AreaLaws.{Listing, listing}
+use Rattle.area.proofs.Listing.{Listing, listing}
 use Rattle.area.proofs.write_kept.Statement.{statement}
 use Rattle.area.proofs.write_kept.Tie as tie
 

@@ -1,4 +1,4 @@
-use Rattle.area_entries.specs.AreaEntry.{area-accepted, area-refused, area-given}
+use Rattle.area_entries.proofs.Ways.{ways}
 use borrow.Author.Needs.{needs}
 use Rattle.area_entries.proofs.areas.entry.Statement.{statement}
 use Rattle.area_entries.proofs.areas.entry.Tie as tie
@@ -10,10 +10,10 @@ count-refused-requires : tie.Need-count-refused-requires
 count-refused-requires c κs = search needs
 
 returns : tie.Need-returns
-returns c = area-refused _ _ _ _ _ _ (c .before .before .refusal .ensures) (c .before .if1 .taken) (c .count-refused .ensures)
+returns c = search (needs, ways)
 
 write-kept-requires : tie.Need-write-kept-requires
-write-kept-requires c κs = area-accepted _ _ _ _ _ (c .before .before .refusal .ensures) (c .before .if1 .left)
+write-kept-requires c κs = search (needs, ways)
 
 counted-as-requires : tie.Need-counted-as-requires
 counted-as-requires c κs = search needs
@@ -22,7 +22,7 @@ same-length : tie.Need-same-length
 same-length c = search needs
 
 returns-2 : tie.Need-returns-2
-returns-2 c = area-given _ _ _ _ _ _ _ _ (c .before .before .before .before .before .before .refusal .ensures) (c .before .before .before .before .before .if1 .left) (c .before .before .before .write-kept .ensures) (c .counted-as .ensures)
+returns-2 c = search (needs, ways)
 
 pub entry-spec : {M : Type 1} → statement M
 entry-spec =

@@ -1,6 +1,6 @@
+use borrow.Author.Needs.{needs}
 use Rattle.basis.specs.Refuse.{firstFrom}
 use Rattle.basis.specs.RefuseLaws.{rows}
-use borrow.Author.Needs.{needs}
 use Rattle.prune_entries.proofs.faults.code_refusal.Statement.{statement}
 use Rattle.prune_entries.proofs.faults.code_refusal.Tie as tie
 
@@ -25,20 +25,20 @@ bad-choice-requires c κs = search needs
 or-else-requires-4 : tie.Need-or-else-requires-4
 or-else-requires-4 c κs = search needs
 
-all-known-requires : tie.Need-all-known-requires
-all-known-requires c κs = search needs
+answers-known-requires : tie.Need-answers-known-requires
+answers-known-requires c κs = search needs
 
 or-else-requires-5 : tie.Need-or-else-requires-5
 or-else-requires-5 c κs = search needs
 
-all-known-requires-2 : tie.Need-all-known-requires-2
-all-known-requires-2 c κs = search needs
+answers-known-requires-2 : tie.Need-answers-known-requires-2
+answers-known-requires-2 c κs = search needs
 
 or-else-requires-6 : tie.Need-or-else-requires-6
 or-else-requires-6 c κs = search needs
 
-all-at-most-requires : tie.Need-all-at-most-requires
-all-at-most-requires c κs = search needs
+choices-known-requires : tie.Need-choices-known-requires
+choices-known-requires c κs = search needs
 
 or-else-requires-7 : tie.Need-or-else-requires-7
 or-else-requires-7 c κs = search needs
@@ -58,10 +58,10 @@ code-refusal-spec =
     or-else-requires-3
     bad-choice-requires
     or-else-requires-4
-    all-known-requires
+    answers-known-requires
     or-else-requires-5
-    all-known-requires-2
+    answers-known-requires-2
     or-else-requires-6
-    all-at-most-requires
+    choices-known-requires
     or-else-requires-7
     returns)

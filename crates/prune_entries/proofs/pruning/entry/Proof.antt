@@ -1,22 +1,49 @@
-use Rattle.prune_entries.specs.PruneEntryLaws.{prune-number, prune-accepted, prune-refused, prune-given}
 use borrow.Author.Needs.{needs}
+use Rattle.prune_write.specs.WriteLaws.{fit-both, fit-finish, written-of}
+use Rattle.prune_entries.specs.PruneEntryLaws.{pruning, input-few, accepted-ready, accepted-given}
 use Rattle.prune_entries.proofs.pruning.entry.Statement.{statement}
 use Rattle.prune_entries.proofs.pruning.entry.Tie as tie
 
 input-refusal-requires : tie.Need-input-refusal-requires
 input-refusal-requires c κs = search needs
 
-room-refusal-requires : tie.Need-room-refusal-requires
-room-refusal-requires c κs = search needs
-
 prune-refused-requires : tie.Need-prune-refused-requires
 prune-refused-requires c κs = search needs
 
 returns : tie.Need-returns
-returns c = prune-refused _ _ _ _ (prune-number _ _ _ _ _ (c .before .before .room-refusal .ensures) (c .before .before .before .input-refusal .ensures)) (c .before .if1 .taken) (c .prune-refused .ensures)
+returns c = search (needs, pruning)
 
-write-slices-requires : tie.Need-write-slices-requires
-write-slices-requires c κs = prune-accepted _ _ _ (prune-number _ _ _ _ _ (c .before .before .before .room-refusal .ensures) (c .before .before .before .before .input-refusal .ensures)) (c .before .before .if1 .left)
+need-of-requires : tie.Need-need-of-requires
+need-of-requires c κs = input-few _ _ (c .before .input-refusal .ensures) (c .if1 .left)
+
+room-refusal-requires : tie.Need-room-refusal-requires
+room-refusal-requires c κs = search (needs, pruning)
+
+prune-refused-requires-2 : tie.Need-prune-refused-requires-2
+prune-refused-requires-2 c κs = search needs
+
+returns-2 : tie.Need-returns-2
+returns-2 c = search (needs, pruning)
+
+write-both-requires : tie.Need-write-both-requires
+write-both-requires c κs =
+    let second = c .before .before in
+    let lent = second .before in
+    let need = lent .before in
+    let first = need .before in
+    let input = first .before in
+    fit-both _ _ _ _ _ (accepted-ready _ _ _ _ _ (input .input-refusal .ensures) (first .if1 .left) (need .need-of .ensures) (lent .room-refusal .ensures) (second .if2 .left))
+
+finish-requires : tie.Need-finish-requires
+finish-requires c κs =
+    let lists = c .before .before .before in
+    let kept = lists .before .before .before in
+    let second = kept .before .before .before in
+    let lent = second .before in
+    let need = lent .before in
+    let first = need .before in
+    let input = first .before in
+    fit-finish _ _ _ _ _ _ _ (accepted-ready _ _ _ _ _ (input .input-refusal .ensures) (first .if1 .left) (need .need-of .ensures) (lent .room-refusal .ensures) (second .if2 .left)) (kept .write-both .ensures)
 
 prune-given-requires : tie.Need-prune-given-requires
 prune-given-requires c κs = search needs
@@ -27,19 +54,34 @@ same-length c = search needs
 same-length-2 : tie.Need-same-length-2
 same-length-2 c = search needs
 
-returns-2 : tie.Need-returns-2
-returns-2 c = prune-given _ _ _ _ _ _ (prune-number _ _ _ _ _ (c .before .before .before .before .before .before .before .before .before .room-refusal .ensures) (c .before .before .before .before .before .before .before .before .before .before .input-refusal .ensures)) (c .before .before .before .before .before .before .before .before .if1 .left) (c .before .before .before .before .before .write-slices .ensures) (c .prune-given .ensures)
+returns-3 : tie.Need-returns-3
+returns-3 c =
+    let out = c .before .before in
+    let done = out .before .before .before in
+    let lists = done .before .before .before .before in
+    let kept = lists .before .before .before in
+    let second = kept .before .before .before in
+    let lent = second .before in
+    let need = lent .before in
+    let first = need .before in
+    let input = first .before in
+    accepted-given _ _ _ _ _ (input .input-refusal .ensures) (first .if1 .left) (need .need-of .ensures) (lent .room-refusal .ensures) _ _ _ (second .if2 .left)
+    (written-of _ _ _ _ _ _ _ _ _ (kept .write-both .ensures) (done .finish .ensures)) (c .prune-given .ensures)
 
 pub entry-spec : {M : Type 1} → statement M
 entry-spec =
     tie.close
     (tie.spec
     input-refusal-requires
-    room-refusal-requires
     prune-refused-requires
     returns
-    write-slices-requires
+    need-of-requires
+    room-refusal-requires
+    prune-refused-requires-2
+    returns-2
+    write-both-requires
+    finish-requires
     prune-given-requires
     same-length
     same-length-2
-    returns-2)
+    returns-3)

@@ -1,13 +1,16 @@
-use Rattle.prune_write.specs.WriteLaws.{both-of}
 use borrow.Author.Needs.{needs}
+use Rattle.prune_write.specs.WriteLaws.{both}
 use Rattle.prune_write.proofs.write.write_both.Statement.{statement}
 use Rattle.prune_write.proofs.write.write_both.Tie as tie
+
+parts-of-requires : tie.Need-parts-of-requires
+parts-of-requires c κs = search needs
 
 write-kept-requires : tie.Need-write-kept-requires
 write-kept-requires c κs = search needs
 
 write-kept-requires-2 : tie.Need-write-kept-requires-2
-write-kept-requires-2 c κs = search needs
+write-kept-requires-2 c κs = search (needs, both)
 
 same-length : tie.Need-same-length
 same-length c = search needs
@@ -16,9 +19,15 @@ same-length-2 : tie.Need-same-length-2
 same-length-2 c = search needs
 
 returns : tie.Need-returns
-returns c = search (needs, both-of)
+returns c = search (needs, both)
 
 pub write-both-spec : {M : Type 1} → statement M
 write-both-spec =
     tie.close
-    (tie.spec write-kept-requires write-kept-requires-2 same-length same-length-2 returns)
+    (tie.spec
+    parts-of-requires
+    write-kept-requires
+    write-kept-requires-2
+    same-length
+    same-length-2
+    returns)

@@ -1,13 +1,13 @@
 use borrow.Author.Needs.{needs}
 use Prim.Native.Nat.{_-_}
+use Rattle.slice.specs.Ready.{rooms}
 use Rattle.prune.specs.Prune.{overlaps}
-use Rattle.prune.specs.Ready.{rooms}
 use Rattle.prune_write.specs.WriteLaws.{Lapping, lapping}
 use Rattle.prune_write.proofs.write.write_laps.Statement.{statement}
 use Rattle.prune_write.proofs.write.write_laps.Tie as tie
 
 abbrev Inv-loop : tie.InvT-loop
-Inv-loop lap-at lap laps first slice-at₀ slice₀ m n₀ j₀ slice-at slice n j = Lapping (overlaps lap-at lap laps) first (rooms slice-at₀ slice₀) m (rooms slice-at slice) n j
+Inv-loop lap-at lap laps first slice-at₀ slice₀ m n₀ j₀ slice-at slice n j = Lapping (overlaps lap-at lap) laps first (rooms slice-at₀ slice₀) m (rooms slice-at slice) n j
 
 abbrev μ-loop : tie.MeasureT-loop
 μ-loop lap-at lap laps first slice-at₀ slice₀ m n₀ j₀ slice-at slice n j = laps - j
@@ -16,28 +16,25 @@ loop-holds : tie.Need-loop-holds Inv-loop μ-loop
 loop-holds c = search (needs, lapping)
 
 add-j : tie.Need-add-j Inv-loop μ-loop
-add-j c = search needs
+add-j c = search (needs, lapping)
 
-lap-head-requires : tie.Need-lap-head-requires Inv-loop μ-loop
-lap-head-requires c κs = search needs
-
-put-slice-requires : tie.Need-put-slice-requires Inv-loop μ-loop
-put-slice-requires c κs = search (needs, lapping)
+put-lap-requires : tie.Need-put-lap-requires Inv-loop μ-loop
+put-lap-requires c κs = search (needs, lapping)
 
 add-n : tie.Need-add-n Inv-loop μ-loop
-add-n c = search needs
+add-n c = search (needs, lapping)
 
 loop-less : tie.Need-loop-less Inv-loop μ-loop
-loop-less c = search needs
+loop-less c = search (needs, lapping)
 
 loop-again : tie.Need-loop-again Inv-loop μ-loop
 loop-again c = search (needs, lapping)
 
 same-length : tie.Need-same-length Inv-loop μ-loop
-same-length c = search needs
+same-length c = search (needs, lapping)
 
 same-length-2 : tie.Need-same-length-2 Inv-loop μ-loop
-same-length-2 c = search needs
+same-length-2 c = search (needs, lapping)
 
 returns : tie.Need-returns Inv-loop μ-loop
 returns c = search (needs, lapping)
@@ -50,8 +47,7 @@ write-laps-spec =
     μ-loop
     loop-holds
     add-j
-    lap-head-requires
-    put-slice-requires
+    put-lap-requires
     add-n
     loop-less
     loop-again

@@ -1,5 +1,5 @@
 use mathlib.Core.Path.{refl}
-use Rattle.stitch.specs.TurnLaws.{turn-skip, turn-behind, turn-open, turn-listed, turn-looped, turn-taken}
+use Rattle.stitch.proofs.Turning.{turn-skip, turn-behind, turn-open, turn-listed, turn-looped, turn-taken}
 use borrow.Author.Needs.{needs}
 use Rattle.stitch.proofs.turn.take_turn.Statement.{statement}
 use Rattle.stitch.proofs.turn.take_turn.Tie as tie
@@ -8,31 +8,69 @@ slice-read-if1 : tie.Need-slice-read-if1
 slice-read-if1 c = search needs
 
 returns : tie.Need-returns
-returns c = turn-skip (c .before .before .before .before .before .before .before .before .before .before .before .before .before .pre) (c .if1 .taken)
+returns c =
+    let lent = c .before .before .before .before .before .before in
+    let entry = lent .before .before .before .before .before .before .before in
+    turn-skip (entry .pre) (c .if1 .taken)
 
 mul-a : tie.Need-mul-a
-mul-a c = let h = turn-behind (c .before .before .before .before .before .before .before .before .before .before .before .before .before .before .pre) (c .before .if1 .left) in search needs
+mul-a c =
+    let fresh = c .before in
+    let lent = fresh .before .before .before .before .before .before in
+    let entry = lent .before .before .before .before .before .before .before in
+    let h = turn-behind (entry .pre) (fresh .if1 .left) in
+    search needs
 
 mul-walk-chain : tie.Need-mul-walk-chain
-mul-walk-chain c = let h = turn-behind (c .before .before .before .before .before .before .before .before .before .before .before .before .before .before .before .pre) (c .before .before .if1 .left) in search needs
+mul-walk-chain c =
+    let fresh = c .before .before in
+    let lent = fresh .before .before .before .before .before .before in
+    let entry = lent .before .before .before .before .before .before .before in
+    let h = turn-behind (entry .pre) (fresh .if1 .left) in
+    search needs
 
 sub-walk-chain : tie.Need-sub-walk-chain
-sub-walk-chain c = let h = turn-behind (c .before .before .before .before .before .before .before .before .before .before .before .before .before .before .before .pre) (c .before .before .if1 .left) in search needs
+sub-walk-chain c =
+    let fresh = c .before .before in
+    let lent = fresh .before .before .before .before .before .before in
+    let entry = lent .before .before .before .before .before .before .before in
+    let h = turn-behind (entry .pre) (fresh .if1 .left) in
+    search needs
 
 part-walk-chain-start : tie.Need-part-walk-chain-start
-part-walk-chain-start c = let h = turn-behind (c .before .before .before .before .before .before .before .before .before .before .before .before .before .before .before .pre) (c .before .before .if1 .left) in search needs
+part-walk-chain-start c =
+    let fresh = c .before .before in
+    let lent = fresh .before .before .before .before .before .before in
+    let entry = lent .before .before .before .before .before .before .before in
+    let h = turn-behind (entry .pre) (fresh .if1 .left) in
+    search needs
 
 part-walk-chain-end : tie.Need-part-walk-chain-end
 part-walk-chain-end c = search needs
 
 walk-chain-requires : tie.Need-walk-chain-requires
-walk-chain-requires c κs = turn-open (c .before .before .before .before .before .before .before .before .before .before .before .before .before .before .before .before .before .pre) (c .before .before .before .before .if1 .left) refl
+walk-chain-requires c κs =
+    let fresh = c .before .before .before .before in
+    let lent = fresh .before .before .before .before .before .before in
+    let entry = lent .before .before .before .before .before .before .before in
+    turn-open (entry .pre) (fresh .if1 .left) refl
 
 list-chain-requires : tie.Need-list-chain-requires
-list-chain-requires c κs = turn-listed (c .before .before .before .before .before .before .before .before .before .before .before .before .before .before .before .before .before .before .before .before .before .before .before .before .before .before .pre) (c .before .before .before .before .before .before .before .before .before .before .before .before .before .if1 .left)
+list-chain-requires c κs =
+    let walked = c .before .before .before .before .before .before .before .before in
+    let fresh = walked .before .before .before .before .before in
+    let lent = fresh .before .before .before .before .before .before in
+    let entry = lent .before .before .before .before .before .before .before in
+    turn-listed (entry .pre) (fresh .if1 .left)
 
 list-loop-requires : tie.Need-list-loop-requires
-list-loop-requires c κs = turn-looped (c .before .before .before .before .before .before .before .before .before .before .before .before .before .before .before .before .before .before .before .before .before .before .before .before .before .before .before .before .before .before .before .before .pre) (c .before .before .before .before .before .before .before .before .before .before .before .before .before .before .before .before .before .before .before .if1 .left) (c .before .before .before .before .before .before .before .before .before .before .before .before .before .before .walk-chain .ensures)
+list-loop-requires c κs =
+    let listed = c .before .before .before .before .before in
+    let walked = listed .before .before .before .before .before .before .before .before .before in
+    let fresh = walked .before .before .before .before .before in
+    let lent = fresh .before .before .before .before .before .before in
+    let entry = lent .before .before .before .before .before .before .before in
+    turn-looped (entry .pre) (fresh .if1 .left) (walked .walk-chain .ensures)
 
 same-length : tie.Need-same-length
 same-length c = search needs
@@ -53,7 +91,14 @@ same-length-6 : tie.Need-same-length-6
 same-length-6 c = search needs
 
 returns-2 : tie.Need-returns-2
-returns-2 c = turn-taken (c .before .before .before .before .before .before .before .before .before .before .before .before .before .before .before .before .before .before .before .before .before .before .before .before .before .before .before .before .before .before .before .before .before .before .before .pre) (c .before .before .before .before .before .before .before .before .before .before .before .before .before .before .before .before .before .before .before .before .before .before .if1 .left) refl (c .before .before .before .before .before .before .before .before .before .before .before .before .before .before .before .before .before .walk-chain .ensures) (c .before .before .before .before .before .before .before .before .list-chain .ensures) (c .before .before .list-loop .ensures)
+returns-2 c =
+    let looped = c .before .before in
+    let listed = looped .before .before .before .before .before .before in
+    let walked = listed .before .before .before .before .before .before .before .before .before in
+    let fresh = walked .before .before .before .before .before in
+    let lent = fresh .before .before .before .before .before .before in
+    let entry = lent .before .before .before .before .before .before .before in
+    turn-taken (entry .pre) (fresh .if1 .left) refl (walked .walk-chain .ensures) (listed .list-chain .ensures) (looped .list-loop .ensures)
 
 pub take-turn-spec : {M : Type 1} → statement M
 take-turn-spec =

@@ -1,22 +1,25 @@
 use borrow.Author.Needs.{needs}
 use Prim.Native.Nat.{_-_}
-use Rattle.stitch_round.specs.Ready.{planned}
+use Rattle.stitch_run.specs.Stitch.{given}
 use Rattle.stitch.specs.Lent.{lists}
-use Rattle.stitch.specs.WriteLaws.{Turning, turns-turn, turning}
+use Rattle.stitch.proofs.Writing.{Turning, turns-turn, turning}
 use Rattle.stitch.proofs.turn.take_turns.Statement.{statement}
 use Rattle.stitch.proofs.turn.take_turns.Tie as tie
 
 abbrev Inv-loop : tie.InvT-loop
-Inv-loop visited₀ room₀ ends₀ chain₀ chain-ends₀ chain-how₀ outline1 outline2 slice-at slice points p w₀ i₀ visited room ends chain chain-ends chain-how w i = Turning (planned outline1 outline2 slice-at slice p) points (lists room₀ ends₀ chain₀ chain-ends₀ chain-how₀) w visited (lists room ends chain chain-ends chain-how) i
+Inv-loop visited₀ room₀ ends₀ chain₀ chain-ends₀ chain-how₀ outline1 outline2 slice-at slice points p w₀ i₀ visited room ends chain chain-ends chain-how w i = Turning (given outline1 outline2 slice-at slice p) points (lists room₀ ends₀ chain₀ chain-ends₀ chain-how₀) w visited (lists room ends chain chain-ends chain-how) i
 
 abbrev μ-loop : tie.MeasureT-loop
-μ-loop visited₀ room₀ ends₀ chain₀ chain-ends₀ chain-how₀ outline1 outline2 slice-at slice points p w₀ i₀ visited room ends chain chain-ends chain-how w i = p .count - i
+μ-loop visited₀ room₀ ends₀ chain₀ chain-ends₀ chain-how₀ outline1 outline2 slice-at slice points p w₀ i₀ visited room ends chain chain-ends chain-how w i = p .slices - i
 
 loop-holds : tie.Need-loop-holds Inv-loop μ-loop
 loop-holds c = search (needs, turning)
 
 take-turn-requires : tie.Need-take-turn-requires Inv-loop μ-loop
-take-turn-requires c κs = turns-turn _ _ _ _ _ _ _ (c .before .before .before .before .before .before .before .before .loop .inv) (c .before .before .before .before .before .before .if1 .taken)
+take-turn-requires c κs =
+    let within = c .before .before .before .before .before .before in
+    let turn = within .before .before in
+    turns-turn _ _ _ _ _ _ _ (turn .loop .inv) (within .if1 .taken)
 
 add-i : tie.Need-add-i Inv-loop μ-loop
 add-i c = search needs

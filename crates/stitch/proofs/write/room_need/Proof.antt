@@ -1,6 +1,6 @@
 use borrow.Author.Needs.{needs}
 use Prim.Native.Nat.{_-_}
-use Rattle.stitch.specs.WriteLaws.{Summing, sum-offset, summing}
+use Rattle.stitch.proofs.Writing.{Summing, sum-offset, summing}
 use Rattle.stitch.proofs.write.room_need.Statement.{statement}
 use Rattle.stitch.proofs.write.room_need.Tie as tie
 

@@ -1,7 +1,7 @@
 use mathlib.Core.Path.{refl}
 use lib.ListN.{length-replicate}
 use Rattle.basis.specs.Number.{+0}
-use Rattle.stitch.specs.WriteLaws.{marks-length, tabled-of}
+use Rattle.stitch.proofs.Writing.{marks-length, tabled-of}
 use borrow.Author.Needs.{needs}
 use Rattle.stitch.proofs.write.write_few.Statement.{statement}
 use Rattle.stitch.proofs.write.write_few.Tie as tie
@@ -13,10 +13,17 @@ array-borrow-prefix-visited : tie.Need-array-borrow-prefix-visited
 array-borrow-prefix-visited c = search needs
 
 slice-aggregate-write-with-2 : tie.Need-slice-aggregate-write-with-2
-slice-aggregate-write-with-2 c = marks-length 64 _ (c .before .before .before .before .before .before .before .before .before .before .before .pre .few)
+slice-aggregate-write-with-2 c =
+    let lent = c .before .before .before .before .before in
+    let entry = lent .before .before .before .before .before .before in
+    marks-length 64 _ (entry .pre .few)
 
 write-with-requires : tie.Need-write-with-requires
-write-with-requires c κs = tabled-of 64 _ _ (c .before .before .before .before .before .before .before .before .before .before .before .before .before .before .before .before .pre) _ _ (length-replicate 128 +0) refl
+write-with-requires c κs =
+    let made = c .before .before .before .before .before in
+    let lent = made .before .before .before .before .before in
+    let entry = lent .before .before .before .before .before .before in
+    tabled-of 64 _ _ (entry .pre) _ _ (length-replicate 128 +0) refl
 
 same-length : tie.Need-same-length
 same-length c = search needs

@@ -1,7 +1,8 @@
 use mathlib.Core.Path.{refl}
 use lib.ListN.{length-replicate}
 use Rattle.basis.specs.Number.{+0}
-use Rattle.stitch.specs.WriteLaws.{marks-length, tabled-of, few-of}
+use Rattle.basis.specs.Sizes.{mostSlices}
+use Rattle.stitch.proofs.Writing.{marks-length, tabled-of, few-of}
 use borrow.Author.Needs.{needs}
 use Rattle.stitch.proofs.write.write_many.Statement.{statement}
 use Rattle.stitch.proofs.write.write_many.Tie as tie
@@ -13,10 +14,17 @@ array-borrow-prefix-visited : tie.Need-array-borrow-prefix-visited
 array-borrow-prefix-visited c = search needs
 
 slice-aggregate-write-with-2 : tie.Need-slice-aggregate-write-with-2
-slice-aggregate-write-with-2 c = marks-length 1792 _ (c .before .before .before .before .before .before .before .before .before .before .before .pre .sound .few)
+slice-aggregate-write-with-2 c =
+    let lent = c .before .before .before .before .before in
+    let entry = lent .before .before .before .before .before .before in
+    marks-length mostSlices _ (entry .pre .sound .few)
 
 write-with-requires : tie.Need-write-with-requires
-write-with-requires c κs = tabled-of 1792 _ _ (few-of _ _ (c .before .before .before .before .before .before .before .before .before .before .before .before .before .before .before .before .pre)) _ _ (length-replicate 3584 +0) refl
+write-with-requires c κs =
+    let made = c .before .before .before .before .before in
+    let lent = made .before .before .before .before .before in
+    let entry = lent .before .before .before .before .before .before in
+    tabled-of mostSlices _ _ (few-of _ _ (entry .pre)) _ _ (length-replicate 3584 +0) refl
 
 same-length : tie.Need-same-length
 same-length c = search needs

@@ -1,4 +1,4 @@
-use Rattle.stitch.specs.WriteLaws.{rest-fit, written-of, begin-turns, need-fit}
+use Rattle.stitch.proofs.Writing.{rest-fit, written-of, begin-turns, need-fit}
 use borrow.Author.Needs.{needs}
 use Rattle.stitch.proofs.write.write_with.Statement.{statement}
 use Rattle.stitch.proofs.write.write_with.Tie as tie
@@ -7,16 +7,36 @@ fill-points-requires : tie.Need-fill-points-requires
 fill-points-requires c κs = search needs
 
 take-turns-requires : tie.Need-take-turns-requires
-take-turns-requires c κs = begin-turns _ _ (c .before .before .before .before .before .before .before .before .before .before .before .before .before .before .before .before .before .before .before .before .before .before .pre .fit) _ _ _ (c .before .before .before .before .before .before .before .before .before .before .before .before .before .before .before .before .before .before .before .before .before .before .pre) (c .before .before .before .before .before .before .before .before .before .fill-points .ensures)
+take-turns-requires c κs =
+    let filled = c .before .before .before .before .before .before .before .before .before in
+    let lent = filled .before .before .before .before .before .before in
+    let entry = lent .before .before .before .before .before .before .before in
+    begin-turns _ _ (entry .pre .fit) _ _ _ (entry .pre) (filled .fill-points .ensures)
 
 room-need-requires : tie.Need-room-need-requires
-room-need-requires c κs = need-fit _ _ (c .before .before .before .before .before .before .before .before .before .before .before .before .before .before .before .before .before .before .before .before .before .before .before .before .before .before .before .before .before .before .before .before .before .before .before .pre .fit)
+room-need-requires c κs =
+    let turned = c .before .before .before .before .before .before .before .before .before .before .before .before .before in
+    let filled = turned .before .before .before .before .before .before .before .before .before in
+    let lent = filled .before .before .before .before .before .before in
+    let entry = lent .before .before .before .before .before .before .before in
+    need-fit _ _ (entry .pre .fit)
 
 clear-rest-requires : tie.Need-clear-rest-requires
-clear-rest-requires c κs = rest-fit _ _ _ _ _ (c .before .before .before .before .before .before .before .before .before .before .before .before .before .before .before .before .before .before .before .before .before .before .before .before .before .before .before .before .before .before .before .before .before .before .before .before .before .before .before .before .before .pre .fit) (c .before .before .before .before .before .before .before .before .before .before .before .before .before .before .before .before .before .before .take-turns .ensures) (c .before .before .before .before .before .room-need .ensures)
+clear-rest-requires c κs =
+    let needed = c .before .before .before .before .before in
+    let turned = needed .before .before .before .before .before .before .before .before .before .before .before .before .before in
+    let filled = turned .before .before .before .before .before .before .before .before .before .before in
+    let lent = filled .before .before .before .before .before .before in
+    let entry = lent .before .before .before .before .before .before .before in
+    rest-fit _ _ _ _ _ (entry .pre .fit) (turned .take-turns .ensures) (needed .room-need .ensures)
 
 same-length : tie.Need-same-length
-same-length c = search (needs, c .before .before .before .before .before .before .before .before .before .before .before .before .before .before .before .before .before .before .before .before .before .before .before .before .before .before .before .before .before .before .before .before .before .before .before .before .before .before .points)
+same-length c =
+    let cleared = c .before .before .before .before .before .before .before .before .before .before in
+    let needed = cleared .before .before .before .before .before .before in
+    let turned = needed .before .before .before .before .before .before .before .before .before .before .before .before .before in
+    let filled = turned .before .before .before .before .before .before .before .before .before in
+    search (needs, filled .points)
 
 same-length-2 : tie.Need-same-length-2
 same-length-2 c = search needs
@@ -37,7 +57,11 @@ same-length-7 : tie.Need-same-length-7
 same-length-7 c = search needs
 
 returns : tie.Need-returns
-returns c = written-of _ _ _ _ _ _ (c .before .before .before .before .before .before .before .before .before .before .before .before .before .before .before .before .before .before .before .before .before .before .before .before .before .before .before .before .before .take-turns .ensures) (c .before .before .before .before .before .before .before .before .before .before .before .before .before .before .before .before .room-need .ensures) (c .before .before .before .before .before .before .before .before .before .before .clear-rest .ensures)
+returns c =
+    let cleared = c .before .before .before .before .before .before .before .before .before .before in
+    let needed = cleared .before .before .before .before .before .before in
+    let turned = needed .before .before .before .before .before .before .before .before .before .before .before .before .before in
+    written-of _ _ _ _ _ _ (turned .take-turns .ensures) (needed .room-need .ensures) (cleared .clear-rest .ensures)
 
 pub write-with-spec : {M : Type 1} → statement M
 write-with-spec =

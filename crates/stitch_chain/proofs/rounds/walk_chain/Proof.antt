@@ -1,21 +1,21 @@
 use borrow.Author.Needs.{needs}
 use Prim.Native.Nat.{_-_}
-use Rattle.stitch_round.specs.Ready.{planned}
-use Rattle.stitch_chain.specs.ChainLaws.{Walking, walk-start, walk-place, walk-end, walk-whole, walking}
+use Rattle.stitch_run.specs.Stitch.{given}
+use Rattle.stitch_chain.proofs.Walking.{Walking, walk-place, walk-end, walk-whole, walking}
 use Rattle.stitch_chain.proofs.rounds.walk_chain.Statement.{statement}
 use Rattle.stitch_chain.proofs.rounds.walk_chain.Tie as tie
 
 abbrev Inv-loop : tie.InvT-loop
-Inv-loop visited₀ room₀ chain₀ outline1 outline2 slice-at slice points p first before n₀ current₀ rounds₀ visited room chain n current rounds = Walking (planned outline1 outline2 slice-at slice p) first points room₀ chain₀ visited room chain n current rounds
+Inv-loop visited₀ room₀ chain₀ outline1 outline2 slice-at slice points p first before n₀ current₀ rounds₀ visited room chain n current rounds = Walking (given outline1 outline2 slice-at slice p) first points room₀ chain₀ visited room chain n current rounds
 
 abbrev μ-loop : tie.MeasureT-loop
-μ-loop visited₀ room₀ chain₀ outline1 outline2 slice-at slice points p first before n₀ current₀ rounds₀ visited room chain n current rounds = p .count - rounds
+μ-loop visited₀ room₀ chain₀ outline1 outline2 slice-at slice points p first before n₀ current₀ rounds₀ visited room chain n current rounds = p .slices - rounds
 
 place-requires : tie.Need-place-requires Inv-loop μ-loop
 place-requires c κs = search (needs, walking)
 
 loop-holds : tie.Need-loop-holds Inv-loop μ-loop
-loop-holds c = walk-start _ _ _ _ _ _ _ (c .before .before .before .before .before .before .before .before .before .before .before .before .before .before .before .pre) (c .before .before .before .before .place .ensures)
+loop-holds c = search (needs, walking)
 
 mul-chain : tie.Need-mul-chain Inv-loop μ-loop
 mul-chain c = search needs
@@ -36,7 +36,11 @@ sub-place : tie.Need-sub-place Inv-loop μ-loop
 sub-place c = search needs
 
 place-requires-2 : tie.Need-place-requires-2 Inv-loop μ-loop
-place-requires-2 c κs = walk-place _ _ _ _ _ _ _ (c .before .before .before .before .before .before .before .before .loop .inv) (c .before .before .before .before .before .next-of .ensures) (c .before .before .before .j .given .1)
+place-requires-2 c κs =
+    let chosen = c .before .before .before in
+    let asked = chosen .before .before in
+    let turn = asked .before .before .before in
+    walk-place _ _ _ _ _ _ _ (turn .loop .inv) (asked .next-of .ensures) (chosen .j .given .1)
 
 loop-less : tie.Need-loop-less Inv-loop μ-loop
 loop-less c = search needs
@@ -57,7 +61,14 @@ same-length-3 : tie.Need-same-length-3 Inv-loop μ-loop
 same-length-3 c = search (needs, walking)
 
 returns : tie.Need-returns Inv-loop μ-loop
-returns c = walk-whole _ _ _ _ _ _ _ (c .before .before .before .before .before .before .before .before .before .before .before .before .before .before .before .before .before .before .before .before .before .before .pre) (c .before .before .before .before .before .before .before .before .before .before .before .place .ensures) (walk-end _ _ _ _ _ _ _ (c .before .before .before .before .before .before .loop .inv) (c .before .before .before .next-of .ensures) (c .before .how .given .1))
+returns c =
+    let told = c .before in
+    let asked = told .before .before in
+    let turn = asked .before .before .before in
+    let begun = turn .before .before .before .before .before in
+    let lent = begun .before .before .before .before .before in
+    let entry = lent .before .before .before .before .before .before in
+    walk-whole _ _ _ _ _ _ _ (entry .pre) (begun .place .ensures) (walk-end _ _ _ _ _ _ _ (turn .loop .inv) (asked .next-of .ensures) (told .how .given .1))
 
 pub walk-chain-spec : {M : Type 1} → statement M
 walk-chain-spec =

@@ -1,8 +1,19 @@
-use Rattle.basis.specs.Refuse.{firstFrom}
-use Rattle.basis.specs.RefuseLaws.{rows}
+use Prim.Native.Nat.{ℕ}
+use mathlib.Core.Path.{_≡_}
+use mathlib.Core.List.{List, [], _∷_}
+use Rattle.basis.specs.Refuse.{row, firstFrom, orElse, sizeFault, choiceFault}
+use Rattle.basis.specs.RefuseLaws.{rows, then-rows}
+use Rattle.slice.specs.Faults as slices
+use Rattle.stitch_entries.specs.StitchRows.{codeRows}
 use borrow.Author.Needs.{needs}
 use Rattle.stitch_entries.proofs.faults.code_refusal.Statement.{statement}
 use Rattle.stitch_entries.proofs.faults.code_refusal.Tie as tie
+
+-- the slices' rows behind the others
+then-slices : (n p r vc1 vc2 selector : ℕ) (at : List ℕ) → n ≡ firstFrom p (slices.codeRows at)
+    → p ≡ orElse (orElse (orElse r (sizeFault vc1) 2) (sizeFault vc2) 2) (choiceFault selector) 3 → n ≡ firstFrom r (codeRows vc1 vc2 selector at)
+then-slices n p r vc1 vc2 selector at e f =
+    then-rows n p r (row (sizeFault vc1) 2 ∷ row (sizeFault vc2) 2 ∷ row (choiceFault selector) 3 ∷ []) (slices.codeRows at) e (unfold firstFrom in f)
 
 bad-size-requires : tie.Need-bad-size-requires
 bad-size-requires c κs = search needs
@@ -22,21 +33,11 @@ bad-choice-requires c κs = search needs
 or-else-requires-3 : tie.Need-or-else-requires-3
 or-else-requires-3 c κs = search needs
 
-sources-known-requires : tie.Need-sources-known-requires
-sources-known-requires c κs = search needs
-
-or-else-requires-4 : tie.Need-or-else-requires-4
-or-else-requires-4 c κs = search needs
-
-all-below-requires : tie.Need-all-below-requires
-all-below-requires c κs = search needs
-
-or-else-requires-5 : tie.Need-or-else-requires-5
-or-else-requires-5 c κs = search needs
+code-refusal-requires : tie.Need-code-refusal-requires
+code-refusal-requires c κs = search needs
 
 returns : tie.Need-returns
-unfolding firstFrom
-returns c = search rows depth 24
+returns c = search (then-slices, rows) depth 24
 
 pub code-refusal-spec : {M : Type 1} → statement M
 code-refusal-spec =
@@ -48,8 +49,5 @@ code-refusal-spec =
     or-else-requires-2
     bad-choice-requires
     or-else-requires-3
-    sources-known-requires
-    or-else-requires-4
-    all-below-requires
-    or-else-requires-5
+    code-refusal-requires
     returns)

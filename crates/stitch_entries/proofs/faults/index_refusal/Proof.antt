@@ -4,23 +4,14 @@ use borrow.Author.Needs.{needs}
 use Rattle.stitch_entries.proofs.faults.index_refusal.Statement.{statement}
 use Rattle.stitch_entries.proofs.faults.index_refusal.Tie as tie
 
-starts-inside-requires : tie.Need-starts-inside-requires
-starts-inside-requires c κs = search needs
-
-or-else-requires : tie.Need-or-else-requires
-or-else-requires c κs = search needs
-
-offsets-inside-requires : tie.Need-offsets-inside-requires
-offsets-inside-requires c κs = search needs
-
-or-else-requires-2 : tie.Need-or-else-requires-2
-or-else-requires-2 c κs = search needs
+index-refusal-requires : tie.Need-index-refusal-requires
+index-refusal-requires c κs = search needs
 
 bad-starts-requires : tie.Need-bad-starts-requires
 bad-starts-requires c κs = search needs
 
-or-else-requires-3 : tie.Need-or-else-requires-3
-or-else-requires-3 c κs = search needs
+or-else-requires : tie.Need-or-else-requires
+or-else-requires c κs = search needs
 
 returns : tie.Need-returns
 unfolding firstFrom
@@ -28,12 +19,4 @@ returns c = search rows depth 24
 
 pub index-refusal-spec : {M : Type 1} → statement M
 index-refusal-spec =
-    tie.close
-    (tie.spec
-    starts-inside-requires
-    or-else-requires
-    offsets-inside-requires
-    or-else-requires-2
-    bad-starts-requires
-    or-else-requires-3
-    returns)
+    tie.close (tie.spec index-refusal-requires bad-starts-requires or-else-requires returns)

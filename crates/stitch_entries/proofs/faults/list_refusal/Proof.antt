@@ -1,8 +1,22 @@
-use Rattle.basis.specs.Refuse.{firstFrom}
-use Rattle.basis.specs.RefuseLaws.{rows}
+use Prim.Native.Nat.{ℕ}
+use mathlib.Core.Path.{_≡_}
+use mathlib.Core.List.{List, [], _∷_, _++_}
+use lib.Dec.{ltb}
+use Rattle.basis.specs.Sizes.{mostSlices}
+use Rattle.basis.specs.Refuse.{row, firstFrom, orElse, lengthFault}
+use Rattle.basis.specs.RefuseLaws.{rows, then-rows}
+use Rattle.slice.specs.Faults as slices
+use Rattle.stitch_entries.specs.StitchRows.{listRows}
 use borrow.Author.Needs.{needs}
 use Rattle.stitch_entries.proofs.faults.list_refusal.Statement.{statement}
 use Rattle.stitch_entries.proofs.faults.list_refusal.Tie as tie
+
+-- the slices' rows between the outlines' and the count's
+then-slices : (n q p len1 vc1 len2 vc2 at numbers count : ℕ) → n ≡ orElse q (ltb mostSlices count) 1 → q ≡ firstFrom p (slices.listRows at numbers count)
+    → p ≡ orElse (orElse 0 (lengthFault 3 len1 vc1) 1) (lengthFault 3 len2 vc2) 1 → n ≡ firstFrom 0 (listRows len1 vc1 len2 vc2 at numbers count)
+then-slices n q p len1 vc1 len2 vc2 at numbers count e f g =
+    then-rows n p 0 (row (lengthFault 3 len1 vc1) 1 ∷ row (lengthFault 3 len2 vc2) 1 ∷ []) (slices.listRows at numbers count ++ (row (ltb mostSlices count) 1 ∷ []))
+    (then-rows n q p (slices.listRows at numbers count) (row (ltb mostSlices count) 1 ∷ []) (unfold firstFrom in e) f) (unfold firstFrom in g)
 
 bad-length-requires : tie.Need-bad-length-requires
 bad-length-requires c κs = search needs
@@ -16,24 +30,14 @@ bad-length-requires-2 c κs = search needs
 or-else-requires-2 : tie.Need-or-else-requires-2
 or-else-requires-2 c κs = search needs
 
-bad-length-requires-3 : tie.Need-bad-length-requires-3
-bad-length-requires-3 c κs = search needs
+list-refusal-requires : tie.Need-list-refusal-requires
+list-refusal-requires c κs = search needs
 
 or-else-requires-3 : tie.Need-or-else-requires-3
 or-else-requires-3 c κs = search needs
 
-bad-length-requires-4 : tie.Need-bad-length-requires-4
-bad-length-requires-4 c κs = search needs
-
-or-else-requires-4 : tie.Need-or-else-requires-4
-or-else-requires-4 c κs = search needs
-
-or-else-requires-5 : tie.Need-or-else-requires-5
-or-else-requires-5 c κs = search needs
-
 returns : tie.Need-returns
-unfolding firstFrom
-returns c = search rows depth 24
+returns c = search (then-slices, rows) depth 24
 
 pub list-refusal-spec : {M : Type 1} → statement M
 list-refusal-spec =
@@ -43,9 +47,6 @@ list-refusal-spec =
     or-else-requires
     bad-length-requires-2
     or-else-requires-2
-    bad-length-requires-3
+    list-refusal-requires
     or-else-requires-3
-    bad-length-requires-4
-    or-else-requires-4
-    or-else-requires-5
     returns)

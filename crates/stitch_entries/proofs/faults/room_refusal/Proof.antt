@@ -1,6 +1,6 @@
 use Rattle.basis.specs.Refuse.{firstFrom}
 use Rattle.basis.specs.RefuseLaws.{rows}
-use Rattle.stitch_entries.specs.StitchRows.{third}
+use Rattle.stitch_entries.proofs.Ways.{third}
 use borrow.Author.Needs.{needs}
 use Rattle.stitch_entries.proofs.faults.room_refusal.Statement.{statement}
 use Rattle.stitch_entries.proofs.faults.room_refusal.Tie as tie

@@ -1,4 +1,4 @@
-use Rattle.stitch_entries.specs.StitchEntryLaws.{stitch-accepted, stitch-refused, stitch-given}
+use Rattle.stitch_entries.proofs.Ways.{stitch-accepted, ways}
 use borrow.Author.Needs.{needs}
 use Rattle.stitch_entries.proofs.stitching.stitched.Statement.{statement}
 use Rattle.stitch_entries.proofs.stitching.stitched.Tie as tie
@@ -10,10 +10,12 @@ stitch-refused-requires : tie.Need-stitch-refused-requires
 stitch-refused-requires c κs = search needs
 
 returns : tie.Need-returns
-returns c = stitch-refused _ _ _ _ (c .before .before .refusal .ensures) (c .before .if1 .taken) (c .stitch-refused .ensures)
+returns c = search (needs, ways)
 
 write-stitch-requires : tie.Need-write-stitch-requires
-write-stitch-requires c κs = stitch-accepted _ _ _ (c .before .before .before .before .before .before .refusal .ensures) (c .before .before .before .before .before .if1 .left)
+write-stitch-requires c κs =
+    let passed = c .before .before .before .before .before in
+    stitch-accepted _ _ _ (passed .before .refusal .ensures) (passed .if1 .left)
 
 stitch-given-requires : tie.Need-stitch-given-requires
 stitch-given-requires c κs = search needs
@@ -34,7 +36,7 @@ same-length-5 : tie.Need-same-length-5
 same-length-5 c = search needs
 
 returns-2 : tie.Need-returns-2
-returns-2 c = stitch-given _ _ _ _ _ _ (c .before .before .before .before .before .before .before .before .before .before .before .before .before .before .before .before .before .before .refusal .ensures) (c .before .before .before .before .before .before .before .before .before .before .before .before .before .before .before .before .before .if1 .left) (c .before .before .before .before .before .before .before .before .before .before .before .write-stitch .ensures) (c .stitch-given .ensures)
+returns-2 c = search (needs, ways)
 
 pub stitched-spec : {M : Type 1} → statement M
 stitched-spec =

@@ -1,4 +1,4 @@
-use Rattle.stitch_round.specs.ScanLaws.{near-of}
+use Rattle.stitch_round.proofs.Scanning.{near-of}
 use borrow.Author.Needs.{needs}
 use Rattle.stitch_round.proofs.scan.is_near.Statement.{statement}
 use Rattle.stitch_round.proofs.scan.is_near.Tie as tie

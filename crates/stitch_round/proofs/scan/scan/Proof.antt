@@ -1,7 +1,7 @@
 use borrow.Author.Needs.{needs}
 use Prim.Native.Nat.{_-_}
 use Rattle.stitch_round.specs.Ready.{nearEnd}
-use Rattle.stitch_round.specs.ScanLaws.{Meeting, meeting}
+use Rattle.stitch_round.proofs.Scanning.{Meeting, meeting}
 use Rattle.stitch_round.proofs.scan.scan.Statement.{statement}
 use Rattle.stitch_round.proofs.scan.scan.Tie as tie
 

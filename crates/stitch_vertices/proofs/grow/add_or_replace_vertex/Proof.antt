@@ -1,4 +1,4 @@
-use Rattle.stitch_vertices.specs.VertexLaws.{adding}
+use Rattle.stitch_vertices.proofs.Growing.{adding}
 use borrow.Author.Needs.{needs}
 use Rattle.stitch_vertices.proofs.grow.add_or_replace_vertex.Statement.{statement}
 use Rattle.stitch_vertices.proofs.grow.add_or_replace_vertex.Tie as tie
@@ -24,6 +24,9 @@ same-length c = search needs
 returns : tie.Need-returns
 returns c = search (needs, adding)
 
+mul-put-vertex : tie.Need-mul-put-vertex
+mul-put-vertex c = search needs
+
 put-vertex-requires : tie.Need-put-vertex-requires
 put-vertex-requires c κs = search needs
 
@@ -47,6 +50,7 @@ add-or-replace-vertex-spec =
     slice-write-room
     same-length
     returns
+    mul-put-vertex
     put-vertex-requires
     add-result
     same-length-2

@@ -1,7 +1,7 @@
 use borrow.Author.Needs.{needs}
 use Prim.Native.Nat.{_-_}
 use Rattle.view.specs.View.{vertexOf}
-use Rattle.stitch_vertices.specs.VertexLaws.{Adding, extending}
+use Rattle.stitch_vertices.proofs.Growing.{Adding, extending}
 use Rattle.stitch_vertices.proofs.grow.extend_remove_repeat.Statement.{statement}
 use Rattle.stitch_vertices.proofs.grow.extend_remove_repeat.Tie as tie
 

@@ -1,4 +1,4 @@
-use Rattle.stitch_vertices.specs.VertexLaws.{repeating}
+use Rattle.stitch_vertices.proofs.Growing.{repeating}
 use borrow.Author.Needs.{needs}
 use Rattle.stitch_vertices.proofs.grow.is_repeat.Statement.{statement}
 use Rattle.stitch_vertices.proofs.grow.is_repeat.Tie as tie

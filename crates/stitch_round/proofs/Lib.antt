@@ -1,0 +1,3 @@
+pub mod Slicing
+pub mod Scanning
+pub mod Rounding
