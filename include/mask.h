@@ -278,8 +278,9 @@ mask_verdict_answer mask_validate_for_source(const double *outline, size_t outli
  *   lap     6 to a joined overlap: its view's updated start x, y, bulge, end bulge,
  *           end x, y
  * There are `hits` intersections, at most 512, and `laps` overlaps, at most 128.
- * Only the indexes of the outline that `source` names are looked at, and no view's
- * start or offset. An intersection is one cut, an overlap two: hits + 2 laps.
+ * Only the indexes of the outline that `source` names are looked at. An overlap's
+ * view is of outline 2, so with source 2 its start (6) and its offset (7) are among
+ * them. An intersection is one cut, an overlap two: hits + 2 laps.
  */
 
 /*
@@ -288,7 +289,7 @@ mask_verdict_answer mask_validate_for_source(const double *outline, size_t outli
  * `count` is the number of cuts. Written for each cut, which is also the need:
  *   cut_at  3: segment, overlap mark (1 or 0), number of arrival
  *   cut     2: its point x, y
- * Refusals 1, 2, 3, 4, 5, 6, 9.
+ * Refusals 1, 2, 3, 4, 5, 6, 7, 9.
  */
 mask_count_answer mask_cut_order(const double *outline, size_t outline_len, size_t vc,
                                  uint32_t source, const size_t *hit_at, size_t hit_at_len,
@@ -309,7 +310,7 @@ mask_count_answer mask_cut_order(const double *outline, size_t outline_len, size
  *   cand_at  2: start, offset
  *   cand     6: updated start x, y, bulge, end bulge, end x, y
  *   probe    6: the two vertices whose midpoint the host tests, x, y, bulge each
- * Refusals 1, 2, 3, 4, 5, 6, 9.
+ * Refusals 1, 2, 3, 4, 5, 6, 7, 9.
  */
 mask_count_answer mask_candidates(const double *outline, size_t outline_len, size_t vc,
                                   uint32_t source, const size_t *hit_at, size_t hit_at_len,

@@ -293,7 +293,7 @@ impl Entry {
             Entry::CreateOnSingleSegment => &[1, 2, 4, 5, 6],
             Entry::FromEntirePline => &[1, 2, 3, 5],
             Entry::ValidateForSource => &[1, 2, 3, 5, 6],
-            Entry::CutOrder | Entry::Candidates => &[1, 2, 3, 4, 5, 6, 9],
+            Entry::CutOrder | Entry::Candidates => &[1, 2, 3, 4, 5, 6, 7, 9],
             Entry::Prune => &[1, 2, 3, 5, 6, 7, 9],
             Entry::Stitch => &[1, 2, 3, 4, 5, 6, 7, 8, 9],
             Entry::AreaPass => &[1, 4, 5, 9],

@@ -360,7 +360,8 @@ fn splits(rng: &mut Random, cuts: usize, t: Axes) -> Vec<f64> {
     splits
 }
 
-/// The indexes of the outline that is not in the call may be anything.
+/// The indexes of the outline that is not in the call may be anything. An overlap's view is of
+/// outline 2.
 fn spoil_the_other(rng: &mut Random, shared: &mut Shared, source: u64) {
     let other = if source == 1 { 1 } else { 0 };
     for item in shared.hit_at.chunks_exact_mut(2) {
@@ -369,8 +370,10 @@ fn spoil_the_other(rng: &mut Random, shared: &mut Shared, source: u64) {
     for item in shared.lap_at.chunks_exact_mut(7) {
         item[other] = rng.word() as usize;
         item[2 + other] = rng.word() as usize;
-        item[5] = rng.word() as usize;
-        item[6] = rng.word() as usize;
+        let view = [rng.word() as usize, rng.word() as usize];
+        if source == 1 {
+            item[5..].copy_from_slice(&view);
+        }
     }
 }
 

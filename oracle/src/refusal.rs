@@ -192,6 +192,11 @@ fn shared(faults: &mut Faults, r: &mut Reader, vc: u64, source: u64) -> u64 {
         faults.index(item[which], vc);
         faults.index(item[2 + which], vc);
         faults.yes_or_no(item[4]);
+        if source == 2 {
+            // an overlap's own view is of outline 2
+            faults.index(item[5], vc);
+            faults.offset(item[6], vc);
+        }
     }
     hits.saturating_add(laps.saturating_mul(2))
 }

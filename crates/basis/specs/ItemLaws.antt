@@ -1,12 +1,13 @@
 -- A loop that writes item after item into lent room, each of w elements.
 use Prim.Native.Nat.{ℕ, zero, suc, _+_, _*_, _≤_, _<_}
 use mathlib.Core.Path.{_≡_, refl, sym, ap, _∙_}
-use mathlib.Core.List.{List, [], _++_}
+use mathlib.Core.List.{List, [], _++_, flatMap}
 use native.Mathlib.Nat.{mul-suc, mul-zero, sub-self}
 use native.Mathlib.Numerals.{add-one}
 use native.Mathlib.Omega.{arith}
-use lib.ListN.{length, take, drop, length-append}
-use lib.Seq.{sets, sets-eq, length-sets, take-at, drop-append-add, drop-drop}
+use lib.ListN.{length, getD, take, drop, length-append}
+use lib.Seq.{sets, sets-eq, length-sets, take-suc, take-all, take-at, drop-append-add, drop-drop}
+use Rattle.basis.specs.FlatLaws.{flat-snoc}
 use Rattle.basis.specs.Items.{firstItems}
 use Rattle.basis.specs.Room.{roomOf}
 
@@ -43,3 +44,12 @@ module _ {A : Type 0} (f : ℕ → List A) (w : ℕ) (wide : (n : ℕ) → lengt
     pub fill-end : (z : A) (room : List A) (i n : ℕ) → Filling f w entry room i → i ≡ n → room ≡ roomOf z w n (firstItems f n) entry
     unfolding roomOf
     fill-end z room i n s e = s .done ∙ rw (e, items-length n, sub-self (w * n))
+
+-- items that are those of the elements of a list, one after the other
+pub items-listed : {A B : Type 0} (f : B → List A) (l : List B) (d : B) (n : ℕ) → length l ≡ n → firstItems (λ i. f (getD l i d)) n ≡ flatMap f l
+unfolding firstItems flatMap
+items-listed f l d n e = go n (omega arith) ∙ ap (flatMap f) (take-all n l (omega arith))
+  where
+    go : (m : ℕ) → m ≤ length l → firstItems (λ i. f (getD l i d)) m ≡ flatMap f (take m l)
+    go zero h = refl
+    go (suc m) h = rw (go m (omega arith), take-suc l m d (omega arith)) (sym (flat-snoc f (take m l) (getD l m d)))

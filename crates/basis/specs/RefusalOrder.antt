@@ -1,6 +1,6 @@
 -- The order in which refusals are looked at. Document 01: "The lowest number that applies is given, and none otherwise." The requests of document 02 put their numbers
 -- between document 01's: 11, 12 and 13 "before all others"; 16 and 17 "where number 4 stands, before it"; 18 and 19 "where number 5 stands, 18 first"; 15 "after 6";
--- 14 "after 8 and before 9"; 22 "before 20 and 21".
+-- 14 "after 8 and before 9"; 22 "before 20 and 21". 10 is not among them: K12, "The number isn't used again."
 use Prim.Native.Nat.{ℕ, suc, _≤_, _<_}
 use mathlib.Core.Bool.{Bool, true, cond, _&&_}
 use mathlib.Core.Path.{_≡_}
@@ -13,7 +13,7 @@ use Rattle.basis.specs.Refuse.{Row, row}
 -- all numbers, first to last
 unfoldable pub refusalOrder : List ℕ
 refusalOrder =
-    11 ∷ 12 ∷ 13 ∷ 1 ∷ 2 ∷ 3 ∷ 16 ∷ 17 ∷ 4 ∷ 5 ∷ 18 ∷ 19 ∷ 6 ∷ 15 ∷ 7 ∷ 8 ∷ 14 ∷ 9 ∷ 10 ∷ 22 ∷ 20 ∷ 21 ∷ []
+    11 ∷ 12 ∷ 13 ∷ 1 ∷ 2 ∷ 3 ∷ 16 ∷ 17 ∷ 4 ∷ 5 ∷ 18 ∷ 19 ∷ 6 ∷ 15 ∷ 7 ∷ 8 ∷ 14 ∷ 9 ∷ 22 ∷ 20 ∷ 21 ∷ []
 
 -- how many of them stand before n
 unfoldable pub before : ℕ → List ℕ → ℕ

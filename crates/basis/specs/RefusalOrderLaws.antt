@@ -84,7 +84,7 @@ first-of t h = record { applies = first-applies t; none = none-applies 0 t h; fi
 stands : ℕ → ℕ → Bool
 stands a b = not (ltb 0 a && ltb a b) || ltb (placeOf a) (placeOf b)
 
-each-stands : eachTo (λ a. eachTo (stands a) 11) 11 ≡ true
+each-stands : eachTo (λ a. eachTo (stands a) 10) 10 ≡ true
 unfolding eachTo stands refusalOrder before
 each-stands = refl
 
@@ -92,11 +92,11 @@ stands-before : (a b : ℕ) → stands a b ≡ true → 0 < a → a < b → plac
 unfolding stands
 stands-before a b e p q = ltb-true (placeOf a) (placeOf b) (rw (lt-ltb 0 a p, lt-ltb a b q) at e)
 
-pub own-lowest : (n m : ℕ) → 0 < m → n ≤ 10 → m ≤ 10 → placeOf n ≤ placeOf m → n ≤ m
+pub own-lowest : (n m : ℕ) → 0 < m → n ≤ 9 → m ≤ 9 → placeOf n ≤ placeOf m → n ≤ m
 own-lowest n m some few less most =
     by-test (ltb m n)
     (λ e. let l : m < n = ltb-true m n e in
-    let s = each-at (stands m) 11 n (each-at (λ a. eachTo (stands a) 11) 11 m each-stands (omega arith)) (omega arith) in
+    let s = each-at (stands m) 10 n (each-at (λ a. eachTo (stands a) 10) 10 m each-stands (omega arith)) (omega arith) in
     let q = stands-before m n s some l in
     absurd (omega (arith, q)))
     (λ e. ltb-false m n e)

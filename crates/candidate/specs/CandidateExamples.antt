@@ -11,6 +11,7 @@ use Rattle.outline.specs.Points.{pointsAgree}
 use Rattle.outline.specs.Outline.{vertexAt, wrap, outlineAt, pointAt}
 use Rattle.view.specs.View.{vertexCount}
 use Rattle.view.specs.Create.{nearVertex, bulgeBefore, createView, singleView}
+use Rattle.cut.specs.Cuts.{caseOf}
 use Rattle.candidate.specs.declared.at_cut.Candidate.{Candidate}
 use Rattle.candidate.specs.declared.at_cut.Candidate.the-variants.{Nothing, Slice}
 use Rattle.candidate.specs.Candidates.{Given, given, sameNext, firstFrom, firstCut, traverseFrom, traverseOf, sliceOf, pieceOf, walkOf, walked, walkAt, candidateAt, candidatesTo, candidatesOf, candCount, candNumbers, candShapes, probeNumbers}
@@ -27,14 +28,14 @@ t = toleranceOf (fin false 1 (negsuc 9))
 -- A is (0,0) (4,0) (4,4) (0,4), cut on segments 1 and 2
 abbrev pub cutsA : Given
 cutsA =
-    given (floats (0 ∷ 0 ∷ 0 ∷ 4 ∷ 0 ∷ 0 ∷ 4 ∷ 4 ∷ 0 ∷ 0 ∷ 4 ∷ 0 ∷ [])) 4 (1 ∷ 0 ∷ 0 ∷ 2 ∷ 0 ∷ 1 ∷ []) (floats (4 ∷ 2 ∷ 2 ∷ 4 ∷ [])) 2
-    (floats (4 ∷ 0 ∷ 0 ∷ 4 ∷ 2 ∷ 0 ∷ 4 ∷ 2 ∷ 0 ∷ 4 ∷ 4 ∷ 0 ∷ 2 ∷ 4 ∷ 0 ∷ 2 ∷ 4 ∷ 0 ∷ [])) t
+    given (floats (0 ∷ 0 ∷ 0 ∷ 4 ∷ 0 ∷ 0 ∷ 4 ∷ 4 ∷ 0 ∷ 0 ∷ 4 ∷ 0 ∷ [])) (1 ∷ 0 ∷ 0 ∷ 2 ∷ 0 ∷ 1 ∷ []) (floats (4 ∷ 2 ∷ 2 ∷ 4 ∷ []))
+    (floats (4 ∷ 0 ∷ 0 ∷ 4 ∷ 2 ∷ 0 ∷ 4 ∷ 2 ∷ 0 ∷ 4 ∷ 4 ∷ 0 ∷ 2 ∷ 4 ∷ 0 ∷ 2 ∷ 4 ∷ 0 ∷ [])) (caseOf 4 1 2 0 t)
 
 -- B is (2,2) (6,2) (6,6) (2,6), cut on segments 0 and 3
 abbrev pub cutsB : Given
 cutsB =
-    given (floats (2 ∷ 2 ∷ 0 ∷ 6 ∷ 2 ∷ 0 ∷ 6 ∷ 6 ∷ 0 ∷ 2 ∷ 6 ∷ 0 ∷ [])) 4 (0 ∷ 0 ∷ 0 ∷ 3 ∷ 0 ∷ 1 ∷ []) (floats (4 ∷ 2 ∷ 2 ∷ 4 ∷ [])) 2
-    (floats (2 ∷ 2 ∷ 0 ∷ 4 ∷ 2 ∷ 0 ∷ 4 ∷ 2 ∷ 0 ∷ 2 ∷ 6 ∷ 0 ∷ 2 ∷ 4 ∷ 0 ∷ 2 ∷ 4 ∷ 0 ∷ [])) t
+    given (floats (2 ∷ 2 ∷ 0 ∷ 6 ∷ 2 ∷ 0 ∷ 6 ∷ 6 ∷ 0 ∷ 2 ∷ 6 ∷ 0 ∷ [])) (0 ∷ 0 ∷ 0 ∷ 3 ∷ 0 ∷ 1 ∷ []) (floats (4 ∷ 2 ∷ 2 ∷ 4 ∷ []))
+    (floats (2 ∷ 2 ∷ 0 ∷ 4 ∷ 2 ∷ 0 ∷ 4 ∷ 2 ∷ 0 ∷ 2 ∷ 6 ∷ 0 ∷ 2 ∷ 4 ∷ 0 ∷ 2 ∷ 4 ∷ 0 ∷ [])) (caseOf 4 2 2 0 t)
 
 -- T1: "A's candidates: start 1 offset 1; start 2 offset 3."
 pub t1 : candNumbers cutsA ≡ 1 ∷ 1 ∷ 2 ∷ 3 ∷ []
@@ -58,8 +59,8 @@ t1-probes = refl
 -- ---- a triangle (0,0) (4,0) (0,4) with one cut on segment 0, at (x,0)
 abbrev pub triangle : ℕ → Given
 triangle x =
-    given (floats (0 ∷ 0 ∷ 0 ∷ 4 ∷ 0 ∷ 0 ∷ 0 ∷ 4 ∷ 0 ∷ [])) 3 (0 ∷ 0 ∷ 0 ∷ []) (floats (x ∷ 0 ∷ [])) 1
-    (floats (0 ∷ 0 ∷ 0 ∷ x ∷ 0 ∷ 0 ∷ x ∷ 0 ∷ 0 ∷ [])) t
+    given (floats (0 ∷ 0 ∷ 0 ∷ 4 ∷ 0 ∷ 0 ∷ 0 ∷ 4 ∷ 0 ∷ [])) (0 ∷ 0 ∷ 0 ∷ []) (floats (x ∷ 0 ∷ []))
+    (floats (0 ∷ 0 ∷ 0 ∷ x ∷ 0 ∷ 0 ∷ x ∷ 0 ∷ 0 ∷ [])) (caseOf 3 1 1 0 t)
 
 -- T6: "A triangle with one cut on vertex 0: offset 2."
 pub t6 : candNumbers (triangle 0) ≡ 0 ∷ 2 ∷ []
@@ -82,8 +83,8 @@ t7-vertices = refl
 -- ---- three cuts on segment 0 of the triangle, at (1,0), (m,0) and (3,0), the mark of each as given
 abbrev pub three : ℕ → ℕ → ℕ → ℕ → Given
 three m a b c =
-    given (floats (0 ∷ 0 ∷ 0 ∷ 4 ∷ 0 ∷ 0 ∷ 0 ∷ 4 ∷ 0 ∷ [])) 3 (0 ∷ a ∷ 0 ∷ 0 ∷ b ∷ 1 ∷ 0 ∷ c ∷ 2 ∷ []) (floats (1 ∷ 0 ∷ m ∷ 0 ∷ 3 ∷ 0 ∷ [])) 3
-    (floats (0 ∷ 0 ∷ 0 ∷ 1 ∷ 0 ∷ 0 ∷ 1 ∷ 0 ∷ 0 ∷ 1 ∷ 0 ∷ 0 ∷ m ∷ 0 ∷ 0 ∷ m ∷ 0 ∷ 0 ∷ m ∷ 0 ∷ 0 ∷ 3 ∷ 0 ∷ 0 ∷ 3 ∷ 0 ∷ 0 ∷ [])) t
+    given (floats (0 ∷ 0 ∷ 0 ∷ 4 ∷ 0 ∷ 0 ∷ 0 ∷ 4 ∷ 0 ∷ [])) (0 ∷ a ∷ 0 ∷ 0 ∷ b ∷ 1 ∷ 0 ∷ c ∷ 2 ∷ []) (floats (1 ∷ 0 ∷ m ∷ 0 ∷ 3 ∷ 0 ∷ []))
+    (floats (0 ∷ 0 ∷ 0 ∷ 1 ∷ 0 ∷ 0 ∷ 1 ∷ 0 ∷ 0 ∷ 1 ∷ 0 ∷ 0 ∷ m ∷ 0 ∷ 0 ∷ m ∷ 0 ∷ 0 ∷ m ∷ 0 ∷ 0 ∷ 3 ∷ 0 ∷ 0 ∷ 3 ∷ 0 ∷ 0 ∷ [])) (caseOf 3 1 3 0 t)
 
 -- two pieces, and the walk from the last cut round to the first
 pub three-none : candNumbers (three 2 0 0 0) ≡ 0 ∷ 0 ∷ 0 ∷ 0 ∷ 0 ∷ 3 ∷ []
@@ -101,6 +102,6 @@ unfolding candidatesOf candidatesTo flatMap candidateAt pieceOf sliceOf singleVi
 three-together = refl
 
 -- no cut, no candidate
-pub no-cuts : candCount (given [] 2 [] [] 0 [] t) ≡ 0
+pub no-cuts : candCount (given [] [] [] [] (caseOf 2 1 0 0 t)) ≡ 0
 unfolding candidatesOf candidatesTo
 no-cuts = refl

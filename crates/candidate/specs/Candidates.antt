@@ -1,19 +1,20 @@
 -- Document 01, "Cuts and candidates": the candidates of one outline, over its cuts in order and the splits along them.
-use Prim.Native.Nat.{ℕ, zero, suc, _+_, _*_}
-use mathlib.Core.Bool.{Bool, false, not, cond, _&&_, _||_}
+use Prim.Native.Nat.{ℕ, zero, suc, _+_, _-_, _*_}
+use mathlib.Core.Bool.{Bool, cond, _&&_}
 use mathlib.Core.List.{List, [], _∷_, _++_, flatMap}
 use lib.ListN.{length, getD}
 use lib.Dec.{ltb, eqb}
 use lib.Ieee.{Float}
 use Rattle.basis.specs.declared.number.Tolerance.{Tolerance}
 use Rattle.outline.specs.declared.point.Vertex.{Vertex}
-use Rattle.outline.specs.Points.{posOf, vertexNumbers, pointsAgree}
+use Rattle.outline.specs.Points.{posOf, vertexNumbers}
 use Rattle.outline.specs.Outline.{wrap, vertexAt, outlineAt, pointAt}
 use Rattle.view.specs.declared.create.Walk.{Walk}
 use Rattle.view.specs.declared.create.OneSegment.{OneSegment}
 use Rattle.view.specs.declared.create.OneSegment.the-variants as one
 use Rattle.view.specs.View.{viewNumbers}
 use Rattle.view.specs.Create.{createView, singleView}
+use Rattle.cut.specs.declared.arrival.Case.{Case}
 use Rattle.candidate.specs.declared.at_cut.Candidate.{Candidate}
 use Rattle.candidate.specs.declared.at_cut.Candidate.the-variants.{Nothing, Slice}
 
@@ -27,9 +28,10 @@ pub record Given : Type 0 where
   pub splits : List Float
   pub tolerance : Tolerance
 
-abbrev pub given : List Float → ℕ → List ℕ → List Float → ℕ → List Float → Tolerance → Given
-given outline vc cutAt cut count splits t =
-    record { outline = outline; vc = vc; cutAt = cutAt; cut = cut; count = count; splits = splits; tolerance = t }
+-- the lists, with what stands beside them: one cut of each intersection, two of each overlap
+abbrev pub given : List Float → List ℕ → List Float → List Float → Case → Given
+given outline cutAt cut splits s =
+    record { outline = outline; vc = s .vc; cutAt = cutAt; cut = cut; count = s .hits + 2 * s .laps; splits = splits; tolerance = s .tolerance }
 
 -- ---- a cut, by its place in the order
 
@@ -70,14 +72,15 @@ firstCut cutAt count i = firstFrom count cutAt i 0
 abbrev pub hasCut : List ℕ → ℕ → ℕ → Bool
 hasCut cutAt count i = ltb (firstCut cutAt count i) count
 
--- the first of k, k + 1, .. (that many) at which the segment so far on from s passes; 0 where none does
+-- the first of k, k + 1, .. (that many) at which the segment so far on from s passes; the one after them where none of them does
 unfoldable pub traverseFrom : ℕ → (ℕ → Bool) → ℕ → ℕ → ℕ → ℕ
-traverseFrom zero has vc s k = 0
+traverseFrom zero has vc s k = k
 traverseFrom (suc left) has vc s k = cond (has (wrap vc (s + k))) k (traverseFrom left has vc s (k + 1))
 
--- "The search for the next cut segment yields its traverse count." It takes at most vc + 1 steps and gives 0 where it finds none.
+-- "The search for the next cut segment yields its traverse count", "from 1 to vc". K12: "the segment where a walk began has a cut", so where none of the vc - 1 others has
+-- one, the walk goes once round
 unfoldable pub traverseOf : ℕ → List ℕ → ℕ → ℕ → ℕ
-traverseOf vc cutAt count s = traverseFrom (vc + 1) (hasCut cutAt count) vc s 1
+traverseOf vc cutAt count s = traverseFrom (vc - 1) (hasCut cutAt count) vc s 1
 
 -- ---- what the cut at a place gives
 
@@ -86,9 +89,10 @@ unfoldable pub sliceOf : OneSegment → Vertex → Vertex → Candidate
 sliceOf (one.View v) a b = Slice v a b
 sliceOf one.Collapsed a b = Nothing
 
--- "a piece between neighbours on the segment unless [..] the split's two positions agree"; it is tested between "the split's start part and split vertex"
+-- "a piece between neighbours on the segment unless [..] the split's two positions agree"; it is tested between "the split's start part and split vertex". Where they agree
+-- `create_on_single_segment` has no view; K12: "a piece whose ends were tested apart always gets its view"
 unfoldable pub pieceOf : ℕ → Vertex → Vertex → Tolerance → Candidate
-pieceOf s a b t = cond (pointsAgree t (posOf a) (posOf b)) Nothing (sliceOf (singleView s a (posOf b) t) a b)
+pieceOf s a b t = sliceOf (singleView s a (posOf b) t) a b
 
 -- "A walk ends at that segment's first cut, and that cut's own split is the one supplied to `create`."
 abbrev pub walkTo : Given → ℕ → ℕ → ℕ → Walk
@@ -167,18 +171,3 @@ candShapes g = flatMap shapeOf (candidatesOf g)
 
 abbrev pub probeNumbers : Given → List Float
 probeNumbers g = flatMap probeOf (candidatesOf g)
-
--- ---- the guard, number 10: "a walk took more than vc + 1 steps"
-
--- the cut at place p begins a walk, and the walk finds no segment
-unfoldable pub walkLost : Given → ℕ → Bool
-walkLost g p =
-    not (markedAt (g .cutAt) p) && (not (sameNext (g .cutAt) (g .count) p) && eqb (traverseOf (g .vc) (g .cutAt) (g .count) (segmentAt (g .cutAt) p)) 0)
-
--- one of the first p places does
-unfoldable pub lostTo : Given → ℕ → Bool
-lostTo g zero = false
-lostTo g (suc p) = lostTo g p || walkLost g p
-
-unfoldable pub anyWalkLost : Given → Bool
-anyWalkLost g = lostTo g (g .count)

@@ -1,6 +1,6 @@
 pub mod Candidates
 pub mod Ready
 pub mod Steps
-pub mod TableLaws
-pub mod CandidateLaws
+pub mod SearchLaws
+pub mod PieceLaws
 pub mod CandidateExamples

@@ -6,17 +6,19 @@ use lib.ListN.{length}
 use lib.Ieee.{Float}
 use Rattle.basis.specs.Number.{+0}
 use Rattle.basis.specs.Room.{roomOf}
+use Rattle.basis.specs.Sizes.{mostCandidates}
 use Rattle.outline.specs.Outline.{Whole}
 use Rattle.candidate.specs.Candidates.{Given, segmentAt, candCount, candNumbers, candShapes, probeNumbers}
 
--- the lengths fit the counts, and each cut is on a segment of the outline. The lists of the cuts may be longer than the cuts
+-- the lengths fit the counts, each cut is on a segment of the outline, and they go by segment. The lists of the cuts may be longer than the cuts
 pub record Sound (g : Given) : Type 0 where
   pub whole : Whole (g .outline) (g .vc)
-  pub few : g .count ≤ 768
+  pub few : g .count ≤ mostCandidates
   pub at : 3 * g .count ≤ length (g .cutAt)
   pub points : 2 * g .count ≤ length (g .cut)
   pub nine : length (g .splits) ≡ 9 * g .count
   pub inside : (p : ℕ) → p < g .count → segmentAt (g .cutAt) p < g .vc
+  pub ascend : (p q : ℕ) → p ≤ q → q < g .count → segmentAt (g .cutAt) p ≤ segmentAt (g .cutAt) q
 
 -- the lent lists
 pub record Rooms : Type 0 where

@@ -1,65 +1,22 @@
 -- What the crate's functions ask of each other and leave: one record for each contract.
-use Prim.Native.Nat.{ℕ, _+_, _*_, _≤_, _<_}
+use Prim.Native.Nat.{ℕ, _+_, _-_, _*_, _≤_, _<_}
+use mathlib.Core.Bool.{false, cond}
 use mathlib.Core.Path.{_≡_}
 use mathlib.Core.List.{List, _++_}
-use lib.ListN.{length, getD, drop}
+use lib.ListN.{length, drop}
 use lib.Seq.{sets}
 use lib.Ieee.{Float}
 use lib.Dec.{ltb}
 use Rattle.basis.specs.Number.{+0}
 use Rattle.basis.specs.Room.{cleared}
-use Rattle.outline.specs.Outline.{wrap}
+use Rattle.basis.specs.Sizes.{mostVertices, mostCandidates}
+use Rattle.outline.specs.Outline.{wrap, pointAt}
 use Rattle.view.specs.declared.create.Walk.{Walk}
 use Rattle.view.specs.Create.{WalkFit}
-use Rattle.candidate.specs.declared.table.Next.{Next}
+use Rattle.candidate.specs.declared.next.Next.{Next}
 use Rattle.candidate.specs.declared.at_cut.Candidate.{Candidate}
-use Rattle.candidate.specs.Candidates.{Given, segmentAt, firstCut, traverseFrom, kept, numbersOf, shapeOf, probeOf, candCount, candNumbers, candShapes, probeNumbers}
-use Rattle.candidate.specs.Ready.{Sound, Rooms, Roomy, Ready}
-
--- ---- the table of first cuts
-
--- before it is written it holds the count of cuts everywhere
-pub record Fill (first : List ℕ) (vc : ℕ) (cutAt : List ℕ) (count : ℕ) : Type 0 where
-  pub size : vc ≤ length first
-  pub most : vc ≤ 1024
-  pub few : count ≤ 768
-  pub at : 3 * count ≤ length cutAt
-  pub inside : (p : ℕ) → p < count → segmentAt cutAt p < vc
-  pub none : (i : ℕ) → i < vc → getD first i 0 ≡ count
-
--- by segment the place of its first cut
-pub record FirstTable (first : List ℕ) (vc : ℕ) (cutAt : List ℕ) (count : ℕ) : Type 0 where
-  pub size : vc ≤ length first
-  pub holds : (i : ℕ) → i < vc → getD first i 0 ≡ firstCut cutAt count i
-
--- the search over the table
-abbrev pub traverseIn : List ℕ → ℕ → ℕ → ℕ → ℕ
-traverseIn first vc count s = traverseFrom (vc + 1) (λ i. ltb (getD first i 0) count) vc s 1
-
--- the search may begin: its own segment has a cut
-pub record Search (first : List ℕ) (vc count s : ℕ) : Type 0 where
-  pub size : vc ≤ length first
-  pub most : vc ≤ 1024
-  pub inside : s < vc
-  pub begins : getD first s 0 < count
-
--- what it finds
-pub record Found (first : List ℕ) (vc count s r : ℕ) : Type 0 where
-  pub is : r ≡ traverseIn first vc count s
-  pub least : 1 ≤ r
-  pub most : r ≤ vc
-  pub there : getD first (wrap vc (s + r)) 0 < count
-
--- the same with the segment where the walk ends and that segment's first cut
-pub record NextCut (first : List ℕ) (vc count s : ℕ) (r : Next) : Type 0 where
-  pub starts : s < vc
-  pub traverses : r .traverse ≡ traverseIn first vc count s
-  pub wraps : r .index ≡ wrap vc (s + r .traverse)
-  pub first-there : r .cut ≡ getD first (r .index) 0
-  pub least : 1 ≤ r .traverse
-  pub most : r .traverse ≤ vc
-  pub inside : r .index < vc
-  pub below : r .cut < count
+use Rattle.candidate.specs.Candidates.{Given, segmentAt, sameNext, startPart, wholeSplit, firstCut, traverseOf, kept, numbersOf, shapeOf, probeOf, candCount, candNumbers, candShapes, probeNumbers}
+use Rattle.candidate.specs.Ready.{Sound, Rooms, Roomy}
 
 -- ---- a place
 
@@ -67,13 +24,78 @@ pub record NextCut (first : List ℕ) (vc count s : ℕ) (r : Next) : Type 0 whe
 pub record NextFit (cutAt : List ℕ) (count p : ℕ) : Type 0 where
   pub inside : 3 * count ≤ length cutAt
   pub here : p < count
-  pub few : count ≤ 768
+  pub few : count ≤ mostCandidates
 
--- it is one of the cuts, and the table of first cuts is written
-pub record Place (g : Given) (first : List ℕ) (p : ℕ) : Type 0 where
+pub record Place (g : Given) (p : ℕ) : Type 0 where
   pub sound : Sound g
-  pub table : FirstTable first (g .vc) (g .cutAt) (g .count)
   pub here : p < g .count
+
+-- and its segment's last
+pub record LastPlace (g : Given) (p : ℕ) : Type 0 where
+  pub place : Place g p
+  pub alone : sameNext (g .cutAt) (g .count) p ≡ false
+
+-- ---- the next segment that has a cut
+
+-- one of so many places
+pub record Among (count p : ℕ) : Type 0 where
+  pub here : p < count
+
+-- the next place in the order: after the last cut comes the first
+unfoldable pub nextPlace : ℕ → ℕ → ℕ
+nextPlace count p = cond (ltb (p + 1) count) (p + 1) 0
+
+pub record NextPlace (count p r : ℕ) : Type 0 where
+  pub is : r ≡ nextPlace count p
+  pub below : r < count
+
+-- how many segments on from s the segment `to` is: the whole way round where they are one
+unfoldable pub segmentsOn : ℕ → ℕ → ℕ → ℕ
+segmentsOn vc s to = cond (ltb s to) (to - s) (vc + to - s)
+
+-- two segments of an outline
+pub record Segments (vc s to : ℕ) : Type 0 where
+  pub most : vc ≤ mostVertices
+  pub begins : s < vc
+  pub ends : to < vc
+
+-- the cuts go by segment, and the one at place p is its segment's last
+pub record LastCut (vc : ℕ) (cutAt : List ℕ) (count p : ℕ) : Type 0 where
+  pub most : vc ≤ mostVertices
+  pub fit : NextFit cutAt count p
+  pub inside : (q : ℕ) → q < count → segmentAt cutAt q < vc
+  pub ascend : (q r : ℕ) → q ≤ r → r < count → segmentAt cutAt q ≤ segmentAt cutAt r
+  pub alone : sameNext cutAt count p ≡ false
+
+-- where the walk from there ends: its traverse count, the segment there, and that segment's first cut
+pub record NextCut (vc : ℕ) (cutAt : List ℕ) (count p : ℕ) (r : Next) : Type 0 where
+  pub traverses : r .traverse ≡ traverseOf vc cutAt count (segmentAt cutAt p)
+  pub wraps : r .index ≡ wrap vc (segmentAt cutAt p + r .traverse)
+  pub firstThere : r .cut ≡ firstCut cutAt count (r .index)
+  pub least : 1 ≤ r .traverse
+  pub most : r .traverse ≤ vc
+  pub inside : r .index < vc
+  pub below : r .cut < count
+
+-- the walk on a segment from place p to there
+abbrev pub walkBy : List Float → List Float → ℕ → ℕ → Next → Walk
+walkBy cut splits segment p next =
+    record {
+      «start_index» = segment;
+      «end_intersect» = pointAt cut (2 * next .cut);
+      «intersect_index» = next .index;
+      «updated_start» = wholeSplit splits p;
+      «traverse_count» = next .traverse;
+      «split_bulge» = startPart splits (next .cut) .bulge;
+    }
+
+-- the point and the splits that it reads are there
+pub record WalkParts (cut splits : List Float) (p : ℕ) (next : Next) : Type 0 where
+  pub few : next .cut < mostCandidates
+  pub here : p < mostCandidates
+  pub point : 2 * next .cut + 1 < length cut
+  pub part : 9 * next .cut + 2 < length splits
+  pub whole : 9 * p + 8 < length splits
 
 -- a walk that `create` takes, with its start index
 pub record WalkReady (o : List Float) (vc : ℕ) (w : Walk) : Type 0 where
@@ -84,7 +106,7 @@ pub record WalkReady (o : List Float) (vc : ℕ) (w : Walk) : Type 0 where
 
 -- room for one candidate after m others
 pub record PutFit (l : Rooms) (m : ℕ) : Type 0 where
-  pub low : m < 768
+  pub low : m < mostCandidates
   pub at : 2 * m + 2 ≤ length (l .at)
   pub cand : 6 * m + 6 ≤ length (l .cand)
   pub probe : 6 * m + 6 ≤ length (l .probe)
@@ -95,27 +117,6 @@ pub record Put (c : Candidate) (m : ℕ) (l : Rooms) (r : ℕ) (l′ : Rooms) : 
   pub at : l′ .at ≡ sets (l .at) (2 * m) (numbersOf c)
   pub cand : l′ .cand ≡ sets (l .cand) (6 * m) (shapeOf c)
   pub probe : l′ .probe ≡ sets (l .probe) (6 * m) (probeOf c)
-
--- one turn of the loop over the places
-pub record Turn (g : Given) (first : List ℕ) (p : ℕ) (l : Rooms) (m : ℕ) : Type 0 where
-  pub place : Place g first p
-  pub fit : PutFit l m
-
--- the whole call, with a table that holds the count everywhere
-pub record Tabled (g : Given) (first : List ℕ) (l : Rooms) : Type 0 where
-  pub ready : Ready g l
-  pub fill : Fill first (g .vc) (g .cutAt) (g .count)
-
--- so few vertices that a small table will do
-pub record Few (most : ℕ) (g : Given) (l : Rooms) : Type 0 where
-  pub ready : Ready g l
-  pub few : g .vc ≤ most
-
--- the whole loop
-pub record Writing (g : Given) (first : List ℕ) (l : Rooms) : Type 0 where
-  pub sound : Sound g
-  pub table : FirstTable first (g .vc) (g .cutAt) (g .count)
-  pub roomy : Roomy (g .count) l
 
 -- the candidates in front of each list, and behind them what it held
 pub record Items (g : Given) (l : Rooms) (r : ℕ) (l′ : Rooms) : Type 0 where

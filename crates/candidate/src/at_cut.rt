@@ -1,9 +1,11 @@
 // What the cut at a place of the order gives: nothing, a piece or a walk.
 ghost use mathlib.Core.Path.{_≡_};
 ghost use Rattle.candidate.specs.Candidates.{given, sameNext, pieceOf, walked, walkAt, candidateAt};
-ghost use Rattle.candidate.specs.Steps.{NextFit, WalkReady, Place};
-use crate::table;
+ghost use Rattle.candidate.specs.Steps.{NextFit, walkBy, WalkParts, WalkReady, Place, LastPlace};
+use crate::next;
+use crate::next::Next;
 use basis::number::Tolerance;
+use cut::arrival::Case;
 use outline::point;
 use outline::point::Vertex;
 use outline::read;
@@ -48,60 +50,61 @@ fn walk_candidate(outline: &[f64], vc: usize, w: Walk, t: Tolerance) -> Candidat
     Candidate::Slice(view, start, after)
 }
 
-// The walk from the cut at place p, its segment's last, to the first cut of the next segment that has one. The split of that first cut goes to `create`.
-fn walk(
-    outline: &[f64],
-    vc: usize,
-    cut_at: &[usize],
-    cut: &[f64],
-    count: usize,
-    splits: &[f64],
-    t: Tolerance,
-    first: &[usize],
-    p: usize,
-) -> Candidate
-    requires { ⌜ Place (given (now outline) vc (now «cut_at») (now cut) count (now splits) t) (now first) p ⌝ }
-    ensures { λ r. ⌜ r ≡ walkAt (given (now (outline .entry)) vc (now («cut_at» .entry)) (now (cut .entry)) count (now (splits .entry)) t) p ⌝ }
+// The walk from the cut at place p, on that segment, to the cut where it ends. The split of that cut goes to `create`.
+fn walk_by(cut: &[f64], splits: &[f64], segment: usize, p: usize, next: Next) -> Walk
+    requires { ⌜ WalkParts (now cut) (now splits) p next ⌝ }
+    ensures { λ r. ⌜ r ≡ walkBy (now (cut .entry)) (now (splits .entry)) segment p next ⌝ }
 {
-    let s = cut_at[3 * p];
-    let next = table::next_cut(first, vc, count, s);
     let end = read::point_at(cut, 2 * next.cut);
     let part = read::vertex_at(splits, 3 * next.cut);
     let start = read::vertex_at(splits, 3 * p + 2);
-    let w = Walk {
-        start_index: s,
+    Walk {
+        start_index: segment,
         end_intersect: end,
         intersect_index: next.index,
         updated_start: start,
         traverse_count: next.traverse,
         split_bulge: part.bulge,
-    };
-    walk_candidate(outline, vc, w, t)
+    }
+}
+
+// The walk from the cut at place p, its segment's last, to the first cut of the next segment that has one.
+fn walk(
+    outline: &[f64],
+    cut_at: &[usize],
+    cut: &[f64],
+    splits: &[f64],
+    s: Case,
+    p: usize,
+) -> Candidate
+    requires { ⌜ LastPlace (given (now outline) (now «cut_at») (now cut) (now splits) s) p ⌝ }
+    ensures { λ r. ⌜ r ≡ walkAt (given (now (outline .entry)) (now («cut_at» .entry)) (now (cut .entry)) (now (splits .entry)) s) p ⌝ }
+{
+    let next = next::next_cut(cut_at, s.vc, s.hits + 2 * s.laps, p);
+    let w = walk_by(cut, splits, cut_at[3 * p], p, next);
+    walk_candidate(outline, s.vc, w, s.tolerance)
 }
 
 // What the cut at place p gives: nothing where it is marked, the piece to its neighbour, or the walk.
 pub fn candidate_at(
     outline: &[f64],
-    vc: usize,
     cut_at: &[usize],
     cut: &[f64],
-    count: usize,
     splits: &[f64],
-    t: Tolerance,
-    first: &[usize],
+    s: Case,
     p: usize,
 ) -> Candidate
-    requires { ⌜ Place (given (now outline) vc (now «cut_at») (now cut) count (now splits) t) (now first) p ⌝ }
-    ensures { λ r. ⌜ r ≡ candidateAt (given (now (outline .entry)) vc (now («cut_at» .entry)) (now (cut .entry)) count (now (splits .entry)) t) p ⌝ }
+    requires { ⌜ Place (given (now outline) (now «cut_at») (now cut) (now splits) s) p ⌝ }
+    ensures { λ r. ⌜ r ≡ candidateAt (given (now (outline .entry)) (now («cut_at» .entry)) (now (cut .entry)) (now (splits .entry)) s) p ⌝ }
 {
     if cut_at[3 * p + 1] == 1 {
         return Candidate::Nothing;
     }
-    if same_next(cut_at, count, p) {
+    if same_next(cut_at, s.hits + 2 * s.laps, p) {
         let q = p + 1;
         let a = read::vertex_at(splits, 3 * q);
         let b = read::vertex_at(splits, 3 * q + 1);
-        return piece(cut_at[3 * p], a, b, t);
+        return piece(cut_at[3 * p], a, b, s.tolerance);
     }
-    walk(outline, vc, cut_at, cut, count, splits, t, first, p)
+    walk(outline, cut_at, cut, splits, s, p)
 }

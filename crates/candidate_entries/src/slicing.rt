@@ -1,22 +1,34 @@
+// The entry over the candidates.
 ghost use mathlib.Core.Path.{_≡_};
+ghost use Prim.Native.Nat.{_+_, _*_};
 ghost use Rattle.basis.specs.Number.{toleranceOf};
 ghost use Rattle.basis.specs.Refuse.{firstFrom};
-ghost use Rattle.cut.specs.Cuts.{given};
+ghost use Rattle.cut.specs.Cuts.{given, caseOf};
 ghost use Rattle.candidate.specs.Ready.{rooms, Written};
-ghost use Rattle.cut_entries.specs.CutRows.{Which, whichOf};
-ghost use Rattle.candidate_entries.specs.Candidates.{alongCuts, splitLengthRows, splitRows, candRoomRows, candidatesRefusal, Accepted, Sliced, FoundRoom, Few};
+ghost use Rattle.cut_entries.specs.CutRows.{FewCuts};
+ghost use Rattle.candidate_entries.specs.Candidates.{alongCuts, frontsOf, InFront, splitLengthRows, splitRows, candRoomRows, laterRows, candidatesRefusal, Accepted, Sliced, FoundRoom, Few};
 use basis::answer;
 use basis::answer::CountAnswer;
 use basis::number;
 use basis::number::Tolerance;
 use basis::refuse;
+use basis::sizes::MOST_CANDIDATES;
+use candidate_write::write;
+use cut::arrival::Case;
 use cut_entries::faults;
 
-// Number 1, of the splits.
-fn split_length_refusal(r: u32, hits: usize, laps: usize, len: usize) -> u32
-    ensures { λ n. ⌜ n ≡ firstFrom r (splitLengthRows hits laps len) ⌝ }
+// How long the three lent lists are.
+pub struct Lengths {
+    pub at: usize,
+    pub cand: usize,
+    pub probe: usize,
+}
+
+// Number 1, of the splits, for so many cuts.
+fn split_length_refusal(count: usize, len: usize) -> u32
+    ensures { λ n. ⌜ n ≡ firstFrom 0 (splitLengthRows count len) ⌝ }
 {
-    refuse::or_else(r, faults::bad_cut_length(9, len, hits, laps), 1)
+    refuse::or_else(0, refuse::bad_length(len, 9, count), 1)
 }
 
 // Number 5, of the splits.
@@ -26,156 +38,136 @@ fn split_refusal(r: u32, splits: &[f64]) -> u32
     refuse::or_else(r, !number::all_in_range(splits), 5)
 }
 
-// Number 9.
-fn room_refusal(r: u32, hits: usize, laps: usize, at: usize, cand: usize, probe: usize) -> u32
-    ensures { λ n. ⌜ n ≡ firstFrom r (candRoomRows hits laps at cand probe) ⌝ }
+// Number 9, for so many cuts.
+fn room_refusal(r: u32, count: usize, lent: Lengths) -> u32
+    requires { ⌜ FewCuts count ⌝ }
+    ensures { λ n. ⌜ n ≡ firstFrom r (candRoomRows count lent) ⌝ }
 {
-    let r = refuse::or_else(r, faults::bad_cut_room(2, at, hits, laps), 9);
-    let r = refuse::or_else(r, faults::bad_cut_room(6, cand, hits, laps), 9);
-    refuse::or_else(r, faults::bad_cut_room(6, probe, hits, laps), 9)
+    let r = refuse::or_else(r, lent.at < 2 * count, 9);
+    let r = refuse::or_else(r, lent.cand < 6 * count, 9);
+    refuse::or_else(r, lent.probe < 6 * count, 9)
+}
+
+// What is looked at behind the first lists' lengths and counts, once these are right: there are few cuts.
+fn later_refusal(
+    outline: &[f64],
+    hit_at: &[usize],
+    hit: &[f64],
+    lap_at: &[usize],
+    lap: &[f64],
+    splits: &[f64],
+    s: Case,
+    lent: Lengths,
+) -> u32
+    requires { ⌜ FewCuts (s .hits + 2 * s .laps) ⌝ }
+    ensures { λ r. ⌜ r ≡ firstFrom 0 (laterRows (given (now (outline .entry)) (now («hit_at» .entry)) (now (hit .entry)) (now («lap_at» .entry)) (now (lap .entry)) s) (now (splits .entry)) lent) ⌝ }
+{
+    let r = split_length_refusal(s.hits + 2 * s.laps, splits.len());
+    let r = faults::value_refusal(r, outline, hit_at, hit, lap_at, lap, s);
+    let r = split_refusal(r, splits);
+    let r = faults::index_refusal(r, outline, hit_at, hit, lap_at, lap, s);
+    room_refusal(r, s.hits + 2 * s.laps, lent)
 }
 
 // All numbers. Number 10 is proved never to be given, so nothing is looked at for it.
 fn refusal(
     outline: &[f64],
-    vc: usize,
-    source: u32,
-    which: usize,
     hit_at: &[usize],
     hit: &[f64],
-    hits: usize,
     lap_at: &[usize],
     lap: &[f64],
-    laps: usize,
     splits: &[f64],
-    t: Tolerance,
-    at: usize,
-    cand: usize,
-    probe: usize,
+    s: Case,
+    lent: Lengths,
 ) -> u32
-    requires { ⌜ Which which ⌝ }
-    ensures { λ r. ⌜ r ≡ candidatesRefusal (given (now (outline .entry)) vc which (now («hit_at» .entry)) (now (hit .entry)) hits (now («lap_at» .entry)) (now (lap .entry)) laps t) source (now (splits .entry)) at cand probe ⌝ }
+    ensures { λ r. ⌜ r ≡ candidatesRefusal (given (now (outline .entry)) (now («hit_at» .entry)) (now (hit .entry)) (now («lap_at» .entry)) (now (lap .entry)) s) (now (splits .entry)) lent ⌝ }
 {
-    let r = faults::list_refusal(outline, vc, which, hit_at, hit, hits, lap_at, lap, laps, t);
-    let r = split_length_refusal(r, hits, laps, splits.len());
-    let r = faults::value_refusal(
-        r,
-        outline,
-        vc,
-        source,
-        which,
-        hit_at,
-        hit,
-        hits,
-        lap_at,
-        lap,
-        laps,
-        t,
-    );
-    let r = split_refusal(r, splits);
-    let r = faults::index_refusal(
-        r,
-        outline,
-        vc,
-        which,
-        hit_at,
-        hit,
-        hits,
-        lap_at,
-        lap,
-        laps,
-        t,
-    );
-    room_refusal(r, hits, laps, at, cand, probe)
+    let r = faults::list_refusal(outline, hit_at, hit, lap_at, lap, s);
+    if r != 0 {
+        return r;
+    }
+    later_refusal(outline, hit_at, hit, lap_at, lap, splits, s, lent)
 }
 
-// The candidates of an accepted call, by lists for the cuts: they are put in order, then walked.
-fn found_with(
+// The candidates over cuts that stand in order in front of their lists.
+fn walked(
     outline: &[f64],
-    vc: usize,
-    which: usize,
-    hit_at: &[usize],
-    hit: &[f64],
-    hits: usize,
-    lap_at: &[usize],
-    lap: &[f64],
-    laps: usize,
+    cut_at: &[usize],
+    cut: &[f64],
     splits: &[f64],
-    t: Tolerance,
-    cut_at: &mut [usize],
-    cut: &mut [f64],
+    s: Case,
     cand_at: &mut [usize],
     cand: &mut [f64],
     probe: &mut [f64],
 ) -> usize
-    requires { ⌜ FoundRoom (given (now outline) vc which (now «hit_at») (now hit) hits (now «lap_at») (now lap) laps t) (now splits) (rooms (now «cand_at») (now cand) (now probe)) (now «cut_at») (now cut) ⌝ }
-    ensures { λ r. ⌜ Written (alongCuts (given (now (outline .entry)) vc which (now («hit_at» .entry)) (now (hit .entry)) hits (now («lap_at» .entry)) (now (lap .entry)) laps t) (now (splits .entry))) (rooms (now («cand_at» .entry)) (now (cand .entry)) (now (probe .entry))) r (rooms (now («cand_at» .exit)) (now (cand .exit)) (now (probe .exit))) ⌝ }
+    requires { ⌜ InFront (now outline) (now «cut_at») (now cut) (now splits) s (rooms (now «cand_at») (now cand) (now probe)) ⌝ }
+    ensures { λ r. ⌜ Written (frontsOf (now (outline .entry)) (now («cut_at» .entry)) (now (cut .entry)) (now (splits .entry)) s) (rooms (now («cand_at» .entry)) (now (cand .entry)) (now (probe .entry))) r (rooms (now («cand_at» .exit)) (now (cand .exit)) (now (probe .exit))) ⌝ }
 {
-    cut_order::write::write_order(
+    let numbers = 3 * (s.hits + 2 * s.laps);
+    let points = 2 * (s.hits + 2 * s.laps);
+    write::write_candidates(
         outline,
-        vc,
-        which,
-        hit_at,
-        hit,
-        hits,
-        lap_at,
-        lap,
-        laps,
-        t,
-        cut_at,
-        cut,
-    );
-    let count = hits + 2 * laps;
-    let numbers = 3 * count;
-    let points = 2 * count;
-    candidate_write::write::write_candidates(
-        outline,
-        vc,
         &cut_at[..numbers],
         &cut[..points],
-        count,
         splits,
-        t,
+        s,
         cand_at,
         cand,
         probe,
     )
 }
 
-// The same by small lists, which cost little to set up, by larger ones, and by lists for the most.
-fn found_small(
+// The candidates of an accepted call, by lists for their order and for the cuts in it: they are put in order, then walked.
+fn found_with(
     outline: &[f64],
-    vc: usize,
-    which: usize,
     hit_at: &[usize],
     hit: &[f64],
-    hits: usize,
     lap_at: &[usize],
     lap: &[f64],
-    laps: usize,
     splits: &[f64],
-    t: Tolerance,
+    s: Case,
+    order: &mut [usize],
+    cut_at: &mut [usize],
+    cut: &mut [f64],
     cand_at: &mut [usize],
     cand: &mut [f64],
     probe: &mut [f64],
 ) -> usize
-    requires { ⌜ Few 16 (given (now outline) vc which (now «hit_at») (now hit) hits (now «lap_at») (now lap) laps t) (now splits) (rooms (now «cand_at») (now cand) (now probe)) ⌝ }
-    ensures { λ r. ⌜ Written (alongCuts (given (now (outline .entry)) vc which (now («hit_at» .entry)) (now (hit .entry)) hits (now («lap_at» .entry)) (now (lap .entry)) laps t) (now (splits .entry))) (rooms (now («cand_at» .entry)) (now (cand .entry)) (now (probe .entry))) r (rooms (now («cand_at» .exit)) (now (cand .exit)) (now (probe .exit))) ⌝ }
+    requires { ⌜ FoundRoom (given (now outline) (now «hit_at») (now hit) (now «lap_at») (now lap) s) (now splits) (rooms (now «cand_at») (now cand) (now probe)) (now order) (now «cut_at») (now cut) ⌝ }
+    ensures { λ r. ⌜ Written (alongCuts (given (now (outline .entry)) (now («hit_at» .entry)) (now (hit .entry)) (now («lap_at» .entry)) (now (lap .entry)) s) (now (splits .entry))) (rooms (now («cand_at» .entry)) (now (cand .entry)) (now (probe .entry))) r (rooms (now («cand_at» .exit)) (now (cand .exit)) (now (probe .exit))) ⌝ }
 {
+    cut_order::write::write_order(outline, hit_at, hit, lap_at, lap, s, order, cut_at, cut);
+    walked(outline, cut_at, cut, splits, s, cand_at, cand, probe)
+}
+
+// The same by lists for 16 cuts, which cost little to set up; by lists for 64; and by lists for the most.
+fn found_small(
+    outline: &[f64],
+    hit_at: &[usize],
+    hit: &[f64],
+    lap_at: &[usize],
+    lap: &[f64],
+    splits: &[f64],
+    s: Case,
+    cand_at: &mut [usize],
+    cand: &mut [f64],
+    probe: &mut [f64],
+) -> usize
+    requires { ⌜ Few 16 (given (now outline) (now «hit_at») (now hit) (now «lap_at») (now lap) s) (now splits) (rooms (now «cand_at») (now cand) (now probe)) ⌝ }
+    ensures { λ r. ⌜ Written (alongCuts (given (now (outline .entry)) (now («hit_at» .entry)) (now (hit .entry)) (now («lap_at» .entry)) (now (lap .entry)) s) (now (splits .entry))) (rooms (now («cand_at» .entry)) (now (cand .entry)) (now (probe .entry))) r (rooms (now («cand_at» .exit)) (now (cand .exit)) (now (probe .exit))) ⌝ }
+{
+    let mut order = [0usize; 16];
     let mut cut_at = [0usize; 48];
-    let mut cut = [0.0; 32];
+    let mut cut = [0.0f64; 32];
     found_with(
         outline,
-        vc,
-        which,
         hit_at,
         hit,
-        hits,
         lap_at,
         lap,
-        laps,
         splits,
-        t,
+        s,
+        &mut order,
         &mut cut_at,
         &mut cut,
         cand_at,
@@ -186,37 +178,31 @@ fn found_small(
 
 fn found_few(
     outline: &[f64],
-    vc: usize,
-    which: usize,
     hit_at: &[usize],
     hit: &[f64],
-    hits: usize,
     lap_at: &[usize],
     lap: &[f64],
-    laps: usize,
     splits: &[f64],
-    t: Tolerance,
+    s: Case,
     cand_at: &mut [usize],
     cand: &mut [f64],
     probe: &mut [f64],
 ) -> usize
-    requires { ⌜ Few 64 (given (now outline) vc which (now «hit_at») (now hit) hits (now «lap_at») (now lap) laps t) (now splits) (rooms (now «cand_at») (now cand) (now probe)) ⌝ }
-    ensures { λ r. ⌜ Written (alongCuts (given (now (outline .entry)) vc which (now («hit_at» .entry)) (now (hit .entry)) hits (now («lap_at» .entry)) (now (lap .entry)) laps t) (now (splits .entry))) (rooms (now («cand_at» .entry)) (now (cand .entry)) (now (probe .entry))) r (rooms (now («cand_at» .exit)) (now (cand .exit)) (now (probe .exit))) ⌝ }
+    requires { ⌜ Few 64 (given (now outline) (now «hit_at») (now hit) (now «lap_at») (now lap) s) (now splits) (rooms (now «cand_at») (now cand) (now probe)) ⌝ }
+    ensures { λ r. ⌜ Written (alongCuts (given (now (outline .entry)) (now («hit_at» .entry)) (now (hit .entry)) (now («lap_at» .entry)) (now (lap .entry)) s) (now (splits .entry))) (rooms (now («cand_at» .entry)) (now (cand .entry)) (now (probe .entry))) r (rooms (now («cand_at» .exit)) (now (cand .exit)) (now (probe .exit))) ⌝ }
 {
+    let mut order = [0usize; 64];
     let mut cut_at = [0usize; 192];
-    let mut cut = [0.0; 128];
+    let mut cut = [0.0f64; 128];
     found_with(
         outline,
-        vc,
-        which,
         hit_at,
         hit,
-        hits,
         lap_at,
         lap,
-        laps,
         splits,
-        t,
+        s,
+        &mut order,
         &mut cut_at,
         &mut cut,
         cand_at,
@@ -227,95 +213,33 @@ fn found_few(
 
 fn found_many(
     outline: &[f64],
-    vc: usize,
-    which: usize,
     hit_at: &[usize],
     hit: &[f64],
-    hits: usize,
     lap_at: &[usize],
     lap: &[f64],
-    laps: usize,
     splits: &[f64],
-    t: Tolerance,
+    s: Case,
     cand_at: &mut [usize],
     cand: &mut [f64],
     probe: &mut [f64],
 ) -> usize
-    requires { ⌜ Accepted (given (now outline) vc which (now «hit_at») (now hit) hits (now «lap_at») (now lap) laps t) (now splits) (rooms (now «cand_at») (now cand) (now probe)) ⌝ }
-    ensures { λ r. ⌜ Written (alongCuts (given (now (outline .entry)) vc which (now («hit_at» .entry)) (now (hit .entry)) hits (now («lap_at» .entry)) (now (lap .entry)) laps t) (now (splits .entry))) (rooms (now («cand_at» .entry)) (now (cand .entry)) (now (probe .entry))) r (rooms (now («cand_at» .exit)) (now (cand .exit)) (now (probe .exit))) ⌝ }
+    requires { ⌜ Accepted (given (now outline) (now «hit_at») (now hit) (now «lap_at») (now lap) s) (now splits) (rooms (now «cand_at») (now cand) (now probe)) ⌝ }
+    ensures { λ r. ⌜ Written (alongCuts (given (now (outline .entry)) (now («hit_at» .entry)) (now (hit .entry)) (now («lap_at» .entry)) (now (lap .entry)) s) (now (splits .entry))) (rooms (now («cand_at» .entry)) (now (cand .entry)) (now (probe .entry))) r (rooms (now («cand_at» .exit)) (now (cand .exit)) (now (probe .exit))) ⌝ }
 {
-    let mut cut_at = [0usize; 2304];
-    let mut cut = [0.0; 1536];
+    let mut order = [0usize; MOST_CANDIDATES];
+    let mut cut_at = [0usize; 3 * MOST_CANDIDATES];
+    let mut cut = [0.0f64; 2 * MOST_CANDIDATES];
     found_with(
         outline,
-        vc,
-        which,
         hit_at,
         hit,
-        hits,
         lap_at,
         lap,
-        laps,
         splits,
-        t,
+        s,
+        &mut order,
         &mut cut_at,
         &mut cut,
-        cand_at,
-        cand,
-        probe,
-    )
-}
-
-// The candidates of an accepted call that is too large for the smallest lists.
-fn found_beyond(
-    outline: &[f64],
-    vc: usize,
-    which: usize,
-    hit_at: &[usize],
-    hit: &[f64],
-    hits: usize,
-    lap_at: &[usize],
-    lap: &[f64],
-    laps: usize,
-    splits: &[f64],
-    t: Tolerance,
-    cand_at: &mut [usize],
-    cand: &mut [f64],
-    probe: &mut [f64],
-) -> usize
-    requires { ⌜ Accepted (given (now outline) vc which (now «hit_at») (now hit) hits (now «lap_at») (now lap) laps t) (now splits) (rooms (now «cand_at») (now cand) (now probe)) ⌝ }
-    ensures { λ r. ⌜ Written (alongCuts (given (now (outline .entry)) vc which (now («hit_at» .entry)) (now (hit .entry)) hits (now («lap_at» .entry)) (now (lap .entry)) laps t) (now (splits .entry))) (rooms (now («cand_at» .entry)) (now (cand .entry)) (now (probe .entry))) r (rooms (now («cand_at» .exit)) (now (cand .exit)) (now (probe .exit))) ⌝ }
-{
-    if hits + 2 * laps <= 64 {
-        return found_few(
-            outline,
-            vc,
-            which,
-            hit_at,
-            hit,
-            hits,
-            lap_at,
-            lap,
-            laps,
-            splits,
-            t,
-            cand_at,
-            cand,
-            probe,
-        );
-    }
-    found_many(
-        outline,
-        vc,
-        which,
-        hit_at,
-        hit,
-        hits,
-        lap_at,
-        lap,
-        laps,
-        splits,
-        t,
         cand_at,
         cand,
         probe,
@@ -325,117 +249,98 @@ fn found_beyond(
 // The candidates of an accepted call.
 fn found(
     outline: &[f64],
-    vc: usize,
-    which: usize,
     hit_at: &[usize],
     hit: &[f64],
-    hits: usize,
     lap_at: &[usize],
     lap: &[f64],
-    laps: usize,
     splits: &[f64],
-    t: Tolerance,
+    s: Case,
     cand_at: &mut [usize],
     cand: &mut [f64],
     probe: &mut [f64],
 ) -> usize
-    requires { ⌜ Accepted (given (now outline) vc which (now «hit_at») (now hit) hits (now «lap_at») (now lap) laps t) (now splits) (rooms (now «cand_at») (now cand) (now probe)) ⌝ }
-    ensures { λ r. ⌜ Written (alongCuts (given (now (outline .entry)) vc which (now («hit_at» .entry)) (now (hit .entry)) hits (now («lap_at» .entry)) (now (lap .entry)) laps t) (now (splits .entry))) (rooms (now («cand_at» .entry)) (now (cand .entry)) (now (probe .entry))) r (rooms (now («cand_at» .exit)) (now (cand .exit)) (now (probe .exit))) ⌝ }
+    requires { ⌜ Accepted (given (now outline) (now «hit_at») (now hit) (now «lap_at») (now lap) s) (now splits) (rooms (now «cand_at») (now cand) (now probe)) ⌝ }
+    ensures { λ r. ⌜ Written (alongCuts (given (now (outline .entry)) (now («hit_at» .entry)) (now (hit .entry)) (now («lap_at» .entry)) (now (lap .entry)) s) (now (splits .entry))) (rooms (now («cand_at» .entry)) (now (cand .entry)) (now (probe .entry))) r (rooms (now («cand_at» .exit)) (now (cand .exit)) (now (probe .exit))) ⌝ }
 {
-    if hits + 2 * laps <= 16 {
+    let count = s.hits + 2 * s.laps;
+    if count <= 16 {
         return found_small(
             outline,
-            vc,
-            which,
             hit_at,
             hit,
-            hits,
             lap_at,
             lap,
-            laps,
             splits,
-            t,
+            s,
             cand_at,
             cand,
             probe,
         );
     }
-    found_beyond(
+    if count <= 64 {
+        return found_few(
+            outline,
+            hit_at,
+            hit,
+            lap_at,
+            lap,
+            splits,
+            s,
+            cand_at,
+            cand,
+            probe,
+        );
+    }
+    found_many(
         outline,
-        vc,
-        which,
         hit_at,
         hit,
-        hits,
         lap_at,
         lap,
-        laps,
         splits,
-        t,
+        s,
         cand_at,
         cand,
         probe,
     )
 }
 
-// The same with the outline that the source names, 0 or 1.
+// The answer, refused or not.
 fn sliced(
     outline: &[f64],
-    vc: usize,
-    source: u32,
-    which: usize,
     hit_at: &[usize],
     hit: &[f64],
-    hits: usize,
     lap_at: &[usize],
     lap: &[f64],
-    laps: usize,
     splits: &[f64],
-    t: Tolerance,
+    s: Case,
     cand_at: &mut [usize],
     cand: &mut [f64],
     probe: &mut [f64],
 ) -> CountAnswer
-    requires { ⌜ Which which ⌝ }
-    ensures { λ r. ⌜ Sliced (given (now (outline .entry)) vc which (now («hit_at» .entry)) (now (hit .entry)) hits (now («lap_at» .entry)) (now (lap .entry)) laps t) source (now (splits .entry)) (rooms (now («cand_at» .entry)) (now (cand .entry)) (now (probe .entry))) r (rooms (now («cand_at» .exit)) (now (cand .exit)) (now (probe .exit))) ⌝ }
+    ensures { λ r. ⌜ Sliced (given (now (outline .entry)) (now («hit_at» .entry)) (now (hit .entry)) (now («lap_at» .entry)) (now (lap .entry)) s) (now (splits .entry)) (rooms (now («cand_at» .entry)) (now (cand .entry)) (now (probe .entry))) r (rooms (now («cand_at» .exit)) (now (cand .exit)) (now (probe .exit))) ⌝ }
 {
-    let number = refusal(
-        outline,
-        vc,
-        source,
-        which,
-        hit_at,
-        hit,
-        hits,
-        lap_at,
-        lap,
-        laps,
-        splits,
-        t,
-        cand_at.len(),
-        cand.len(),
-        probe.len(),
-    );
+    let lent = Lengths {
+        at: cand_at.len(),
+        cand: cand.len(),
+        probe: probe.len(),
+    };
+    let number = refusal(outline, hit_at, hit, lap_at, lap, splits, s, lent);
     if number != 0 {
         return answer::count_refused(number);
     }
-    let count = found(
+    answer::counted_as(found(
         outline,
-        vc,
-        which,
         hit_at,
         hit,
-        hits,
         lap_at,
         lap,
-        laps,
         splits,
-        t,
+        s,
         cand_at,
         cand,
         probe,
-    );
-    answer::counted_as(count)
+    ))
 }
 
 // The candidates of the outline that the source names: the pieces between neighbouring cuts, and the walks from a segment's last cut to the next segment that has one.
@@ -455,25 +360,26 @@ pub fn entry(
     cand: &mut [f64],
     probe: &mut [f64],
 ) -> CountAnswer
-    ensures { λ r. ⌜ Sliced (given (now (outline .entry)) vc (whichOf source) (now («hit_at» .entry)) (now (hit .entry)) hits (now («lap_at» .entry)) (now (lap .entry)) laps (toleranceOf tolerance)) source (now (splits .entry)) (rooms (now («cand_at» .entry)) (now (cand .entry)) (now (probe .entry))) r (rooms (now («cand_at» .exit)) (now (cand .exit)) (now (probe .exit))) ⌝ }
+    ensures { λ r. ⌜ Sliced (given (now (outline .entry)) (now («hit_at» .entry)) (now (hit .entry)) (now («lap_at» .entry)) (now (lap .entry)) (caseOf vc source hits laps (toleranceOf tolerance))) (now (splits .entry)) (rooms (now («cand_at» .entry)) (now (cand .entry)) (now (probe .entry))) r (rooms (now («cand_at» .exit)) (now (cand .exit)) (now (probe .exit))) ⌝ }
 {
-    let which = faults::which_of(source);
     let t = Tolerance {
         position: tolerance,
     };
-    sliced(
-        outline,
+    let s = Case {
         vc,
         source,
-        which,
+        hits,
+        laps,
+        tolerance: t,
+    };
+    sliced(
+        outline,
         hit_at,
         hit,
-        hits,
         lap_at,
         lap,
-        laps,
         splits,
-        t,
+        s,
         cand_at,
         cand,
         probe,

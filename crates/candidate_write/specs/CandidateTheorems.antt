@@ -1,7 +1,7 @@
--- What holds of the candidates, for every outline and every order of cuts: the guard is dead, and start and offset are what the next entry accepts.
-use Prim.Native.Nat.{ℕ, zero, suc, _+_, _*_, _≤_, _<_, zero-le}
+-- What holds of the candidates, for every outline and every order of cuts: no walk goes further than once round, and start and offset are what the next entry accepts.
+use Prim.Native.Nat.{ℕ, zero, suc, _+_, _-_, _*_, _≤_, _<_, zero-le}
 use mathlib.Core.Bool.{Bool, true, false, not, _&&_, true≢false}
-use mathlib.Core.Path.{_≡_, refl, sym, _∙_}
+use mathlib.Core.Path.{_≡_, refl, sym, ap, _∙_}
 use mathlib.Core.List.{List, [], _∷_, _++_, flatMap}
 use native.Mathlib.Nat.{not-suc-le-zero}
 use native.Mathlib.Omega.{arith}
@@ -14,15 +14,16 @@ use Rattle.basis.specs.declared.number.Tolerance.{Tolerance}
 use Rattle.outline.specs.declared.point.Vertex.{Vertex}
 use Rattle.outline.specs.Points.{posOf, pointsAgree}
 use Rattle.outline.specs.Outline.{wrap}
+use Rattle.outline.specs.OutlineLaws.{wrap-less}
 use Rattle.view.specs.declared.data.ViewData.{ViewData}
 use Rattle.view.specs.declared.create.Walk.{Walk}
 use Rattle.view.specs.Create.{viewOf, nearVertex, createView}
 use Rattle.candidate.specs.declared.at_cut.Candidate.{Candidate}
 use Rattle.candidate.specs.declared.at_cut.Candidate.the-variants.{Nothing, Slice}
-use Rattle.candidate.specs.Candidates.{Given, segmentAt, markedAt, sameNext, firstFrom, firstCut, hasCut, traverseFrom, traverseOf, sliceOf, pieceOf, walkOf, walked, walkAt, candidateAt, kept, candidatesTo, candidatesOf, candCount, numbersOf, candNumbers, walkLost, lostTo, anyWalkLost}
+use Rattle.candidate.specs.Candidates.{Given, segmentAt, markedAt, sameNext, firstFrom, firstCut, hasCut, traverseFrom, traverseOf, sliceOf, pieceOf, walkOf, walked, walkAt, candidateAt, kept, candidatesTo, candidatesOf, candCount, numbersOf, candNumbers}
 use Rattle.candidate.specs.Ready.{Sound}
-use Rattle.candidate.specs.TableLaws.{segment-first, traverse-hit, traverse-miss, not-yet, first-here, first-later}
-use Rattle.candidate.specs.CandidateLaws.{apart, piece-once}
+use Rattle.candidate.specs.SearchLaws.{segment-first, traverse-hit, traverse-miss, not-yet, first-here, first-later}
+use Rattle.candidate.specs.PieceLaws.{together, apart, piece-once}
 use Rattle.candidate_write.specs.ItemLaws.{kept-few}
 
 -- ---- the search
@@ -34,8 +35,12 @@ pub record Reaches (has : ℕ → Bool) (vc s r : ℕ) : Type 0 where
   pub there : has (wrap vc (s + r)) ≡ true
 
 module _ (has : ℕ → Bool) (vc s : ℕ) (inside : s < vc) (begins : has s ≡ true) where
-  reach-from : (left k : ℕ) → vc + 1 ≤ left + k → 1 ≤ k → k ≤ vc → Reaches has vc s (traverseFrom left has vc s k)
-  reach-from zero k f o h = absurd (omega arith)
+  reach-from : (left k : ℕ) → vc ≤ left + k → 1 ≤ k → k ≤ vc → Reaches has vc s (traverseFrom left has vc s k)
+  unfolding traverseFrom
+  reach-from zero k f o h =
+      let z : k ≡ vc = omega arith in
+      let q : wrap vc (s + k) ≡ s = ap (λ (j : ℕ). wrap vc (s + j)) z ∙ wrap-less vc (s + vc) (omega arith) (omega arith) ∙ omega arith in
+      record { least = o; most = h; there = ap has q ∙ begins }
   reach-from (suc left) k f o h =
       by-test (has (wrap vc (s + k)))
       (λ e. rw (traverse-hit has vc s left k e) (record { least = o; most = h; there = e }))
@@ -48,29 +53,7 @@ pub walk-reaches : (g : Given) → Sound g → (p : ℕ) → p < g .count
 unfolding traverseOf
 walk-reaches g sound p h =
     let b : firstCut (g .cutAt) (g .count) (segmentAt (g .cutAt) p) < g .count = omega (arith, segment-first (g .cutAt) (g .count) p h) in
-    reach-from (hasCut (g .cutAt) (g .count)) (g .vc) (segmentAt (g .cutAt) p) (sound .inside p h) (lt-ltb _ _ b) (g .vc + 1) 1 (omega arith) (omega arith) (omega (arith, sound .whole .least))
-
--- so no walk is lost
-walk-found : (g : Given) → Sound g → (p : ℕ) → p < g .count → walkLost g p ≡ false
-unfolding walkLost
-walk-found g sound p h =
-    let r = walk-reaches g sound p h in
-    let z : traverseOf (g .vc) (g .cutAt) (g .count) (segmentAt (g .cutAt) p) ≡ 0 → ⊥ = λ e. omega (arith, r .least) in
-    none (markedAt (g .cutAt) p) (sameNext (g .cutAt) (g .count) p) _ (ne-eqb _ 0 z)
-  where
-    none : (a b c : Bool) → c ≡ false → (not a && (not b && c)) ≡ false
-    none true b c e = refl
-    none false true c e = refl
-    none false false c e = e
-
--- number 10 never applies
-pub guard-dead : (g : Given) → Sound g → anyWalkLost g ≡ false
-unfolding anyWalkLost lostTo
-guard-dead g sound = go (g .count) (omega arith)
-  where
-    go : (p : ℕ) → p ≤ g .count → lostTo g p ≡ false
-    go zero h = refl
-    go (suc p) h = rw (go p (omega arith), walk-found g sound p (omega arith))
+    reach-from (hasCut (g .cutAt) (g .count)) (g .vc) (segmentAt (g .cutAt) p) (sound .inside p h) (lt-ltb _ _ b) (g .vc - 1) 1 (omega arith) (omega arith) (omega (arith, sound .whole .least))
 
 -- ---- a piece
 
@@ -124,8 +107,8 @@ piece-fits : (vc s : ℕ) (a b : Vertex) (t : Tolerance) → s < vc → EachFits
 unfolding pieceOf
 piece-fits vc s a b t h =
     by-test (pointsAgree t (posOf a) (posOf b))
-    (λ e. rw e tt)
-    (λ e. rw (e, apart s a b t e) (unfold sliceOf in (record { starts = h; reaches = zero-le }, tt)))
+    (λ e. rw (together s a b t e) (unfold sliceOf in tt))
+    (λ e. rw (apart s a b t e) (unfold sliceOf in (record { starts = h; reaches = zero-le }, tt)))
 
 module _ (g : Given) (sound : Sound g) (p : ℕ) (here : p < g .count) where
   walk-fits : EachFits (g .vc) (kept (walkAt g p))
@@ -170,18 +153,14 @@ offsets-most g sound k h = numbers-fit (g .vc) (candidatesOf g) (candidates-fit 
 
 -- ---- the order of places is that of segments
 
--- cuts go by segment
-pub record Ascending (g : Given) : Type 0 where
-  pub ascends : (p q : ℕ) → p ≤ q → q < g .count → segmentAt (g .cutAt) p ≤ segmentAt (g .cutAt) q
-
--- so a cut whose next is on another segment is its segment's last: the walk begins there
-pub last-of-segment : (g : Given) → Ascending g → (p : ℕ) → sameNext (g .cutAt) (g .count) p ≡ false
+-- cuts go by segment, so a cut whose next is on another segment is its segment's last: the walk begins there
+pub last-of-segment : (g : Given) → Sound g → (p : ℕ) → sameNext (g .cutAt) (g .count) p ≡ false
     → (q : ℕ) → p < q → q < g .count → segmentAt (g .cutAt) q ≡ segmentAt (g .cutAt) p → ⊥
 unfolding sameNext
 last-of-segment g a p e q h k same =
     let n : p + 1 < g .count = omega arith in
     let x : segmentAt (g .cutAt) (p + 1) ≡ segmentAt (g .cutAt) p =
-    omega (arith, a .ascends p (p + 1) (omega arith) n, a .ascends (p + 1) q (omega arith) k) in
+    omega (arith, a .ascend p (p + 1) (omega arith) n, a .ascend (p + 1) q (omega arith) k) in
     true≢false (sym (rw (lt-ltb (p + 1) (g .count) n, eq-eqb (segmentAt (g .cutAt) (p + 1)) (segmentAt (g .cutAt) p) x)) ∙ e)
 
 first-none : (cutAt : List ℕ) (i p : ℕ) → firstFrom 0 cutAt i p < p + 0 → ⊥

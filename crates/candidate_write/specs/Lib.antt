@@ -1,4 +1,3 @@
-pub mod PutLaws
 pub mod ItemLaws
 pub mod CandidateTheorems
 pub mod RangeTheorems

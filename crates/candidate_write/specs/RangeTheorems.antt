@@ -22,9 +22,10 @@ use Rattle.view.specs.View.{viewNumbers}
 use Rattle.view.specs.Create.{viewOf, walkView, nearVertex, bulgeBefore, createView}
 use Rattle.candidate.specs.declared.at_cut.Candidate.{Candidate}
 use Rattle.candidate.specs.declared.at_cut.Candidate.the-variants.{Nothing}
-use Rattle.candidate.specs.Candidates.{Given, segmentAt, markedAt, startPart, splitVertex, wholeSplit, sameNext, firstCut, traverseOf, pieceOf, walkOf, walked, walkAt, candidateAt, candidatesTo, candidatesOf, shapeOf, probeOf, candShapes, probeNumbers}
+use Rattle.candidate.specs.Candidates.{Given, segmentAt, markedAt, startPart, splitVertex, wholeSplit, sameNext, firstCut, traverseOf, sliceOf, pieceOf, walkOf, walked, walkAt, candidateAt, candidatesTo, candidatesOf, shapeOf, probeOf, candShapes, probeNumbers}
 use Rattle.candidate.specs.Ready.{Sound}
 use Rattle.candidate_write.specs.ItemLaws.{Wide, flat-more, wide-shapes, wide-probes}
+use Rattle.candidate.specs.PieceLaws.{together, piece-once}
 use Rattle.candidate_write.specs.CandidateTheorems.{walk-reaches, piece-view}
 
 module _ (l : List Float) (all : allWithin l ≡ true) where
@@ -69,7 +70,7 @@ nothing-in = record { shape = refl; probe = refl }
 piece-in : (s : ℕ) (a b : Vertex) (t : Tolerance) → allWithin (vertexNumbers a) ≡ true → allWithin (vertexNumbers b) ≡ true → NumbersIn (pieceOf s a b t)
 piece-in s a b t e f =
     by-test (pointsAgree t (posOf a) (posOf b))
-    (λ h. unfold pieceOf in rw h nothing-in)
+    (λ h. rw (piece-once s a b t, together s a b t h) (unfold sliceOf in nothing-in))
     (λ h. rw (piece-view s a b t h)
     (record { shape = view-in (viewOf s 0 a (a .bulge) (posOf b)) e (bulge-in a e) (pos-in b f); probe = both-in (vertexNumbers a) (vertexNumbers b) e f }))
 

@@ -8,7 +8,7 @@ use Rattle.basis.specs.declared.number.Tolerance.{Tolerance}
 use Rattle.outline.specs.Points.{pointsAgree}
 use Rattle.outline.specs.Outline.{vertexAt, outlineAt, wrap, pointAt}
 use Rattle.view.specs.Create.{nearVertex}
-use Rattle.cut.specs.Cuts.{Given, given, hitCut, moved, markedEnd, lapCut, cutOf}
+use Rattle.cut.specs.Cuts.{Given, given, caseOf, whichOf, hitCut, moved, markedEnd, lapCut, cutOf}
 use Rattle.cut.specs.Order.{distSquared, distance, sooner, earlier, insert, ordered, orderOf, cutNumbers, cutPoints}
 
 abbrev two : Float
@@ -39,18 +39,18 @@ sheet = four ∷ two ∷ two ∷ four ∷ []
 
 -- square A is (0,0) (4,0) (4,4) (0,4), outline 1; square B is (2,2) (6,2) (6,6) (2,6), outline 2
 abbrev ofA : Given
-ofA = given (square +0 four) 4 0 sheetAt sheet 2 [] [] 0 t
+ofA = given (square +0 four) sheetAt sheet [] [] (caseOf 4 1 2 0 t)
 
 abbrev ofB : Given
-ofB = given (square two six) 4 1 sheetAt sheet 2 [] [] 0 t
+ofB = given (square two six) sheetAt sheet [] [] (caseOf 4 2 2 0 t)
 
 -- three cuts on one segment of A: (3,0) and twice (1,0)
 abbrev onOne : Given
-onOne = given (square +0 four) 4 0 (0 ∷ 0 ∷ 0 ∷ 0 ∷ 0 ∷ 0 ∷ []) (three ∷ +0 ∷ one ∷ +0 ∷ one ∷ +0 ∷ []) 3 [] [] 0 t
+onOne = given (square +0 four) (0 ∷ 0 ∷ 0 ∷ 0 ∷ 0 ∷ 0 ∷ []) (three ∷ +0 ∷ one ∷ +0 ∷ one ∷ +0 ∷ []) [] [] (caseOf 4 1 3 0 t)
 
 -- an opposing overlap of A's first segment, from (1,0) to (4,0), taken as outline 1 or 2. Its end is on the next vertex, so it moves to segment 1
 abbrev lapOf : ℕ → Given
-lapOf w = given (square +0 four) 4 w [] [] 0 (0 ∷ 0 ∷ 0 ∷ 0 ∷ 1 ∷ 0 ∷ 0 ∷ []) (one ∷ +0 ∷ +0 ∷ +0 ∷ four ∷ +0 ∷ []) 1 t
+lapOf source = given (square +0 four) [] [] (0 ∷ 0 ∷ 0 ∷ 0 ∷ 1 ∷ 0 ∷ 0 ∷ []) (one ∷ +0 ∷ +0 ∷ +0 ∷ four ∷ +0 ∷ []) (caseOf 4 source 0 1 t)
 
 -- segment, mark and arrival number of each cut in order
 pub record Examples : Type 0 where
@@ -61,10 +61,10 @@ pub record Examples : Type 0 where
   -- the nearer go first, and of equals the one that arrived first
   pub nearerFirst : cutNumbers onOne ≡ 0 ∷ 0 ∷ 1 ∷ 0 ∷ 0 ∷ 2 ∷ 0 ∷ 0 ∷ 0 ∷ []
   -- on outline 1 the end carries the mark, on outline 2 the start
-  pub opposingFirst : cutNumbers (lapOf 0) ≡ 0 ∷ 0 ∷ 0 ∷ 1 ∷ 1 ∷ 1 ∷ []
-  pub opposingSecond : cutNumbers (lapOf 1) ≡ 0 ∷ 1 ∷ 0 ∷ 1 ∷ 0 ∷ 1 ∷ []
+  pub opposingFirst : cutNumbers (lapOf 1) ≡ 0 ∷ 0 ∷ 0 ∷ 1 ∷ 1 ∷ 1 ∷ []
+  pub opposingSecond : cutNumbers (lapOf 2) ≡ 0 ∷ 1 ∷ 0 ∷ 1 ∷ 0 ∷ 1 ∷ []
 
 pub examples : Examples
-unfolding cutNumbers cutPoints flatMap orderOf ordered insert earlier sooner cutOf hitCut lapCut moved markedEnd pointAt distance distSquared nearVertex pointsAgree agree absF vertexAt outlineAt wrap ofBits lt add sub mul
+unfolding cutNumbers cutPoints flatMap orderOf ordered insert earlier sooner cutOf whichOf hitCut lapCut moved markedEnd pointAt distance distSquared nearVertex pointsAgree agree absF vertexAt outlineAt wrap ofBits lt add sub mul
 examples =
     record { aNumbers = refl; aPoints = refl; bNumbers = refl; bPoints = refl; nearerFirst = refl; opposingFirst = refl; opposingSecond = refl }

@@ -1,4 +1,3 @@
 pub mod Cuts
 pub mod Order
-pub mod ArrivalLaws
 pub mod CutsExamples

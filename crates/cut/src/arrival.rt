@@ -1,8 +1,7 @@
-// The cuts of one outline, by their numbers of arrival. Outline 1 and outline 2 differ in `which`, 0 or 1, and in nothing else.
+// The cuts of one outline, by their numbers of arrival. Outline 1 and outline 2 differ in the source, 1 or 2, and in nothing else.
 ghost use mathlib.Core.Path.{_≡_};
-ghost use Prim.Native.Nat.{_+_, _<_};
 ghost use Rattle.outline.specs.Outline.{Segment};
-ghost use Rattle.cut.specs.Cuts.{givenIn, hitCut, moved, markedEnd, lapCut, cutOf, Arrival, HitFit, LapFit};
+ghost use Rattle.cut.specs.Cuts.{given, hitCut, moved, markedEnd, lapCut, cutOf, Which, Arrival, HitFit, LapFit};
 use basis::number::Tolerance;
 use outline::point::Point;
 use outline::read;
@@ -15,21 +14,29 @@ pub struct Cut {
     pub point: Point,
 }
 
-// What a call has beside its lists: the outline's vertex count, which of the two outlines it is (0 for outline 1, 1 for outline 2), the counts of
-// intersections and overlaps, the tolerance.
+// What a call has beside its lists: the outline's vertex count, which outline it is (source 1 or 2), the counts of intersections and overlaps, the tolerance.
+// It is made once, at the entry, and handed on as it is.
 pub struct Case {
     pub vc: usize,
-    pub which: usize,
+    pub source: u32,
     pub hits: usize,
     pub laps: usize,
     pub tolerance: Tolerance,
 }
 
-// The cut of a basic intersection.
-fn hit_cut(hit_at: &[usize], hit: &[f64], which: usize, i: usize) -> Cut
-    requires { ⌜ HitFit (now «hit_at») (now hit) which i ⌝ }
-    ensures { λ r. ⌜ r ≡ hitCut (now («hit_at» .entry)) (now (hit .entry)) which i ⌝ }
+// Which of two indexes, the one on outline 1 and the one on outline 2, is of the outline that a source names.
+pub fn which_of(source: u32) -> usize
+    ensures { λ r. ⌜ Which source r ⌝ }
 {
+    if source == 2 { 1 } else { 0 }
+}
+
+// The cut of a basic intersection.
+fn hit_cut(hit_at: &[usize], hit: &[f64], source: u32, i: usize) -> Cut
+    requires { ⌜ HitFit (now «hit_at») (now hit) i ⌝ }
+    ensures { λ r. ⌜ r ≡ hitCut (now («hit_at» .entry)) (now (hit .entry)) source i ⌝ }
+{
+    let which = which_of(source);
     let p = read::point_at(hit, 2 * i);
     Cut {
         segment: hit_at[2 * i + which],
@@ -51,33 +58,25 @@ fn moved_index(outline: &[f64], vc: usize, i: usize, p: Point, t: Tolerance) -> 
 }
 
 // Where an overlap carries the mark: 0 is its start, 1 its end.
-fn marked_end(which: usize, opposing: usize) -> usize
-    ensures { λ r. ⌜ r ≡ markedEnd which opposing ⌝ }
+fn marked_end(source: u32, opposing: usize) -> usize
+    ensures { λ r. ⌜ r ≡ markedEnd source opposing ⌝ }
 {
-    if which == 1 {
+    if source == 2 {
         return 0;
     }
     if opposing == 1 { 1 } else { 0 }
 }
 
 // The cut of an overlap at its start, 0, or its end, 1.
-fn lap_cut(
-    outline: &[f64],
-    vc: usize,
-    which: usize,
-    lap_at: &[usize],
-    lap: &[f64],
-    t: Tolerance,
-    j: usize,
-    end: usize,
-) -> Cut
-    requires { ⌜ LapFit (now outline) vc which (now «lap_at») (now lap) j end ⌝ }
-    ensures { λ r. ⌜ r ≡ lapCut (now (outline .entry)) vc which (now («lap_at» .entry)) (now (lap .entry)) t j end ⌝ }
+fn lap_cut(outline: &[f64], lap_at: &[usize], lap: &[f64], s: Case, j: usize, end: usize) -> Cut
+    requires { ⌜ LapFit (now outline) (s .vc) (s .source) (now «lap_at») (now lap) j end ⌝ }
+    ensures { λ r. ⌜ r ≡ lapCut (now (outline .entry)) (s .vc) (s .source) (now («lap_at» .entry)) (now (lap .entry)) (s .tolerance) j end ⌝ }
 {
+    let which = which_of(s.source);
     let p = read::point_at(lap, 6 * j + 4 * end);
     let i = lap_at[7 * j + 2 * end + which];
-    let segment = moved_index(outline, vc, i, p, t);
-    let marked = marked_end(which, lap_at[7 * j + 4]);
+    let segment = moved_index(outline, s.vc, i, p, s.tolerance);
+    let marked = marked_end(s.source, lap_at[7 * j + 4]);
     Cut {
         segment,
         mark: end == marked,
@@ -95,21 +94,12 @@ pub fn cut_of(
     s: Case,
     n: usize,
 ) -> Cut
-    requires { ⌜ Arrival (givenIn (now outline) (now «hit_at») (now hit) (now «lap_at») (now lap) s) n ⌝ }
-    ensures { λ r. ⌜ r ≡ cutOf (givenIn (now (outline .entry)) (now («hit_at» .entry)) (now (hit .entry)) (now («lap_at» .entry)) (now (lap .entry)) s) n ⌝ }
+    requires { ⌜ Arrival (given (now outline) (now «hit_at») (now hit) (now «lap_at») (now lap) s) n ⌝ }
+    ensures { λ r. ⌜ r ≡ cutOf (given (now (outline .entry)) (now («hit_at» .entry)) (now (hit .entry)) (now («lap_at» .entry)) (now (lap .entry)) s) n ⌝ }
 {
     if n < s.hits {
-        return hit_cut(hit_at, hit, s.which, n);
+        return hit_cut(hit_at, hit, s.source, n);
     }
     let k = n - s.hits;
-    lap_cut(
-        outline,
-        s.vc,
-        s.which,
-        lap_at,
-        lap,
-        s.tolerance,
-        k / 2,
-        k % 2,
-    )
+    lap_cut(outline, lap_at, lap, s, k / 2, k % 2)
 }

@@ -1,90 +1,110 @@
--- What the shared rows give where none of their faults is there.
+-- What the shared rows tell where none of their faults is there.
 use Prim.Native.Nat.{ℕ, zero, suc, _+_, _*_, _≤_, _<_}
-use mathlib.Core.Bool.{Bool, true, false, cond}
-use mathlib.Core.Path.{_≡_, sym, subst, _∙_}
-use native.Mathlib.Nat.{le-trans, le-of-lt, mul-le-mul-right}
+use mathlib.Core.Bool.{Bool, true, false, not, _&&_}
+use mathlib.Core.Path.{_≡_, subst}
+use mathlib.Core.List.{List}
 use native.Mathlib.Omega.{arith}
 use lib.ListN.{length, getD}
-use lib.Dec.{ltb, eqb}
-use borrow.Author.Tests.{ltb-false, not-false}
-use Rattle.basis.specs.Choice.{or-left, or-right}
-use Rattle.basis.specs.Each.{placesBelow}
+use lib.Dec.{eqb}
+use borrow.Author.Tests.{ltb-false, eq-eqb, not-false}
+use Rattle.basis.specs.Sizes.{mostHits, mostLaps}
+use Rattle.basis.specs.Number.{allWithin, tolerable}
+use Rattle.basis.specs.Each.{placesBelow, placesAtMost, choicesKnown}
 use Rattle.basis.specs.EachLaws.{below-at}
-use Rattle.basis.specs.RefuseLaws.{Clear, length-ok, size-ok}
-use Rattle.cut.specs.Cuts.{Given, Ready}
+use Rattle.basis.specs.Refuse.{firstFrom, sizeFault}
+use Rattle.basis.specs.RefuseLaws.{Clear, clear-from, length-ok, size-ok}
+use Rattle.cut.specs.Cuts.{Given, cutCount, whichOf}
 use Rattle.cut.specs.Order.{Accepted}
-use Rattle.cut_entries.specs.CutRows.{Which, whichOf, tooMany, listRows, valueRows, indexRows, cutRoomFault, cutLengthFault}
+use Rattle.cut_entries.specs.CutRows.{listRows, valueRows, viewStartFault, viewOffsetFault, indexRows, FewCuts}
 
-few-hits : (hits laps : ℕ) → tooMany hits laps ≡ false → hits ≤ 512
-unfolding tooMany
-few-hits hits laps e = ltb-false 512 hits (or-left (ltb 512 hits) _ e)
+-- the rows without a fault, one by one
+pub record CutsPass (g : Given) : Type 0 where
+  pub outlineLength : length (g .outline) ≡ 3 * g .vc
+  pub hitAtLength : length (g .hitAt) ≡ 2 * g .hits
+  pub hitLength : length (g .hit) ≡ 2 * g .hits
+  pub lapAtLength : length (g .lapAt) ≡ 7 * g .laps
+  pub lapLength : length (g .lap) ≡ 6 * g .laps
+  pub fewHits : g .hits ≤ mostHits
+  pub fewLaps : g .laps ≤ mostLaps
+  pub sized : sizeFault (g .vc) ≡ false
+  pub opposing : choicesKnown 7 4 (g .lapAt) ≡ true
+  pub tolerance : tolerable (g .tolerance) ≡ true
+  pub outlineWithin : allWithin (g .outline) ≡ true
+  pub hitWithin : allWithin (g .hit) ≡ true
+  pub lapWithin : allWithin (g .lap) ≡ true
+  pub hitsBelow : placesBelow 2 (whichOf (g .source)) (g .vc) (g .hitAt) ≡ true
+  pub startsBelow : placesBelow 7 (whichOf (g .source)) (g .vc) (g .lapAt) ≡ true
+  pub endsBelow : placesBelow 7 (2 + whichOf (g .source)) (g .vc) (g .lapAt) ≡ true
+  pub viewStarts : g .source ≡ 2 → placesBelow 7 5 (g .vc) (g .lapAt) ≡ true
+  pub viewOffsets : g .source ≡ 2 → placesAtMost 7 6 (g .vc) (g .lapAt) ≡ true
 
-few-laps : (hits laps : ℕ) → tooMany hits laps ≡ false → laps ≤ 128
-unfolding tooMany
-few-laps hits laps e = ltb-false 128 laps (or-right (ltb 512 hits) _ e)
+-- a fault that is looked at with source 2 only
+of-second : (source : ℕ) (b : Bool) → (eqb source 2 && not b) ≡ false → source ≡ 2 → b ≡ true
+of-second source b e h = not-false b (rw (eq-eqb source 2 h) at e)
 
-pub which-lt : (source : ℕ) → whichOf source < 2
-unfolding whichOf
-which-lt source = go (eqb source 2)
-  where
-    go : (b : Bool) → cond b 1 0 < 2
-    go true = omega arith
-    go false = omega arith
-
-pub room-ok : (w len hits laps : ℕ) → cutRoomFault w len hits laps ≡ false → w * (hits + 2 * laps) ≤ len
-unfolding cutRoomFault
-room-ok w len hits laps e = ltb-false len (w * (hits + 2 * laps)) (or-right (tooMany hits laps) _ e)
-
-pub cut-length-ok : (w len hits laps : ℕ) → cutLengthFault w len hits laps ≡ false → len ≡ w * (hits + 2 * laps)
-unfolding cutLengthFault
-cut-length-ok w len hits laps e = length-ok w len (hits + 2 * laps) (or-right (tooMany hits laps) _ e)
-
--- the lists are ready for the cuts
-pub cuts-ready : (g : Given) (source : ℕ) → g .which < 2 → Clear (listRows g) → Clear (valueRows g source) → Clear (indexRows g) → Ready g
-cuts-ready g source w a b c =
-    let size = size-ok (g .vc) (search b) in
-    let sevens : length (g .lapAt) ≡ 7 * g .laps = length-ok 7 (length (g .lapAt)) (g .laps) (search a) in
-    let pairs : length (g .hitAt) ≡ 2 * g .hits = length-ok 2 (length (g .hitAt)) (g .hits) (search a) in
+pub cuts-pass : (g : Given) → Clear (listRows g) → Clear (valueRows g) → Clear (indexRows g) → CutsPass g
+unfolding listRows valueRows indexRows viewStartFault viewOffsetFault
+cuts-pass g (a1, (a2, (a3, (a4, (a5, (a6, (a7, a8))))))) (b1, (b2, (b3, (b4, (b5, (b6, (b7, b8))))))) (c1, (c2, (c3, (c4, (c5, c6))))) =
     record {
-      whole = record { triples = length-ok 3 (length (g .outline)) (g .vc) (search a); least = size .0; most = size .1 };
-      source = w;
-      hitPairs = pairs;
-      hitPoints = length-ok 2 (length (g .hit)) (g .hits) (search a);
-      fewHits = few-hits (g .hits) (g .laps) (search a);
-      lapSevens = sevens;
-      lapSixes = length-ok 6 (length (g .lap)) (g .laps) (search a);
-      fewLaps = few-laps (g .hits) (g .laps) (search a);
-      hitsInside = below-at 2 (g .which) (g .hitAt) (g .hits) (g .vc) (omega arith) pairs (not-false _ (c .0));
-      lapsInside = ends (not-false _ (c .1 .0)) (not-false _ (c .1 .1 .0)) sevens;
-    }
-  where
-    ends : placesBelow 7 (g .which) (g .vc) (g .lapAt) ≡ true → placesBelow 7 (2 + g .which) (g .vc) (g .lapAt) ≡ true
-        → length (g .lapAt) ≡ 7 * g .laps → (j end : ℕ) → j < g .laps → end < 2 → getD (g .lapAt) (7 * j + 2 * end + g .which) 0 < g .vc
-    ends p q l j zero h k =
-        let e : 7 * j + g .which ≡ 7 * j + 2 * 0 + g .which = omega arith in
-        subst (λ (n : ℕ). getD (g .lapAt) n 0 < g .vc) e (below-at 7 (g .which) (g .lapAt) (g .laps) (g .vc) (omega arith) l p j h)
-    ends p q l j (suc zero) h k =
-        let e : 7 * j + (2 + g .which) ≡ 7 * j + 2 * 1 + g .which = omega arith in
-        subst (λ (n : ℕ). getD (g .lapAt) n 0 < g .vc) e (below-at 7 (2 + g .which) (g .lapAt) (g .laps) (g .vc) (omega arith) l q j h)
-    ends p q l j (suc (suc end)) h k = absurd (omega arith)
-
--- and every number is in range
-pub cuts-accepted : (g : Given) (source : ℕ) → g .which < 2 → Clear (listRows g) → Clear (valueRows g source) → Clear (indexRows g) → Accepted g
-cuts-accepted g source w a b c =
-    record {
-      ready = cuts-ready g source w a b c;
-      outlineWithin = not-false _ (b .1 .1 .1 .1 .0);
-      hitWithin = not-false _ (b .1 .1 .1 .1 .1 .0);
-      lapWithin = not-false _ (b .1 .1 .1 .1 .1 .1 .0);
+      outlineLength = length-ok 3 (length (g .outline)) (g .vc) a1;
+      hitAtLength = length-ok 2 (length (g .hitAt)) (g .hits) a2;
+      hitLength = length-ok 2 (length (g .hit)) (g .hits) a3;
+      lapAtLength = length-ok 7 (length (g .lapAt)) (g .laps) a4;
+      lapLength = length-ok 6 (length (g .lap)) (g .laps) a5;
+      fewHits = ltb-false mostHits (g .hits) a6;
+      fewLaps = ltb-false mostLaps (g .laps) a7;
+      sized = b1;
+      opposing = not-false _ b3;
+      tolerance = not-false _ b4;
+      outlineWithin = not-false _ b5;
+      hitWithin = not-false _ b6;
+      lapWithin = not-false _ b7;
+      hitsBelow = not-false _ c1;
+      startsBelow = not-false _ c2;
+      endsBelow = not-false _ c3;
+      viewStarts = of-second (g .source) _ c4;
+      viewOffsets = of-second (g .source) _ c5;
     }
 
--- ---- the counts are small enough to be added and multiplied
-module _ (b : Bool) (hits laps : ℕ) where
-  pub few-told : b ≡ tooMany hits laps → b ≡ false → hits + 2 * laps ≤ 768
-  few-told e f = omega (arith, few-hits hits laps (sym e ∙ f), few-laps hits laps (sym e ∙ f))
+-- the counts alone: the cuts can be counted
+pub few-listed : (g : Given) (p : ℕ) → p ≡ firstFrom 0 (listRows g) → p ≡ 0 → FewCuts (cutCount g)
+unfolding listRows
+few-listed g p e z = go (clear-from (listRows g) p tt e z)
+  where
+    go : Clear (listRows g) → FewCuts (cutCount g)
+    go (a1, (a2, (a3, (a4, (a5, (a6, (a7, a8))))))) = record { few = omega (arith, ltb-false mostHits (g .hits) a6, ltb-false mostLaps (g .laps) a7) }
 
-pub few-times : (w n : ℕ) → w < 10 → n ≤ 768 → w * n ≤ 7680
-few-times w n h l = le-trans (mul-le-mul-right n (le-of-lt h)) (omega arith)
+pub few-passed : (g : Given) → CutsPass g → FewCuts (cutCount g)
+few-passed g p = record { few = omega (arith, p .fewHits, p .fewLaps) }
 
-pub which-is : (source w : ℕ) → w ≡ whichOf source → Which w
-which-is source w e = record { either = subst (λ (n : ℕ). n < 2) (sym e) (which-lt source) }
+-- the lists are ready for the cuts, and every number is in range
+pub cuts-accepted : (g : Given) → CutsPass g → Accepted g
+cuts-accepted g p =
+    let size = size-ok (g .vc) (p .sized) in
+    let w = whichOf (g .source) in
+    record {
+      ready =
+          record {
+            whole = record { triples = p .outlineLength; least = size .0; most = size .1 };
+            hitPairs = p .hitAtLength;
+            hitPoints = p .hitLength;
+            fewHits = p .fewHits;
+            lapSevens = p .lapAtLength;
+            lapSixes = p .lapLength;
+            fewLaps = p .fewLaps;
+            hitsInside = below-at 2 w (g .hitAt) (g .hits) (g .vc) (omega arith) (p .hitAtLength) (p .hitsBelow);
+            lapsInside = ends;
+          };
+      outlineWithin = p .outlineWithin;
+      hitWithin = p .hitWithin;
+      lapWithin = p .lapWithin;
+    }
+  where
+    -- what stands at a place of every overlap
+    below : (place : ℕ) → placesBelow 7 place (g .vc) (g .lapAt) ≡ true → (n j : ℕ) → j < g .laps → 7 * j + place ≡ n → getD (g .lapAt) n 0 < g .vc
+    below place e n j h q = subst (λ (m : ℕ). getD (g .lapAt) m 0 < g .vc) q (below-at 7 place (g .lapAt) (g .laps) (g .vc) (omega arith) (p .lapAtLength) e j h)
+
+    ends : (j end : ℕ) → j < g .laps → end < 2 → getD (g .lapAt) (7 * j + 2 * end + whichOf (g .source)) 0 < g .vc
+    ends j zero h k = below (whichOf (g .source)) (p .startsBelow) (7 * j + 2 * 0 + whichOf (g .source)) j h (omega arith)
+    ends j (suc zero) h k = below (2 + whichOf (g .source)) (p .endsBelow) (7 * j + 2 * 1 + whichOf (g .source)) j h (omega arith)
+    ends j (suc (suc end)) h k = absurd (omega arith)

@@ -1,125 +1,201 @@
+// The entry over the order of the cuts.
 ghost use mathlib.Core.Path.{_≡_};
 ghost use Rattle.basis.specs.Number.{toleranceOf};
-ghost use Rattle.cut.specs.Cuts.{given};
-ghost use Rattle.cut_entries.specs.CutRows.{Which, whichOf};
 ghost use Rattle.basis.specs.Refuse.{firstFrom};
-ghost use Rattle.cut_entries.specs.CutOrder.{orderRoomRows, cutOrderRefusal, CutOrdered};
+ghost use Rattle.cut.specs.Cuts.{given, caseOf};
+ghost use Rattle.cut.specs.Order.{Roomy, Written};
+ghost use Rattle.cut_entries.specs.CutRows.{FewCuts};
+ghost use Rattle.cut_entries.specs.CutOrder.{cutInputRows, orderRoomRows, cutOrderRefusal, CutOrdered, Wrote, Few};
 use crate::faults;
 use basis::answer;
 use basis::answer::CountAnswer;
 use basis::number::Tolerance;
 use basis::refuse;
+use basis::sizes::MOST_CANDIDATES;
+use cut::arrival::Case;
 use cut_order::write;
 
-// Number 9.
-fn room_refusal(r: u32, hits: usize, laps: usize, numbers: usize, points: usize) -> u32
-    ensures { λ n. ⌜ n ≡ firstFrom r (orderRoomRows hits laps numbers points) ⌝ }
-{
-    let r = refuse::or_else(r, faults::bad_cut_room(3, numbers, hits, laps), 9);
-    refuse::or_else(r, faults::bad_cut_room(2, points, hits, laps), 9)
-}
-
-fn refusal(
+// Numbers 1 to 7.
+fn input_refusal(
     outline: &[f64],
-    vc: usize,
-    source: u32,
-    which: usize,
     hit_at: &[usize],
     hit: &[f64],
-    hits: usize,
     lap_at: &[usize],
     lap: &[f64],
-    laps: usize,
-    t: Tolerance,
+    s: Case,
+) -> u32
+    ensures { λ r. ⌜ r ≡ firstFrom 0 (cutInputRows (given (now (outline .entry)) (now («hit_at» .entry)) (now (hit .entry)) (now («lap_at» .entry)) (now (lap .entry)) s)) ⌝ }
+{
+    let r = faults::list_refusal(outline, hit_at, hit, lap_at, lap, s);
+    let r = faults::value_refusal(r, outline, hit_at, hit, lap_at, lap, s);
+    faults::index_refusal(r, outline, hit_at, hit, lap_at, lap, s)
+}
+
+// Number 9, for so many cuts.
+fn room_refusal(count: usize, numbers: usize, points: usize) -> u32
+    requires { ⌜ FewCuts count ⌝ }
+    ensures { λ r. ⌜ r ≡ firstFrom 0 (orderRoomRows count numbers points) ⌝ }
+{
+    let r = refuse::or_else(0, numbers < 3 * count, 9);
+    refuse::or_else(r, points < 2 * count, 9)
+}
+
+// All numbers. The cuts are counted where nothing was found before, so that there are few.
+fn refusal(
+    outline: &[f64],
+    hit_at: &[usize],
+    hit: &[f64],
+    lap_at: &[usize],
+    lap: &[f64],
+    s: Case,
     numbers: usize,
     points: usize,
 ) -> u32
-    requires { ⌜ Which which ⌝ }
-    ensures { λ r. ⌜ r ≡ cutOrderRefusal (given (now (outline .entry)) vc which (now («hit_at» .entry)) (now (hit .entry)) hits (now («lap_at» .entry)) (now (lap .entry)) laps t) source numbers points ⌝ }
+    ensures { λ r. ⌜ r ≡ cutOrderRefusal (given (now (outline .entry)) (now («hit_at» .entry)) (now (hit .entry)) (now («lap_at» .entry)) (now (lap .entry)) s) numbers points ⌝ }
 {
-    let r = faults::list_refusal(outline, vc, which, hit_at, hit, hits, lap_at, lap, laps, t);
-    let r = faults::value_refusal(
-        r,
-        outline,
-        vc,
-        source,
-        which,
-        hit_at,
-        hit,
-        hits,
-        lap_at,
-        lap,
-        laps,
-        t,
-    );
-    let r = faults::index_refusal(
-        r,
-        outline,
-        vc,
-        which,
-        hit_at,
-        hit,
-        hits,
-        lap_at,
-        lap,
-        laps,
-        t,
-    );
-    room_refusal(r, hits, laps, numbers, points)
+    let r = input_refusal(outline, hit_at, hit, lap_at, lap, s);
+    if r != 0 {
+        return r;
+    }
+    room_refusal(s.hits + 2 * s.laps, numbers, points)
 }
 
-// The same with the outline that the source names, 0 or 1.
-fn ordered(
+// The cuts of an accepted call, put in order by a list for 16 of them, which costs little to set up; by one for 64; and by one for the most.
+fn order_small(
     outline: &[f64],
-    vc: usize,
-    source: u32,
-    which: usize,
     hit_at: &[usize],
     hit: &[f64],
-    hits: usize,
     lap_at: &[usize],
     lap: &[f64],
-    laps: usize,
-    t: Tolerance,
+    s: Case,
+    cut_at: &mut [usize],
+    cut: &mut [f64],
+)
+    requires { ⌜ Few 16 (given (now outline) (now «hit_at») (now hit) (now «lap_at») (now lap) s) (now «cut_at») (now cut) ⌝ }
+    ensures { λ _. ⌜ Written (given (now (outline .entry)) (now («hit_at» .entry)) (now (hit .entry)) (now («lap_at» .entry)) (now (lap .entry)) s) (now («cut_at» .entry)) (now (cut .entry)) (now («cut_at» .exit)) (now (cut .exit)) ⌝ }
+{
+    let mut order = [0usize; 16];
+    write::write_order(
+        outline,
+        hit_at,
+        hit,
+        lap_at,
+        lap,
+        s,
+        &mut order,
+        cut_at,
+        cut,
+    );
+}
+
+fn order_few(
+    outline: &[f64],
+    hit_at: &[usize],
+    hit: &[f64],
+    lap_at: &[usize],
+    lap: &[f64],
+    s: Case,
+    cut_at: &mut [usize],
+    cut: &mut [f64],
+)
+    requires { ⌜ Few 64 (given (now outline) (now «hit_at») (now hit) (now «lap_at») (now lap) s) (now «cut_at») (now cut) ⌝ }
+    ensures { λ _. ⌜ Written (given (now (outline .entry)) (now («hit_at» .entry)) (now (hit .entry)) (now («lap_at» .entry)) (now (lap .entry)) s) (now («cut_at» .entry)) (now (cut .entry)) (now («cut_at» .exit)) (now (cut .exit)) ⌝ }
+{
+    let mut order = [0usize; 64];
+    write::write_order(
+        outline,
+        hit_at,
+        hit,
+        lap_at,
+        lap,
+        s,
+        &mut order,
+        cut_at,
+        cut,
+    );
+}
+
+fn order_many(
+    outline: &[f64],
+    hit_at: &[usize],
+    hit: &[f64],
+    lap_at: &[usize],
+    lap: &[f64],
+    s: Case,
+    cut_at: &mut [usize],
+    cut: &mut [f64],
+)
+    requires { ⌜ Roomy (given (now outline) (now «hit_at») (now hit) (now «lap_at») (now lap) s) (now «cut_at») (now cut) ⌝ }
+    ensures { λ _. ⌜ Written (given (now (outline .entry)) (now («hit_at» .entry)) (now (hit .entry)) (now («lap_at» .entry)) (now (lap .entry)) s) (now («cut_at» .entry)) (now (cut .entry)) (now («cut_at» .exit)) (now (cut .exit)) ⌝ }
+{
+    let mut order = [0usize; MOST_CANDIDATES];
+    write::write_order(
+        outline,
+        hit_at,
+        hit,
+        lap_at,
+        lap,
+        s,
+        &mut order,
+        cut_at,
+        cut,
+    );
+}
+
+// The cuts of an accepted call, and how many there are.
+fn order_cuts(
+    outline: &[f64],
+    hit_at: &[usize],
+    hit: &[f64],
+    lap_at: &[usize],
+    lap: &[f64],
+    s: Case,
+    cut_at: &mut [usize],
+    cut: &mut [f64],
+) -> usize
+    requires { ⌜ Roomy (given (now outline) (now «hit_at») (now hit) (now «lap_at») (now lap) s) (now «cut_at») (now cut) ⌝ }
+    ensures { λ r. ⌜ Wrote (given (now (outline .entry)) (now («hit_at» .entry)) (now (hit .entry)) (now («lap_at» .entry)) (now (lap .entry)) s) (now («cut_at» .entry)) (now (cut .entry)) r (now («cut_at» .exit)) (now (cut .exit)) ⌝ }
+{
+    let count = s.hits + 2 * s.laps;
+    if count <= 16 {
+        order_small(outline, hit_at, hit, lap_at, lap, s, cut_at, cut);
+        return count;
+    }
+    if count <= 64 {
+        order_few(outline, hit_at, hit, lap_at, lap, s, cut_at, cut);
+        return count;
+    }
+    order_many(outline, hit_at, hit, lap_at, lap, s, cut_at, cut);
+    count
+}
+
+// The answer, refused or not.
+fn ordered(
+    outline: &[f64],
+    hit_at: &[usize],
+    hit: &[f64],
+    lap_at: &[usize],
+    lap: &[f64],
+    s: Case,
     cut_at: &mut [usize],
     cut: &mut [f64],
 ) -> CountAnswer
-    requires { ⌜ Which which ⌝ }
-    ensures { λ r. ⌜ CutOrdered (given (now (outline .entry)) vc which (now («hit_at» .entry)) (now (hit .entry)) hits (now («lap_at» .entry)) (now (lap .entry)) laps t) source (now («cut_at» .entry)) (now (cut .entry)) r (now («cut_at» .exit)) (now (cut .exit)) ⌝ }
+    ensures { λ r. ⌜ CutOrdered (given (now (outline .entry)) (now («hit_at» .entry)) (now (hit .entry)) (now («lap_at» .entry)) (now (lap .entry)) s) (now («cut_at» .entry)) (now (cut .entry)) r (now («cut_at» .exit)) (now (cut .exit)) ⌝ }
 {
     let number = refusal(
         outline,
-        vc,
-        source,
-        which,
         hit_at,
         hit,
-        hits,
         lap_at,
         lap,
-        laps,
-        t,
+        s,
         cut_at.len(),
         cut.len(),
     );
     if number != 0 {
         return answer::count_refused(number);
     }
-    write::write_order(
-        outline,
-        vc,
-        which,
-        hit_at,
-        hit,
-        hits,
-        lap_at,
-        lap,
-        laps,
-        t,
-        cut_at,
-        cut,
-    );
-    answer::counted_as(hits + 2 * laps)
+    answer::counted_as(order_cuts(outline, hit_at, hit, lap_at, lap, s, cut_at, cut))
 }
 
 // The cuts of the outline that the source names, in their order: segment, overlap mark, number of arrival and point of each.
@@ -137,25 +213,17 @@ pub fn entry(
     cut_at: &mut [usize],
     cut: &mut [f64],
 ) -> CountAnswer
-    ensures { λ r. ⌜ CutOrdered (given (now (outline .entry)) vc (whichOf source) (now («hit_at» .entry)) (now (hit .entry)) hits (now («lap_at» .entry)) (now (lap .entry)) laps (toleranceOf tolerance)) source (now («cut_at» .entry)) (now (cut .entry)) r (now («cut_at» .exit)) (now (cut .exit)) ⌝ }
+    ensures { λ r. ⌜ CutOrdered (given (now (outline .entry)) (now («hit_at» .entry)) (now (hit .entry)) (now («lap_at» .entry)) (now (lap .entry)) (caseOf vc source hits laps (toleranceOf tolerance))) (now («cut_at» .entry)) (now (cut .entry)) r (now («cut_at» .exit)) (now (cut .exit)) ⌝ }
 {
-    let which = faults::which_of(source);
     let t = Tolerance {
         position: tolerance,
     };
-    ordered(
-        outline,
+    let s = Case {
         vc,
         source,
-        which,
-        hit_at,
-        hit,
         hits,
-        lap_at,
-        lap,
         laps,
-        t,
-        cut_at,
-        cut,
-    )
+        tolerance: t,
+    };
+    ordered(outline, hit_at, hit, lap_at, lap, s, cut_at, cut)
 }

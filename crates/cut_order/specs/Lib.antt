@@ -1,11 +1,8 @@
 pub mod Sort
 pub mod Write
 pub mod Sorted
-pub mod SortLaws
-pub mod KeyLaws
-pub mod WriteLaws
+pub mod InsertLaws
 pub mod CutsLaws
 pub mod PatternLaws
 pub mod DistanceLaws
 pub mod OrderTheorems
-pub mod KeyOrderLaws

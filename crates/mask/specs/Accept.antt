@@ -1,5 +1,5 @@
 -- What an accepted call leaves, and what a call needs to be accepted: the entries of the pipeline one by one.
-use Prim.Native.Nat.{ℕ, _+_, _*_, _≤_, _<_}
+use Prim.Native.Nat.{ℕ, _+_, _*_, _≤_}
 use mathlib.Core.Bool.{Bool, true, false, not}
 use mathlib.Core.Path.{_≡_, refl, sym, ap, subst, _∙_}
 use mathlib.Core.List.{List, _++_}
@@ -7,14 +7,14 @@ use native.Mathlib.Nat.{add-zero}
 use native.Mathlib.Omega.{arith}
 use lib.ListN.{length, take}
 use lib.Ieee.{Float}
-use borrow.Author.Tests.{le-ltb, not-false}
+use borrow.Author.Tests.{le-ltb}
 use Rattle.basis.specs.Number.{+0, allWithin, tolerable}
 use Rattle.basis.specs.Sizes.{mostCandidates, mostLaps, mostSlices}
 use Rattle.basis.specs.Each.{placesBelow, placesAtMost, choicesKnown}
 use Rattle.basis.specs.EachLaws.{at-below, at-most}
 use Rattle.basis.specs.RoomLaws.{room-front}
 use Rattle.basis.specs.Refuse.{sizeFault}
-use Rattle.basis.specs.RefuseLaws.{Clear, clear, clear-left, clear-right, clear-both, none-clear, answer-zero, answer-accepted, ok-length, ok-size}
+use Rattle.basis.specs.RefuseLaws.{Clear, clear-both, none-clear, answer-zero, answer-accepted, ok-length, ok-size}
 use Rattle.outline.specs.Outline.{Whole}
 use Rattle.cut.specs.Cuts as cuts
 use Rattle.cut_order.specs.CutsLaws.{points-within}
@@ -25,9 +25,8 @@ use Rattle.candidate_write.specs.CandidateTheorems.{count-most, starts-below, o
 use Rattle.candidate_write.specs.RangeTheorems.{InRange, shapes-in}
 use Rattle.basis.specs.declared.answer.CountAnswer.{CountAnswer}
 use Rattle.basis.specs.Answers.{countRefused}
-use Rattle.cut_entries.specs.CutRows.{listRows, valueRows, indexRows}
-use Rattle.candidate_entries.specs.Candidates.{alongCuts, splitLengthRows, splitRows, candRoomRows, candOpenRows, guardRows, candidatesRefusal, candNumber, Sliced, Accepted}
-use Rattle.candidate_entries.specs.CandidatesLaws.{along-sound, cand-accepted}
+use Rattle.candidate_entries.specs.Candidates.{alongCuts, lengths, candNumber, Sliced, Accepted}
+use Rattle.candidate_entries.specs.CandidatesLaws.{SplitsPass, cand-pass, along-sound, cand-accepted}
 use Rattle.select.specs.declared.class.Starts.{Starts}
 use Rattle.slice.specs.Slice.{codeWidth, shapeWidth}
 use Rattle.slice.specs.Ready as slice
@@ -41,19 +40,11 @@ use Rattle.prune_entries.specs.PruneEntry.{candsRows, lapsRows, codesRows, numb
 use Rattle.prune_entries.specs.PruneEntryLaws.{prune-accepted, prune-sound}
 use Rattle.stitch_run.specs.Stitch as stitch
 use Rattle.stitch.specs.Lent.{Lists, Long}
-use Rattle.stitch_run.specs.Demand3Theorems.{no-rounds-fault}
 use Rattle.stitch_entries.specs.StitchRows.{startsFault}
 use Rattle.stitch_entries.specs.StitchEntry as stitched
 use Rattle.stitch_entries.specs.StitchEntry.{shapeRows, stitchRefusal, stitchNumber}
 
 -- ---- `mask_candidates`
-
--- what an accepted call looked at and found in order
-pub record CutsPass (g : cuts.Given) (source : ℕ) (splits : List Float) : Type 0 where
-  pub lists : Clear (listRows g)
-  pub values : Clear (valueRows g source)
-  pub numbers : allWithin splits ≡ true
-  pub indexes : Clear (indexRows g)
 
 -- candidates that `mask_prune` finds in order, over an outline of vc vertices
 pub record CandsMade (vc count : ℕ) (at : List ℕ) (shape : List Float) : Type 0 where
@@ -64,53 +55,34 @@ pub record CandsMade (vc count : ℕ) (at : List ℕ) (shape : List Float) : Typ
   pub reaches : placesAtMost 2 1 vc at ≡ true
   pub numbers : allWithin shape ≡ true
 
-module _ (g : cuts.Given) (source : ℕ) (splits : List Float) (l : slices.Rooms) (r : CountAnswer) (left : slices.Rooms)
-    (sliced : Sliced g source splits l r left) (accepted : r .refusal ≡ 0) (which : g .which < 2) where
-  cand-zero : candNumber g source splits l ≡ 0
-  cand-zero = answer-zero countRefused (λ a. a .refusal) (candNumber g source splits l) _ r (λ k. refl) (sliced .answers) accepted
+module _ (g : cuts.Given) (splits : List Float) (l : slices.Rooms) (r : CountAnswer) (left : slices.Rooms) (sliced : Sliced g splits l r left) (accepted : r .refusal ≡ 0) where
+  cand-zero : candNumber g splits l ≡ 0
+  cand-zero = answer-zero countRefused (λ a. a .refusal) (candNumber g splits l) _ r (λ k. refl) (sliced .answers) accepted
 
-  pub cuts-pass : CutsPass g source splits
-  unfolding candidatesRefusal
-  cuts-pass =
-      let before = candOpenRows g source splits (length (l .at)) (length (l .cand)) (length (l .probe)) in
-      let rooms = candRoomRows (g .hits) (g .laps) (length (l .at)) (length (l .cand)) (length (l .probe)) in
-      let numbers = splitRows splits ++ (indexRows g ++ rooms) in
-      let lengths = splitLengthRows (g .hits) (g .laps) (length splits) ++ (valueRows g source ++ numbers) in
-      let ok : Clear before = clear-left before (guardRows g splits) (clear (before ++ guardRows g splits) tt cand-zero) in
-      let a : Clear lengths = clear-right (listRows g) lengths ok in
-      let b : Clear (valueRows g source ++ numbers) = a .1 in
-      let c : Clear numbers = clear-right (valueRows g source) numbers b in
-      record {
-        lists = clear-left (listRows g) lengths ok;
-        values = clear-left (valueRows g source) numbers b;
-        numbers = not-false _ (c .0);
-        indexes = clear-left (indexRows g) rooms (c .1);
-      }
+  -- what an accepted call looked at and found in order
+  pub made-pass : SplitsPass g splits (lengths l)
+  made-pass = cand-pass g splits (lengths l) cand-zero
 
   cand-told : r .count ≡ candCount (alongCuts g splits)
-  cand-told = ap (λ (a : CountAnswer). a .count) (answer-accepted countRefused (candNumber g source splits l) _ r (sliced .answers) cand-zero)
+  cand-told = ap (λ (a : CountAnswer). a .count) (answer-accepted countRefused (candNumber g splits l) _ r (sliced .answers) cand-zero)
 
   -- what the host hands on: as many items of each list as were counted
   pub cands-made : CandsMade (g .vc) (r .count) (take (2 * r .count) (left .at)) (take (6 * r .count) (left .cand))
   unfolding candidatesOf
   cands-made =
-      let ok : Accepted g splits l = cand-accepted g source splits l 0 which (sym cand-zero) refl in
+      let ok : Accepted g splits l = cand-accepted g splits l cand-zero in
       let along = alongCuts g splits in
       let sound = along-sound g splits (ok .along) in
-      let p = cuts-pass in
+      let p = made-pass in
       let range : InRange along =
-      record {
-        outline = not-false _ (p .values .1 .1 .1 .1 .0);
-        cut = points-within g (ok .along .accepted .ready) (not-false _ (p .values .1 .1 .1 .1 .1 .0)) (not-false _ (p .values .1 .1 .1 .1 .1 .1 .0));
-        splits = p .numbers;
-      } in
+      record { outline = p .cuts .outlineWithin; cut = points-within g (ok .along .accepted .ready) (p .cuts .hitWithin) (p .cuts .lapWithin); splits = p .within } in
       let n = cand-told in
       let m : length (candNumbers along) ≡ 2 * r .count = flat-length 2 numbersOf wide-numbers along (along .count) ∙ ap (λ (k : ℕ). 2 * k) (sym n) in
       let s : length (candShapes along) ≡ 6 * r .count = flat-length 6 shapeOf wide-shapes along (along .count) ∙ ap (λ (k : ℕ). 6 * k) (sym n) in
       let at : take (2 * r .count) (left .at) ≡ candNumbers along =
-      room-front 0 2 (cuts.cutCount g) (candNumbers along) (l .at) (left .at) (2 * r .count) (answer-accepted (λ _. l .at) (candNumber g source splits l) _ (left .at) (sliced .at) cand-zero) m in
+      room-front 0 2 (cuts.cutCount g) (candNumbers along) (l .at) (left .at) (2 * r .count) (answer-accepted (λ _. l .at) (candNumber g splits l) _ (left .at) (sliced .at) cand-zero) m in
       let shape : take (6 * r .count) (left .cand) ≡ candShapes along =
-      room-front +0 6 (cuts.cutCount g) (candShapes along) (l .cand) (left .cand) (6 * r .count) (answer-accepted (λ _. l .cand) (candNumber g source splits l) _ (left .cand) (sliced .cand) cand-zero) s in
+      room-front +0 6 (cuts.cutCount g) (candShapes along) (l .cand) (left .cand) (6 * r .count) (answer-accepted (λ _. l .cand) (candNumber g splits l) _ (left .cand) (sliced .cand) cand-zero) s in
       record {
         few = omega (arith, n, count-most along, sound .few);
         places = ap length at ∙ m;
@@ -272,8 +244,7 @@ stitch-passes g x p =
     let indexes : Clear indexed = (told-no (a .starts), (told-no (a .reaches), (s .ascend, tt))) in
     let rooms : Clear lent =
     (le-ltb _ _ (p .long .room), (le-ltb _ _ (p .long .ends), (le-ltb _ _ (p .long .chain), (le-ltb _ _ (p .long .chainEnds), (le-ltb _ _ (p .long .chainHow), tt))))) in
-    let guard : Clear (stitched.guardRows g) = (no-rounds-fault g, tt) in
-    none-clear (shapeRows g ++ (lent ++ stitched.guardRows g))
-    (clear-both (shapeRows g) (lent ++ stitched.guardRows g)
+    none-clear (shapeRows g ++ lent)
+    (clear-both (shapeRows g) lent
     (clear-both listed (coded ++ (numbered ++ indexed)) lists (clear-both coded (numbered ++ indexed) codes (clear-both numbered indexed numbers indexes)))
-    (clear-both lent (stitched.guardRows g) rooms guard))
+    rooms)

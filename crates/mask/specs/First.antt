@@ -13,13 +13,16 @@ use Rattle.view.specs.declared.create.Walk.{Walk}
 use Rattle.view_entries.specs.declared.input.View.{View}
 use Rattle.view_entries.specs.declared.input.Split.{Split}
 use Rattle.view_entries.specs.ViewVertex.{viewVertexRows, viewVertexRefusal}
+use Rattle.view_entries.specs.ViewVertices.{viewVerticesRows, viewVerticesRefusal}
 use Rattle.view_entries.specs.CreateEntry.{createRows, createRefusal}
 use Rattle.view_entries.specs.SingleEntry.{singleRows, singleRefusal}
 use Rattle.view_entries.specs.EntireEntry.{entireRows, entireRefusal}
 use Rattle.verdict_entries.specs.ValidateEntry.{validateRows, validateRefusal}
 use Rattle.cut.specs.Cuts as cuts
-use Rattle.cut_entries.specs.CutOrder.{cutOrderRows, cutOrderRefusal}
-use Rattle.candidate_entries.specs.Candidates.{candOpenRows, guardRows, candidatesRefusal}
+use Rattle.cut_entries.specs.CutRows.{listRows, valueRows, indexRows}
+use Rattle.cut_entries.specs.CutOrder.{cutInputRows, cutOrderRows, cutOrderRefusal}
+use Rattle.candidate_entries.specs.declared.slicing.Lengths as candidate
+use Rattle.candidate_entries.specs.Candidates.{laterRows, candidatesRows, candidatesRefusal}
 use Rattle.prune.specs.Prune as Prune
 use Rattle.prune_entries.specs.PruneEntry.{inputRows, lentRows, pruneRefusal}
 use Rattle.stitch_run.specs.Stitch as stitch
@@ -34,6 +37,10 @@ use Rattle.straight_entries.specs.ReportEntry.{reportRows, reportRefusal}
 pub vertex-first : (o : List Float) (vc : ℕ) (v : View) → First (viewVertexRows o vc v) (viewVertexRefusal o vc v)
 unfolding viewVertexRefusal before refusalOrder
 vertex-first o vc v = first-of (viewVertexRows o vc v) tt
+
+pub vertices-first : (o : List Float) (vc : ℕ) (v : View) (len : ℕ) → First (viewVerticesRows o vc v len) (viewVerticesRefusal o vc v len)
+unfolding viewVerticesRefusal before refusalOrder
+vertices-first o vc v len = first-of (viewVerticesRows o vc v len) tt
 
 pub create-first : (o : List Float) (vc : ℕ) (w : Walk) (t : Tolerance) (split : Split) → First (createRows o vc w t split) (createRefusal o vc w t split)
 unfolding createRefusal before refusalOrder
@@ -51,22 +58,21 @@ pub validate-first : (o : List Float) (vc : ℕ) (v : View) (startOn endOn : ℕ
 unfolding validateRefusal before refusalOrder
 validate-first o vc v startOn endOn = first-of (validateRows o vc v startOn endOn) tt
 
-pub order-first : (g : cuts.Given) (source numbers points : ℕ) → First (cutOrderRows g source numbers points) (cutOrderRefusal g source numbers points)
-unfolding cutOrderRefusal before refusalOrder
-order-first g source numbers points = first-of (cutOrderRows g source numbers points) tt
+pub order-first : (g : cuts.Given) (numbers points : ℕ) → First (cutOrderRows g numbers points) (cutOrderRefusal g numbers points)
+unfolding cutOrderRefusal cutInputRows listRows valueRows indexRows before refusalOrder
+order-first g numbers points = first-of (cutOrderRows g numbers points) tt
 
-pub candidates-first : (g : cuts.Given) (source : ℕ) (splits : List Float) (at cand probe : ℕ)
-    → First (candOpenRows g source splits at cand probe ++ guardRows g splits) (candidatesRefusal g source splits at cand probe)
-unfolding candidatesRefusal before refusalOrder
-candidates-first g source splits at cand probe = first-of (candOpenRows g source splits at cand probe ++ guardRows g splits) tt
+pub candidates-first : (g : cuts.Given) (splits : List Float) (lent : candidate.Lengths) → First (candidatesRows g splits lent) (candidatesRefusal g splits lent)
+unfolding candidatesRefusal listRows laterRows valueRows indexRows before refusalOrder
+candidates-first g splits lent = first-of (candidatesRows g splits lent) tt
 
 pub prune-first : (g : Prune.Given) (at slice : ℕ) → First (inputRows g ++ lentRows g at slice) (pruneRefusal g at slice)
 unfolding pruneRefusal inputRows before refusalOrder
 prune-first g at slice = first-of (inputRows g ++ lentRows g at slice) tt
 
-pub stitch-first : (g : stitch.Given) (l : Lengths) → First (shapeRows g ++ (roomPart g l ++ stitched.guardRows g)) (stitchRefusal g l)
+pub stitch-first : (g : stitch.Given) (l : Lengths) → First (shapeRows g ++ roomPart g l) (stitchRefusal g l)
 unfolding stitchRefusal before refusalOrder
-stitch-first g l = first-of (shapeRows g ++ (roomPart g l ++ stitched.guardRows g)) tt
+stitch-first g l = first-of (shapeRows g ++ roomPart g l) tt
 
 pub area-first : (areas : List Float) (loops : ℕ) (limit : Float) (kept : ℕ) → First (areaRows areas loops limit kept) (areaRefusal areas loops limit kept)
 unfolding areaRefusal before refusalOrder

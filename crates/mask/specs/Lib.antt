@@ -2,3 +2,4 @@ pub mod Accept
 pub mod Pipeline
 pub mod OneAnswer
 pub mod First
+pub mod NoGuards

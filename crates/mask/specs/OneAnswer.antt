@@ -15,6 +15,7 @@ use Rattle.view_entries.specs.declared.answer.VertexAnswer.{VertexAnswer}
 use Rattle.view_entries.specs.declared.answer.ViewAnswer.{ViewAnswer}
 use Rattle.verdict_entries.specs.declared.answer.VerdictAnswer.{VerdictAnswer}
 use Rattle.view_entries.specs.ViewVertex.{viewVertexAnswer}
+use Rattle.view_entries.specs.ViewVertices.{VerticesLeft}
 use Rattle.view_entries.specs.CreateEntry.{createAnswer}
 use Rattle.view_entries.specs.SingleEntry.{singleAnswer}
 use Rattle.view_entries.specs.EntireEntry.{entireAnswer}
@@ -43,6 +44,10 @@ use Rattle.straight_entries.specs.ReportEntry.{reportAnswer}
 pub vertex-one : (o : List Float) (vc : ℕ) (v : View) (k : ℕ) (r s : VertexAnswer) → r ≡ viewVertexAnswer o vc v k → s ≡ viewVertexAnswer o vc v k → r ≡ s
 vertex-one o vc v k r s e f = one-answer r s (viewVertexAnswer o vc v k) e f
 
+pub vertices-one : (o : List Float) (vc : ℕ) (v : View) (room : List Float) (r s : CountAnswer) (a b : List Float)
+    → VerticesLeft o vc v room r a → VerticesLeft o vc v room s b → (r ≡ s) × (a ≡ b)
+vertices-one o vc v room r s a b x y = (one-answer r s _ (x .answers) (y .answers), one-answer a b _ (x .vertices) (y .vertices))
+
 pub create-one : (o : List Float) (vc : ℕ) (w : Walk) (t : Tolerance) (split : Split) (r s : ViewAnswer) → r ≡ createAnswer o vc w t split → s ≡ createAnswer o vc w t split → r ≡ s
 create-one o vc w t split r s e f = one-answer r s (createAnswer o vc w t split) e f
 
@@ -55,14 +60,14 @@ entire-one o vc closed r s e f = one-answer r s (entireAnswer o vc closed) e f
 pub validate-one : (o : List Float) (vc : ℕ) (v : View) (startOn endOn : ℕ) (r s : VerdictAnswer) → r ≡ validateAnswer o vc v startOn endOn → s ≡ validateAnswer o vc v startOn endOn → r ≡ s
 validate-one o vc v startOn endOn r s e f = one-answer r s (validateAnswer o vc v startOn endOn) e f
 
-pub order-one : (g : cuts.Given) (source : ℕ) (cutAt : List ℕ) (cut : List Float) (r s : CountAnswer) (a b : List ℕ) (p q : List Float)
-    → CutOrdered g source cutAt cut r a p → CutOrdered g source cutAt cut s b q → (r ≡ s) × (a ≡ b) × (p ≡ q)
-order-one g source cutAt cut r s a b p q x y =
+pub order-one : (g : cuts.Given) (cutAt : List ℕ) (cut : List Float) (r s : CountAnswer) (a b : List ℕ) (p q : List Float)
+    → CutOrdered g cutAt cut r a p → CutOrdered g cutAt cut s b q → (r ≡ s) × (a ≡ b) × (p ≡ q)
+order-one g cutAt cut r s a b p q x y =
     (one-answer r s _ (x .answers) (y .answers), one-answer a b _ (x .numbers) (y .numbers), one-answer p q _ (x .points) (y .points))
 
-pub candidates-one : (g : cuts.Given) (source : ℕ) (splits : List Float) (l : slices.Rooms) (r s : CountAnswer) (a b : slices.Rooms)
-    → Sliced g source splits l r a → Sliced g source splits l s b → (r ≡ s) × (a .at ≡ b .at) × (a .cand ≡ b .cand) × (a .probe ≡ b .probe)
-candidates-one g source splits l r s a b x y =
+pub candidates-one : (g : cuts.Given) (splits : List Float) (l : slices.Rooms) (r s : CountAnswer) (a b : slices.Rooms)
+    → Sliced g splits l r a → Sliced g splits l s b → (r ≡ s) × (a .at ≡ b .at) × (a .cand ≡ b .cand) × (a .probe ≡ b .probe)
+candidates-one g splits l r s a b x y =
     (one-answer r s _ (x .answers) (y .answers), one-answer (a .at) (b .at) _ (x .at) (y .at), one-answer (a .cand) (b .cand) _ (x .cand) (y .cand), one-answer (a .probe) (b .probe) _ (x .probe) (y .probe))
 
 pub prune-one : (c : Given) (l : slice.Rooms) (r s : PruneAnswer) (a b : slice.Rooms)

@@ -1,19 +1,19 @@
 -- The pipeline never refuses itself: what `mask_candidates` returns for both outlines, `mask_prune` accepts, and what `mask_prune` returns, `mask_stitch` accepts.
 -- Each call is taken by its contract, so this holds of the exported entries.
-use Prim.Native.Nat.{ℕ, _+_, _*_, _≤_, _<_}
-use mathlib.Core.Bool.{true}
-use mathlib.Core.Path.{_≡_, sym, ap, subst}
+use Prim.Native.Nat.{ℕ, _+_, _*_, _≤_}
+use mathlib.Core.Bool.{Bool, true}
+use mathlib.Core.Path.{_≡_, ap, subst}
 use mathlib.Core.List.{List}
 use lib.ListN.{length, take}
 use lib.Ieee.{Float}
-use borrow.Author.Tests.{not-false}
 use Rattle.basis.specs.Each.{placesBelow, placesAtMost, choicesKnown}
 use Rattle.basis.specs.RefuseLaws.{answer-accepted}
+use Rattle.outline.specs.Outline.{Whole}
 use Rattle.cut.specs.Cuts as cuts
+use Rattle.cut.specs.Cuts.{whichOf}
 use Rattle.candidate.specs.Ready as slices
 use Rattle.basis.specs.declared.answer.CountAnswer.{CountAnswer}
-use Rattle.cut_entries.specs.CutRows.{whichOf}
-use Rattle.cut_entries.specs.CutRowsLaws.{which-lt, cuts-ready}
+use Rattle.cut_entries.specs.CutRowsLaws.{CutsPass, cuts-accepted}
 use Rattle.candidate_entries.specs.Candidates.{Sliced}
 use Rattle.slice.specs.Slice.{codeWidth, shapeWidth}
 use Rattle.slice.specs.Ready as slice
@@ -26,19 +26,19 @@ use Rattle.stitch.specs.Lent.{Lists, Long}
 use Rattle.stitch_entries.specs.declared.answer.StitchAnswer.{StitchAnswer}
 use Rattle.stitch_entries.specs.Answers.{stitchRefused}
 use Rattle.stitch_entries.specs.StitchEntry.{stitchNumber, StitchLeft}
-use Rattle.mask.specs.Accept.{CutsPass, cuts-pass, cands-made, CandsPass, LapsPass, prune-passes, slices-made, stitch-passes}
+use Rattle.mask.specs.Accept.{made-pass, cands-made, CandsPass, LapsPass, prune-passes, slices-made, stitch-passes}
 
 -- ---- from the candidates to the slices
 
 -- an accepted call of `mask_candidates`: what was handed in and lent, the answer, and what was left, by the contract of the entry
 pub record Made (source : ℕ) : Type 0 where
   pub handed : cuts.Given
-  pub which : handed .which ≡ whichOf source
+  pub of : handed .source ≡ source
   pub splits : List Float
   pub lent : slices.Rooms
   pub answer : CountAnswer
   pub left : slices.Rooms
-  pub holds : Sliced handed source splits lent answer left
+  pub holds : Sliced handed splits lent answer left
   pub accepted : answer .refusal ≡ 0
 
 -- what the host hands on: as many items as were counted, and its yes or no for each
@@ -50,60 +50,47 @@ pub record Told (n : ℕ) (inside : List ℕ) : Type 0 where
   pub each : length inside ≡ n
   pub known : choicesKnown 1 0 inside ≡ true
 
--- "given its overlaps pass": both calls had the same overlaps, and the view of each, which the entries over cuts do not look at, fits outline 2
-pub record Laps (one : Made 1) (two : Made 2) : Type 0 where
-  pub places : two .handed .lapAt ≡ one .handed .lapAt
-  pub starts : placesBelow 7 5 (two .handed .vc) (one .handed .lapAt) ≡ true
-  pub reaches : placesAtMost 7 6 (two .handed .vc) (one .handed .lapAt) ≡ true
-
 abbrev pub pruneCall : Made 1 → Made 2 → ℕ → ℕ → List ℕ → List ℕ → Given
 pruneCall one two mode opposing inside1 inside2 =
     given (callOf mode opposing (one .handed .vc) (two .handed .vc) (one .answer .count) (two .answer .count) (one .handed .laps)) (handOn one inside1) (handOn two inside2)
     (overlaps (one .handed .lapAt) (one .handed .lap))
 
-which-of : {source : ℕ} (m : Made source) → m .handed .which < 2
-which-of {source = source} m = subst (λ (n : ℕ). n < 2) (sym (m .which)) (which-lt source)
+passed : {source : ℕ} (m : Made source) → CutsPass (m .handed)
+passed m = made-pass (m .handed) (m .splits) (m .lent) (m .answer) (m .left) (m .holds) (m .accepted) .cuts
 
-passed : {source : ℕ} (m : Made source) → CutsPass (m .handed) source (m .splits)
-passed {source = source} m = cuts-pass (m .handed) source (m .splits) (m .lent) (m .answer) (m .left) (m .holds) (m .accepted) (which-of m)
-
-ready-of : {source : ℕ} (m : Made source) → cuts.Ready (m .handed)
-ready-of {source = source} m = let p = passed m in cuts-ready (m .handed) source (which-of m) (p .lists) (p .values) (p .indexes)
+whole-of : {source : ℕ} (m : Made source) → Whole (m .handed .outline) (m .handed .vc)
+whole-of m = cuts-accepted (m .handed) (passed m) .ready .whole
 
 cands-pass : {source : ℕ} (m : Made source) (inside : List ℕ) → Told (m .answer .count) inside → CandsPass (m .handed .vc) (m .answer .count) (handOn m inside)
-cands-pass {source = source} m inside t =
-    record {
-      made = cands-made (m .handed) source (m .splits) (m .lent) (m .answer) (m .left) (m .holds) (m .accepted) (which-of m);
-      told = t .each;
-      known = t .known;
-    }
+cands-pass m inside t =
+    record { made = cands-made (m .handed) (m .splits) (m .lent) (m .answer) (m .left) (m .holds) (m .accepted); told = t .each; known = t .known }
 
-module _ (one : Made 1) (two : Made 2) (laps : Laps one two) where
+-- both calls had the same overlaps: each looked at their indexes on its own outline, and the second at their views
+module _ (one : Made 1) (two : Made 2) (same : two .handed .lapAt ≡ one .handed .lapAt) where
   -- the rows of the indexes, at the place of each outline
-  index-row : {source : ℕ} (m : Made source) (place : ℕ → ℕ) (w : ℕ) → m .handed .which ≡ w → placesBelow 7 (place (m .handed .which)) (m .handed .vc) (m .handed .lapAt) ≡ true
-      → placesBelow 7 (place w) (m .handed .vc) (m .handed .lapAt) ≡ true
-  index-row m place w e h = subst (λ (n : ℕ). placesBelow 7 (place n) (m .handed .vc) (m .handed .lapAt) ≡ true) e h
+  index-row : {source : ℕ} (m : Made source) (place : ℕ → ℕ) → placesBelow 7 (place (whichOf (m .handed .source))) (m .handed .vc) (m .handed .lapAt) ≡ true
+      → placesBelow 7 (place (whichOf source)) (m .handed .vc) (m .handed .lapAt) ≡ true
+  index-row m place h = subst (λ (n : ℕ). placesBelow 7 (place (whichOf n)) (m .handed .vc) (m .handed .lapAt) ≡ true) (m .of) h
 
-  of-first : (k : ℕ) → placesBelow 7 k (two .handed .vc) (two .handed .lapAt) ≡ true → placesBelow 7 k (two .handed .vc) (one .handed .lapAt) ≡ true
-  of-first k h = subst (λ (l : List ℕ). placesBelow 7 k (two .handed .vc) l ≡ true) (laps .places) h
+  -- what the second call found of its overlaps holds of the first's
+  of-first : (test : List ℕ → Bool) → test (two .handed .lapAt) ≡ true → test (one .handed .lapAt) ≡ true
+  of-first test h = subst (λ (l : List ℕ). test l ≡ true) same h
 
   laps-pass : LapsPass (one .handed .vc) (two .handed .vc) (one .handed .laps) (overlaps (one .handed .lapAt) (one .handed .lap))
   unfolding whichOf
   laps-pass =
       let p = passed one in
       let q = passed two in
-      let r = ready-of one in
-      let sevens = r .lapSevens in
       record {
-        fit = record { few = r .fewLaps; at = sevens; shape = r .lapSixes };
-        codes = not-false _ (p .values .1 .1 .0);
-        starts1 = index-row one (λ n. n) 0 (one .which) (not-false _ (p .indexes .1 .0));
-        starts2 = of-first 1 (index-row two (λ n. n) 1 (two .which) (not-false _ (q .indexes .1 .0)));
-        ends1 = index-row one (λ n. 2 + n) 0 (one .which) (not-false _ (p .indexes .1 .1 .0));
-        ends2 = of-first 3 (index-row two (λ n. 2 + n) 1 (two .which) (not-false _ (q .indexes .1 .1 .0)));
-        views = laps .starts;
-        reaches = laps .reaches;
-        numbers = not-false _ (p .values .1 .1 .1 .1 .1 .1 .0);
+        fit = record { few = p .fewLaps; at = p .lapAtLength; shape = p .lapLength };
+        codes = p .opposing;
+        starts1 = index-row one (λ n. n) (p .startsBelow);
+        starts2 = of-first (placesBelow 7 1 (two .handed .vc)) (index-row two (λ n. n) (q .startsBelow));
+        ends1 = index-row one (λ n. 2 + n) (p .endsBelow);
+        ends2 = of-first (placesBelow 7 3 (two .handed .vc)) (index-row two (λ n. 2 + n) (q .endsBelow));
+        views = of-first (placesBelow 7 5 (two .handed .vc)) (q .viewStarts (two .of));
+        reaches = of-first (placesAtMost 7 6 (two .handed .vc)) (q .viewOffsets (two .of));
+        numbers = p .lapWithin;
       }
 
   -- whatever the mode, the outlines' own directions and the host's yes and no
@@ -116,8 +103,8 @@ module _ (one : Made 1) (two : Made 2) (laps : Laps one two) where
     prune-accepts l roomy =
         prune-passes call l
         (record {
-          sized1 = passed one .values .0;
-          sized2 = passed two .values .0;
+          sized1 = passed one .sized;
+          sized2 = passed two .sized;
           mode = known;
           choice = choice;
           first = cands-pass one inside1 told1;
@@ -139,21 +126,19 @@ module _ (one : Made 1) (two : Made 2) (laps : Laps one two) where
 
       pub stitch-accepts : (selector : ℕ) (x : Lists) → selector ≤ 1 → Long (stitchCall selector) x → stitchNumber (stitchCall selector) x ≡ 0
       stitch-accepts selector x choice long =
-          let p = passed one in
-          let q = passed two in
           stitch-passes (stitchCall selector) x
           (record {
-            whole1 = ready-of one .whole;
-            whole2 = ready-of two .whole;
-            numbers1 = not-false _ (p .values .1 .1 .1 .1 .0);
-            numbers2 = not-false _ (q .values .1 .1 .1 .1 .0);
-            tolerance = not-false _ (p .values .1 .1 .1 .0);
+            whole1 = whole-of one;
+            whole2 = whole-of two;
+            numbers1 = passed one .outlineWithin;
+            numbers2 = passed two .outlineWithin;
+            tolerance = passed one .tolerance;
             selector = choice;
             slices = slices-made call l r left holds pruned;
             long = long;
           })
 
-      -- "So a host that goes by the needs never sees a refusal in the middle."
+      -- so a host that goes by the needs never sees a refusal in the middle
       pub never-refuses : (selector : ℕ) (x : Lists) (s : StitchAnswer) (y : Lists) → selector ≤ 1 → Long (stitchCall selector) x → StitchLeft (stitchCall selector) x s y
           → (r .refusal ≡ 0) × (s .refusal ≡ 0)
       never-refuses selector x s y choice long kept =

@@ -1,8 +1,7 @@
 // Cuts and candidates.
 ghost use Rattle.basis.specs.Number.{toleranceOf};
-ghost use Rattle.cut.specs.Cuts.{given};
+ghost use Rattle.cut.specs.Cuts.{given, caseOf};
 ghost use Rattle.candidate.specs.Ready.{rooms};
-ghost use Rattle.cut_entries.specs.CutRows.{whichOf};
 ghost use Rattle.cut_entries.specs.CutOrder.{CutOrdered};
 ghost use Rattle.candidate_entries.specs.Candidates.{Sliced};
 use basis::answer::CountAnswer;
@@ -23,7 +22,7 @@ pub extern "C" fn mask_cut_order(
     cut_at: &mut [usize],
     cut: &mut [f64],
 ) -> CountAnswer
-    ensures { λ r. ⌜ CutOrdered (given (now (outline .entry)) vc (whichOf source) (now («hit_at» .entry)) (now (hit .entry)) hits (now («lap_at» .entry)) (now (lap .entry)) laps (toleranceOf tolerance)) source (now («cut_at» .entry)) (now (cut .entry)) r (now («cut_at» .exit)) (now (cut .exit)) ⌝ }
+    ensures { λ r. ⌜ CutOrdered (given (now (outline .entry)) (now («hit_at» .entry)) (now (hit .entry)) (now («lap_at» .entry)) (now (lap .entry)) (caseOf vc source hits laps (toleranceOf tolerance))) (now («cut_at» .entry)) (now (cut .entry)) r (now («cut_at» .exit)) (now (cut .exit)) ⌝ }
 {
     cut_entries::order::entry(
         outline,
@@ -59,7 +58,7 @@ pub extern "C" fn mask_candidates(
     cand: &mut [f64],
     probe: &mut [f64],
 ) -> CountAnswer
-    ensures { λ r. ⌜ Sliced (given (now (outline .entry)) vc (whichOf source) (now («hit_at» .entry)) (now (hit .entry)) hits (now («lap_at» .entry)) (now (lap .entry)) laps (toleranceOf tolerance)) source (now (splits .entry)) (rooms (now («cand_at» .entry)) (now (cand .entry)) (now (probe .entry))) r (rooms (now («cand_at» .exit)) (now (cand .exit)) (now (probe .exit))) ⌝ }
+    ensures { λ r. ⌜ Sliced (given (now (outline .entry)) (now («hit_at» .entry)) (now (hit .entry)) (now («lap_at» .entry)) (now (lap .entry)) (caseOf vc source hits laps (toleranceOf tolerance))) (now (splits .entry)) (rooms (now («cand_at» .entry)) (now (cand .entry)) (now (probe .entry))) r (rooms (now («cand_at» .exit)) (now (cand .exit)) (now (probe .exit))) ⌝ }
 {
     candidate_entries::slicing::entry(
         outline,

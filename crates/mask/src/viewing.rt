@@ -3,10 +3,12 @@ ghost use mathlib.Core.Path.{_≡_};
 ghost use Rattle.basis.specs.Number.{toleranceOf};
 ghost use Rattle.view_entries.specs.Inputs.{walkOf};
 ghost use Rattle.view_entries.specs.ViewVertex.{viewVertexAnswer};
+ghost use Rattle.view_entries.specs.ViewVertices.{VerticesLeft};
 ghost use Rattle.view_entries.specs.CreateEntry.{createAnswer};
 ghost use Rattle.view_entries.specs.SingleEntry.{singleAnswer};
 ghost use Rattle.view_entries.specs.EntireEntry.{entireAnswer};
 ghost use Rattle.verdict_entries.specs.ValidateEntry.{validateAnswer};
+use basis::answer::CountAnswer;
 use outline::point::Point;
 use outline::point::Vertex;
 use verdict_entries::answer::VerdictAnswer;
@@ -26,6 +28,19 @@ pub extern "C" fn mask_view_vertex(
     ensures { λ r. ⌜ r ≡ viewVertexAnswer (now (outline .entry)) vc view index ⌝ }
 {
     view_entries::view_vertex::entry(outline, vc, view, index)
+}
+
+// All vertices of a view, three numbers each: vertex k is what `mask_view_vertex` answers for k.
+#[no_mangle]
+pub extern "C" fn mask_view_vertices(
+    outline: &[f64],
+    vc: usize,
+    view: View,
+    vertices: &mut [f64],
+) -> CountAnswer
+    ensures { λ r. ⌜ VerticesLeft (now (outline .entry)) vc view (now (vertices .entry)) r (now (vertices .exit)) ⌝ }
+{
+    view_entries::view_vertices::entry(outline, vc, view, vertices)
 }
 
 // The view that walks from its start over `traverse_count` segments to an end on the segment at `intersect_index`.

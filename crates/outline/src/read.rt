@@ -4,12 +4,15 @@ ghost use Rattle.outline.specs.Outline.{Triple, Turn, Near, wrap, vertex
 use crate::point::Point;
 use crate::point::Vertex;
 
-// An index below twice the vertex count, wrapped by it. Every wrapped index of the library comes from here.
+// An index below twice the vertex count, wrapped by it: one comparison and one subtraction. Every wrapped index of the library comes from here.
 pub fn wrapped(i: usize, vc: usize) -> usize
     requires { ⌜ Turn vc i ⌝ }
     ensures { λ r. ⌜ r ≡ wrap vc i ⌝ }
 {
-    i % vc
+    if i < vc {
+        return i;
+    }
+    i - vc
 }
 
 // The point whose two numbers stand from place i on.

@@ -6,7 +6,7 @@ use mathlib.Core.List.{List, [], _∷_}
 use native.Mathlib.Omega.{arith}
 use native.Mathlib.Nat.{mul-le-mul}
 use borrow.Author.Tests.{leb-true, not-true, not-false}
-use lib.Dec.{leb, eqb}
+use lib.Dec.{ltb, leb, eqb}
 use lib.Ieee.{Float}
 use lib.ListN.{length, getD, drop, List·getD-append}
 use Rattle.basis.specs.Choice.{and-left}
@@ -17,8 +17,12 @@ use Rattle.fields.specs.FieldLaws.{length-unpack}
 use Rattle.fields.specs.Ready.{Fitted, fit-none, fit-one, ShapeAt, ShapeRead}
 use Rattle.basis.specs.StoreLaws.{sets-front}
 use Rattle.record.specs.declared.form.Version.{Version}
-use Rattle.record.specs.declared.head.Head.{Head}
-use Rattle.record.specs.Record.{markOk, frameRows, takenRows, countRows}
+use Rattle.stitch_run.specs.declared.plan.Plan.{Plan}
+use Rattle.record.specs.declared.head.Lengths.{Lengths}
+use Rattle.basis.specs.Number.{toleranceOf}
+use Rattle.slice.specs.Faults as slices
+use Rattle.stitch_run.specs.Stitch.{planOf}
+use Rattle.record.specs.Record.{markOk, frameRows, takenRows, countRows, roomRows}
 use Rattle.record.specs.Ready.{HeadFit, HeadRead, Sized}
 
 -- ---- the mark
@@ -41,8 +45,8 @@ pub eqb-right : {a a′ : ℕ} (n : ℕ) → a ≡ a′ → not (eqb n a) ≡ no
 eqb-right n e = ap (λ (k : ℕ). not (eqb n k)) e
 
 -- ---- the length as the counts say
-pub slices-small : {v : Version} {h : Head} → Sized v h → h .slices * v .stride ≤ 8388608
-slices-small {v} {h} s = let p : h .slices ≤ 65536 = omega (arith, s .counts .third) in mul-le-mul p (s .stride)
+pub slices-small : {v : Version} {p : Plan} → Sized v p → p .slices * v .stride ≤ 8388608
+slices-small {v} {p} s = let few : p .slices ≤ 65536 = omega (arith, s .counts .third) in mul-le-mul few (s .stride)
 
 -- ---- the head's numbers
 fitted-at : {ws vs : List ℕ} (i : ℕ) → Fitted ws vs → i < length ws → getD vs i 0 < 256 ^ getD ws i 0
@@ -73,19 +77,14 @@ module _ {v : Version} {hs b : List ℕ} (h : HeadFit v hs b) {z f : List ℕ} (
 
   pub head-read : (t : Float) → t ≡ numOf (getD f 7 0)
       → HeadRead v hs b
-      (record {
-        vc1 = getD f 4 0;
-        vc2 = getD f 5 0;
-        selector = getD f 6 0;
-        tolerance = t;
-        starts = record { pline2 = getD f (v .later) 0; «pline1_overlapping» = getD f (v .later + 1) 0; «pline2_overlapping» = getD f (v .later + 2) 0 };
-        slices = getD f (v .later + 3) 0;
-      })
+      (planOf (getD f 4 0) (getD f 5 0) (getD f (v .later + 3) 0)
+      (record { pline2 = getD f (v .later) 0; «pline1_overlapping» = getD f (v .later + 1) 0; «pline2_overlapping» = getD f (v .later + 2) 0 })
+      (getD f 6 0) (toleranceOf t))
   head-read t e =
       let k : v .later + 4 ≤ length hs = h .head .high in
       let j : 8 ≤ v .later = h .head .low in
       record {
-        head =
+        plan =
             rw (
               e,
               field-at 4 (omega arith),
@@ -106,6 +105,13 @@ module _ {v : Version} {hs b : List ℕ} (h : HeadFit v hs b) {z f : List ℕ} (
       }
 
 -- ---- the count's refusal
-pub counted : (n m : ℕ) (h : Head) (told found r : ℕ) → told ≡ m → found ≡ orElse 0 (not (eqb n told)) 13 → r ≡ firstFrom found (takenRows (h .vc1) (h .vc2) (h .slices)) → r ≡ firstFrom 0 (countRows n m h)
-counted n m h told found r e f g =
-    then-rows r found 0 (row (not (eqb n m)) 13 ∷ []) (takenRows (h .vc1) (h .vc2) (h .slices)) g (unfold firstFrom in (f ∙ ap (λ (k : ℕ). orElse 0 (not (eqb n k)) 13) e))
+pub counted : (n m : ℕ) (p : Plan) (told found r : ℕ) → told ≡ m → found ≡ orElse 0 (not (eqb n told)) 13 → r ≡ firstFrom found (takenRows p) → r ≡ firstFrom 0 (countRows n m p)
+counted n m p told found r e f g =
+    then-rows r found 0 (row (not (eqb n m)) 13 ∷ []) (takenRows p) g (unfold firstFrom in (f ∙ ap (λ (k : ℕ). orElse 0 (not (eqb n k)) 13) e))
+
+-- ---- the room's: that of the slices behind that of the outlines
+pub then-slices : (n q found : ℕ) (p : Plan) (l : Lengths) → n ≡ firstFrom q (slices.roomRows (p .slices) (l .«slice_at») (l .slice))
+    → q ≡ orElse (orElse found (ltb (l .outline1) (3 * p .vc1)) 9) (ltb (l .outline2) (3 * p .vc2)) 9 → n ≡ firstFrom found (roomRows p l)
+then-slices n q found p l e f =
+    then-rows n q found (row (ltb (l .outline1) (3 * p .vc1)) 9 ∷ row (ltb (l .outline2) (3 * p .vc2)) 9 ∷ [])
+    (slices.roomRows (p .slices) (l .«slice_at») (l .slice)) e (unfold firstFrom in f)

@@ -1,8 +1,9 @@
 -- Document 02, K1: the layout of the record `PBR`. A version is a table: the widths of its fields, in order.
-use Prim.Native.Nat.{ℕ, zero, suc}
+use Prim.Native.Nat.{ℕ, zero, suc, _+_}
 use mathlib.Core.List.{List, [], _∷_, _++_}
 use lib.ListN.{take, drop}
 use Rattle.fields.specs.Fields.{rows}
+use Rattle.slice.specs.Slice.{codeWidth, shapeWidth}
 
 -- The head's fields 0 to 7 are the same in every version: the mark's three bytes, the version, two vertex counts, the selector, the tolerance.
 -- `later` is the number of the field that is the first of three starts; the slice count follows them.
@@ -30,6 +31,17 @@ form1 =
 -- x, y, bulge
 abbrev pub vertexShape : List ℕ
 vertexShape = 8 ∷ 8 ∷ 8 ∷ []
+
+-- "The program takes at most 64 vertices an outline .., 28 slices"
+abbrev pub takenVertices : ℕ
+takenVertices = 64
+
+abbrev pub takenSlices : ℕ
+takenSlices = 28
+
+-- the fields of a slice that every version has
+abbrev pub commonWidth : ℕ
+commonWidth = codeWidth + shapeWidth
 
 -- what follows the head: "then the vertices of both outlines (x, y, bulge); then per slice .."
 unfoldable pub bodyOf : List ℕ → ℕ → ℕ → List ℕ

@@ -5,10 +5,10 @@ use mathlib.Core.List.{List}
 use lib.ListN.{length, getD}
 use Rattle.fields.specs.Fields.{size, unpack}
 use Rattle.fields.specs.Ready.{Narrow}
-use Rattle.record.specs.declared.head.Head.{Head}
+use Rattle.stitch_run.specs.declared.plan.Plan.{Plan}
 use Rattle.record.specs.declared.form.Version.{Version}
-use Rattle.record.specs.Form.{Form}
-use Rattle.record.specs.Record.{headAt}
+use Rattle.record.specs.Form.{Form, commonWidth}
+use Rattle.record.specs.Record.{planAt}
 
 -- the form that a version with these two tables is
 abbrev pub formOf : Version → List ℕ → List ℕ → Form
@@ -31,7 +31,7 @@ pub record HeadOk (v : Version) (hs : List ℕ) : Type 0 where
   pub count3 : getD hs (v .later + 3) 0 ≡ 2
 
 pub record EntryOk (v : Version) (es : List ℕ) : Type 0 where
-  pub enough : 10 ≤ length es
+  pub enough : commonWidth ≤ length es
   pub few : length es ≤ 16
   pub narrow : Narrow es
   pub bytes : v .stride ≡ size es
@@ -47,16 +47,16 @@ pub record HeadFit (v : Version) (hs b : List ℕ) : Type 0 where
   pub inside : v .bytes ≤ length b
 
 -- counts of 16 bits
-pub record Counts (h : Head) : Type 0 where
-  pub first : h .vc1 < 65536
-  pub second : h .vc2 < 65536
-  pub third : h .slices < 65536
+pub record Counts (p : Plan) : Type 0 where
+  pub first : p .vc1 < 65536
+  pub second : p .vc2 < 65536
+  pub third : p .slices < 65536
 
-pub record HeadRead (v : Version) (hs b : List ℕ) (h : Head) : Type 0 where
-  pub head : h ≡ headAt (v .later) (unpack hs b)
-  pub counts : Counts h
+pub record HeadRead (v : Version) (hs b : List ℕ) (p : Plan) : Type 0 where
+  pub plan : p ≡ planAt (v .later) (unpack hs b)
+  pub counts : Counts p
 
-pub record Sized (v : Version) (h : Head) : Type 0 where
-  pub counts : Counts h
+pub record Sized (v : Version) (p : Plan) : Type 0 where
+  pub counts : Counts p
   pub bytes : v .bytes ≤ 64
   pub stride : v .stride ≤ 128

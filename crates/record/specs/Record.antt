@@ -10,55 +10,72 @@ use Rattle.basis.specs.Number.{+0, toleranceOf}
 use Rattle.basis.specs.Refuse.{Row, row, firstOf, answer}
 use Rattle.basis.specs.Room.{roomOf}
 use Rattle.fields.specs.Fields.{size, valueOf, pack, unpack, numOf, bitsOf}
-use Rattle.stitch_run.specs.Stitch.{Given, given}
-use Rattle.record.specs.declared.head.Head.{Head}
+use Rattle.slice.specs.Slice.{codeWidth, shapeWidth}
+use Rattle.slice.specs.Faults as slices
+use Rattle.stitch_run.specs.declared.plan.Plan.{Plan}
+use Rattle.stitch_run.specs.Stitch.{Given, given, planOf}
 use Rattle.record.specs.declared.head.Seen.{Seen}
-use Rattle.record.specs.Form.{Form, bodyOf, column, mix}
+use Rattle.record.specs.declared.head.Lengths.{Lengths}
+use Rattle.record.specs.Form.{Form, takenVertices, takenSlices, bodyOf, column, mix}
+
+-- the lists of a stitch: both outlines, and of its slices the codes and the shapes
+pub record Lists : Type 0 where
+  pub outline1 : List Float
+  pub outline2 : List Float
+  pub sliceAt : List ℕ
+  pub slice : List Float
+
+abbrev pub lists : List Float → List Float → List ℕ → List Float → Lists
+lists o1 o2 at s = record { outline1 = o1; outline2 = o2; sliceAt = at; slice = s }
+
+-- a stitch by its lists and its plan, and the other way
+abbrev pub stitchBy : Lists → Plan → Given
+stitchBy l p = given (l .outline1) (l .outline2) (l .sliceAt) (l .slice) p
+
+abbrev pub listsIn : Given → Lists
+listsIn g = lists (g .outline1) (g .outline2) (g .sliceAt) (g .slice)
+
+abbrev pub planIn : Given → Plan
+planIn g = planOf (g .vc1) (g .vc2) (g .slices) (g .starts) (g .selector) (g .tolerance)
 
 -- ---- what bytes hold
 
--- the head whose fields have these values
-abbrev pub headAt : ℕ → List ℕ → Head
-headAt later vs =
-    record {
-      vc1 = getD vs 4 0;
-      vc2 = getD vs 5 0;
-      selector = getD vs 6 0;
-      tolerance = numOf (getD vs 7 0);
-      starts = record { pline2 = getD vs later 0; «pline1_overlapping» = getD vs (later + 1) 0; «pline2_overlapping» = getD vs (later + 2) 0 };
-      slices = getD vs (later + 3) 0;
-    }
+-- the plan that a head's fields with these values say
+abbrev pub planAt : ℕ → List ℕ → Plan
+planAt later vs =
+    planOf (getD vs 4 0) (getD vs 5 0) (getD vs (later + 3) 0)
+    (record { pline2 = getD vs later 0; «pline1_overlapping» = getD vs (later + 1) 0; «pline2_overlapping» = getD vs (later + 2) 0 })
+    (getD vs 6 0) (toleranceOf (numOf (getD vs 7 0)))
 
-unfoldable pub headIn : Form → List ℕ → Head
-headIn f b = headAt (f .later) (unpack (f .head) b)
+unfoldable pub headIn : Form → List ℕ → Plan
+headIn f b = planAt (f .later) (unpack (f .head) b)
 
--- the values of the fields that follow it
-unfoldable pub bodyIn : Form → Head → List ℕ → List ℕ
-bodyIn f h b = unpack (bodyOf (f .entry) (h .vc1 + h .vc2) (h .slices)) (drop (size (f .head)) b)
+-- the values of the fields that follow a head of so many bytes
+unfoldable pub bodyIn : ℕ → List ℕ → Plan → List ℕ → List ℕ
+bodyIn bytes entry p b = unpack (bodyOf entry (p .vc1 + p .vc2) (p .slices)) (drop bytes b)
 
--- the lists that these values are: both outlines, and of each slice its codes and its numbers
-unfoldable pub outline1Of : Head → List ℕ → List Float
-outline1Of h vs = map numOf (take (3 * h .vc1) vs)
+-- the lists that these values are, `stride` of them to a slice
+unfoldable pub outline1From : Plan → List ℕ → List Float
+outline1From p vs = map numOf (take (3 * p .vc1) vs)
 
-unfoldable pub outline2Of : Head → List ℕ → List Float
-outline2Of h vs = map numOf (take (3 * h .vc2) (drop (3 * h .vc1) vs))
+unfoldable pub outline2From : Plan → List ℕ → List Float
+outline2From p vs = map numOf (take (3 * p .vc2) (drop (3 * p .vc1) vs))
 
-abbrev pub slicesAt : Head → ℕ
-slicesAt h = 3 * h .vc1 + 3 * h .vc2
+abbrev pub slicesFrom : Plan → ℕ
+slicesFrom p = 3 * p .vc1 + 3 * p .vc2
 
-unfoldable pub codesOf : ℕ → Head → List ℕ → List ℕ
-codesOf stride h vs = column stride 0 4 (h .slices) (drop (slicesAt h) vs)
+unfoldable pub codesFrom : ℕ → Plan → List ℕ → List ℕ
+codesFrom stride p vs = column stride 0 codeWidth (p .slices) (drop (slicesFrom p) vs)
 
-unfoldable pub numbersOf : ℕ → Head → List ℕ → List Float
-numbersOf stride h vs = map numOf (column stride 4 6 (h .slices) (drop (slicesAt h) vs))
+unfoldable pub shapesFrom : ℕ → Plan → List ℕ → List Float
+shapesFrom stride p vs = map numOf (column stride codeWidth shapeWidth (p .slices) (drop (slicesFrom p) vs))
+
+abbrev pub listsFrom : ℕ → Plan → List ℕ → Lists
+listsFrom stride p vs = lists (outline1From p vs) (outline2From p vs) (codesFrom stride p vs) (shapesFrom stride p vs)
 
 -- the stitch
-unfoldable pub stitchOf : ℕ → Head → List ℕ → Given
-stitchOf stride h vs =
-    given (outline1Of h vs) (h .vc1) (outline2Of h vs) (h .vc2) (codesOf stride h vs) (numbersOf stride h vs) (h .slices) (h .starts) (h .selector) (toleranceOf (h .tolerance))
-
 unfoldable pub stitchIn : Form → List ℕ → Given
-stitchIn f b = stitchOf (length (f .entry)) (headIn f b) (bodyIn f (headIn f b) b)
+stitchIn f b = let p = headIn f b in stitchBy (listsFrom (length (f .entry)) p (bodyIn (size (f .head)) (f .entry) p b)) p
 
 -- ---- refusals, in the order looked at
 
@@ -71,61 +88,75 @@ abbrev pub frameRows : ℕ → ℕ → ℕ → List ℕ → List Row
 frameRows version bytes most b =
     row (not (markOk b)) 11 ∷ row (not (eqb (valueOf 2 (drop 3 b)) version)) 12 ∷ row (ltb (length b) bytes) 13 ∷ row (ltb most (length b)) 13 ∷ []
 
--- the length as the counts say
-unfoldable pub lengthOf : ℕ → ℕ → Head → ℕ
-lengthOf bytes stride h = bytes + (h .vc1 * 24 + (h .vc2 * 24 + h .slices * stride))
+-- the length as the counts say, with a head of so many bytes and `stride` bytes to a slice
+unfoldable pub lengthOf : ℕ → ℕ → Plan → ℕ
+lengthOf bytes stride p = bytes + (p .vc1 * 24 + (p .vc2 * 24 + p .slices * stride))
 
-abbrev pub lengthIn : Form → Head → ℕ
-lengthIn f h = lengthOf (size (f .head)) (size (f .entry)) h
+abbrev pub lengthIn : Form → Plan → ℕ
+lengthIn f p = lengthOf (size (f .head)) (size (f .entry)) p
 
 -- "The program takes at most 64 vertices an outline (else number 2), 28 slices (else 1)"
-abbrev pub takenRows : ℕ → ℕ → ℕ → List Row
-takenRows vc1 vc2 slices = row (ltb 28 slices) 1 ∷ row (ltb 64 vc1) 2 ∷ row (ltb 64 vc2) 2 ∷ []
+abbrev pub takenRows : Plan → List Row
+takenRows p = row (ltb takenSlices (p .slices)) 1 ∷ row (ltb takenVertices (p .vc1)) 2 ∷ row (ltb takenVertices (p .vc2)) 2 ∷ []
 
-abbrev pub countRows : ℕ → ℕ → Head → List Row
-countRows n m h = row (not (eqb n m)) 13 ∷ takenRows (h .vc1) (h .vc2) (h .slices)
+abbrev pub countRows : ℕ → ℕ → Plan → List Row
+countRows n m p = row (not (eqb n m)) 13 ∷ takenRows p
 
 -- 9: a lent list is too short for what is read
-abbrev pub roomRows : Head → ℕ → ℕ → ℕ → ℕ → List Row
-roomRows h r1 r2 r3 r4 =
-    row (ltb r1 (3 * h .vc1)) 9 ∷ row (ltb r2 (3 * h .vc2)) 9 ∷ row (ltb r3 (4 * h .slices)) 9 ∷ row (ltb r4 (6 * h .slices)) 9 ∷ []
+abbrev pub roomRows : Plan → Lengths → List Row
+roomRows p l = row (ltb (l .outline1) (3 * p .vc1)) 9 ∷ row (ltb (l .outline2) (3 * p .vc2)) 9 ∷ slices.roomRows (p .slices) (l .«slice_at») (l .slice)
 
-unfoldable pub readRefusal : Form → List ℕ → ℕ → ℕ → ℕ → ℕ → ℕ
-readRefusal f b r1 r2 r3 r4 =
-    firstOf
-    (frameRows (f .version) (size (f .head)) (f .most) b
-    ++ (countRows (length b) (lengthIn f (headIn f b)) (headIn f b) ++ roomRows (headIn f b) r1 r2 r3 r4))
+unfoldable pub readRows : Form → List ℕ → Lengths → List Row
+readRows f b l =
+    let p = headIn f b in
+    frameRows (f .version) (size (f .head)) (f .most) b ++ (countRows (length b) (lengthIn f p) p ++ roomRows p l)
+
+abbrev pub readRefusal : Form → List ℕ → Lengths → ℕ
+readRefusal f b l = firstOf (readRows f b l)
 
 -- ---- the reader's answer, and what it leaves in the lent lists
-abbrev pub noHead : Head
-noHead =
-    record { vc1 = 0; vc2 = 0; selector = 0; tolerance = +0; starts = record { pline2 = 0; «pline1_overlapping» = 0; «pline2_overlapping» = 0 }; slices = 0 }
+abbrev pub noPlan : Plan
+noPlan = planOf 0 0 0 (record { pline2 = 0; «pline1_overlapping» = 0; «pline2_overlapping» = 0 }) 0 (toleranceOf +0)
 
 abbrev pub seenRefused : ℕ → Seen
-seenRefused n = record { refusal = n; head = noHead }
+seenRefused n = record { refusal = n; plan = noPlan }
 
-abbrev pub seenGiven : Head → Seen
-seenGiven h = record { refusal = 0; head = h }
+abbrev pub seenGiven : Plan → Seen
+seenGiven p = record { refusal = 0; plan = p }
 
--- the outlines, codes and numbers of the stitch at the front of the lists, and beyond them what was there
-pub record ReadLeft (f : Form) (b : List ℕ) (o1 o2 : List Float) (at : List ℕ) (s : List Float) (r : Seen) (o1′ o2′ : List Float) (at′ : List ℕ) (s′ : List Float) : Type 0 where
-  pub answers : r ≡ answer seenRefused (readRefusal f b (length o1) (length o2) (length at) (length s)) (seenGiven (headIn f b))
-  pub first : o1′ ≡ answer (λ _. o1) (readRefusal f b (length o1) (length o2) (length at) (length s)) (roomOf +0 3 (headIn f b .vc1) (stitchIn f b .outline1) o1)
-  pub second : o2′ ≡ answer (λ _. o2) (readRefusal f b (length o1) (length o2) (length at) (length s)) (roomOf +0 3 (headIn f b .vc2) (stitchIn f b .outline2) o2)
-  pub codes : at′ ≡ answer (λ _. at) (readRefusal f b (length o1) (length o2) (length at) (length s)) (roomOf 0 4 (headIn f b .slices) (stitchIn f b .sliceAt) at)
-  pub numbers : s′ ≡ answer (λ _. s) (readRefusal f b (length o1) (length o2) (length at) (length s)) (roomOf +0 6 (headIn f b .slices) (stitchIn f b .slice) s)
+abbrev pub lengths : ℕ → ℕ → ℕ → ℕ → Lengths
+lengths o1 o2 at s = record { outline1 = o1; outline2 = o2; «slice_at» = at; slice = s }
+
+-- those of lists for all that the program takes
+abbrev pub takenLengths : Lengths
+takenLengths = lengths (3 * takenVertices) (3 * takenVertices) (codeWidth * takenSlices) (shapeWidth * takenSlices)
+
+abbrev pub lengthsOf : Lists → Lengths
+lengthsOf l = lengths (length (l .outline1)) (length (l .outline2)) (length (l .sliceAt)) (length (l .slice))
+
+-- the outlines, codes and shapes of the stitch at the front of the lists, and beyond them what was there
+pub record ReadLeft (f : Form) (b : List ℕ) (l : Lists) (r : Seen) (left : Lists) : Type 0 where
+  pub answers : r ≡ answer seenRefused (readRefusal f b (lengthsOf l)) (seenGiven (headIn f b))
+  pub first : left .outline1 ≡ answer (λ _. l .outline1) (readRefusal f b (lengthsOf l)) (roomOf +0 3 (headIn f b .vc1) (stitchIn f b .outline1) (l .outline1))
+  pub second : left .outline2 ≡ answer (λ _. l .outline2) (readRefusal f b (lengthsOf l)) (roomOf +0 3 (headIn f b .vc2) (stitchIn f b .outline2) (l .outline2))
+  pub codes : left .sliceAt ≡ answer (λ _. l .sliceAt) (readRefusal f b (lengthsOf l)) (roomOf 0 codeWidth (headIn f b .slices) (stitchIn f b .sliceAt) (l .sliceAt))
+  pub shapes : left .slice ≡ answer (λ _. l .slice) (readRefusal f b (lengthsOf l)) (roomOf +0 shapeWidth (headIn f b .slices) (stitchIn f b .slice) (l .slice))
 
 -- ---- the record of a stitch
 
 -- the values of the head's fields in version 1
-abbrev pub headOf : ℕ → Given → List ℕ
-headOf version g =
-    80 ∷ 66 ∷ 82 ∷ version ∷ g .vc1 ∷ g .vc2 ∷ g .selector ∷ bitsOf (g .tolerance .position)
-    ∷ g .starts .pline2 ∷ g .starts .«pline1_overlapping» ∷ g .starts .«pline2_overlapping» ∷ g .slices ∷ []
+abbrev pub headOf : ℕ → Plan → List ℕ
+headOf version p =
+    80 ∷ 66 ∷ 82 ∷ version ∷ p .vc1 ∷ p .vc2 ∷ p .selector ∷ bitsOf (p .tolerance .position)
+    ∷ p .starts .pline2 ∷ p .starts .«pline1_overlapping» ∷ p .starts .«pline2_overlapping» ∷ p .slices ∷ []
 
--- the values of the fields that follow it
-unfoldable pub valuesOf : Given → List ℕ
-valuesOf g = map bitsOf (g .outline1) ++ (map bitsOf (g .outline2) ++ mix 4 6 (g .slices) (g .sliceAt) (map bitsOf (g .slice)))
+-- the values of the fields that follow it, for so many slices
+unfoldable pub valuesOf : Lists → ℕ → List ℕ
+valuesOf l n = map bitsOf (l .outline1) ++ (map bitsOf (l .outline2) ++ mix codeWidth shapeWidth n (l .sliceAt) (map bitsOf (l .slice)))
+
+-- both, packed into bytes: a head, and what follows it of so many vertices and slices
+abbrev pub packed : List ℕ → List ℕ → List ℕ → List ℕ → ℕ → ℕ → List ℕ
+packed widths head entry values vertices slices = pack widths head ++ pack (bodyOf entry vertices slices) values
 
 unfoldable pub recordOf : Form → Given → List ℕ
-recordOf f g = pack (f .head) (headOf (f .version) g) ++ pack (bodyOf (f .entry) (g .vc1 + g .vc2) (g .slices)) (valuesOf g)
+recordOf f g = packed (f .head) (headOf (f .version) (planIn g)) (f .entry) (valuesOf (listsIn g) (g .slices)) (g .vc1 + g .vc2) (g .slices)

@@ -6,10 +6,9 @@ use native.Mathlib.Omega.{arith}
 use Rattle.fields.specs.Fields.{size}
 use Rattle.fields.specs.FieldLaws.{thin-narrow}
 use Rattle.record.specs.declared.form.Version.{Version}
-use lib.Ieee.{Float}
 use Rattle.record.specs.declared.head.Seen.{Seen}
 use Rattle.record.specs.Form.{form1}
-use Rattle.record.specs.Record.{ReadLeft}
+use Rattle.record.specs.Record.{Lists, ReadLeft}
 use Rattle.record.specs.Ready.{versionOf, formOf, VersionOk}
 
 version1 : VersionOk (versionOf form1) (form1 .head) (form1 .entry)
@@ -36,6 +35,5 @@ version1 =
 pub tables1 : {v : Version} {hs es : List ℕ} → v ≡ versionOf form1 → hs ≡ form1 .head → es ≡ form1 .entry → VersionOk v hs es
 tables1 e f g = rw (e, f, g) version1
 
-pub read1 : {v : Version} {hs es b : List ℕ} {o1 o2 : List Float} {at : List ℕ} {s : List Float} {r : Seen} {o1′ o2′ : List Float} {at′ : List ℕ} {s′ : List Float}
-    → v ≡ versionOf form1 → hs ≡ form1 .head → es ≡ form1 .entry → ReadLeft (formOf v hs es) b o1 o2 at s r o1′ o2′ at′ s′ → ReadLeft form1 b o1 o2 at s r o1′ o2′ at′ s′
+pub read1 : {v : Version} {hs es b : List ℕ} {l : Lists} {r : Seen} {left : Lists} → v ≡ versionOf form1 → hs ≡ form1 .head → es ≡ form1 .entry → ReadLeft (formOf v hs es) b l r left → ReadLeft form1 b l r left
 read1 e f g w = rw (e, f, g) at w

@@ -2,14 +2,13 @@
 use Prim.Native.Nat.{ℕ, _+_, _*_, _≤_}
 use mathlib.Core.Path.{_≡_}
 use mathlib.Core.List.{List}
-use lib.ListN.{drop}
 use lib.Seq.{sets}
-use lib.Ieee.{Float}
-use Rattle.fields.specs.Fields.{unpack}
-use Rattle.record.specs.declared.head.Head.{Head}
+use Rattle.slice.specs.Slice.{codeWidth, shapeWidth}
+use Rattle.stitch_run.specs.declared.plan.Plan.{Plan}
 use Rattle.record.specs.declared.form.Version.{Version}
-use Rattle.record.specs.Form.{bodyOf}
-use Rattle.record.specs.Record.{outline1Of, outline2Of, slicesAt, codesOf, numbersOf, lengthOf}
+use Rattle.record.specs.declared.head.Lengths.{Lengths}
+use Rattle.record.specs.Form.{takenVertices, takenSlices, commonWidth}
+use Rattle.record.specs.Record.{Lists, outline1From, outline2From, slicesFrom, codesFrom, shapesFrom, lengthOf}
 use Rattle.record.specs.Ready.{EntryOk}
 
 -- rows of values, and room for what is wanted of them
@@ -18,43 +17,40 @@ pub record ColumnFit (n from stride offset per count m : ℕ) : Type 0 where
   pub inside : from + count * stride ≤ n
   pub target : count * per ≤ m
 
--- room for the lists of a head, of n values in all
-pub record ListsFit (h : Head) (stride n r1 r2 r3 r4 : ℕ) : Type 0 where
-  pub enough : 10 ≤ stride
-  pub whole : slicesAt h + h .slices * stride ≡ n
-  pub first : 3 * h .vc1 ≤ r1
-  pub second : 3 * h .vc2 ≤ r2
-  pub codes : h .slices * 4 ≤ r3
-  pub numbers : h .slices * 6 ≤ r4
+-- room for the lists of a plan
+pub record Roomy (p : Plan) (l : Lengths) : Type 0 where
+  pub first : 3 * p .vc1 ≤ l .outline1
+  pub second : 3 * p .vc2 ≤ l .outline2
+  pub codes : codeWidth * p .slices ≤ l .«slice_at»
+  pub shapes : shapeWidth * p .slices ≤ l .slice
 
-pub record ListsFilled (h : Head) (stride : ℕ) (vs : List ℕ) (o1 o2 : List Float) (at : List ℕ) (s : List Float) (o1′ o2′ : List Float) (at′ : List ℕ) (s′ : List Float) : Type 0 where
-  pub first : o1′ ≡ sets o1 0 (outline1Of h vs)
-  pub second : o2′ ≡ sets o2 0 (outline2Of h vs)
-  pub codes : at′ ≡ sets at 0 (codesOf stride h vs)
-  pub numbers : s′ ≡ sets s 0 (numbersOf stride h vs)
+-- and n values in all
+pub record ListsFit (p : Plan) (stride n : ℕ) (l : Lengths) : Type 0 where
+  pub enough : commonWidth ≤ stride
+  pub whole : slicesFrom p + p .slices * stride ≡ n
+  pub roomy : Roomy p l
+
+pub record ListsFilled (p : Plan) (stride : ℕ) (vs : List ℕ) (l left : Lists) : Type 0 where
+  pub first : left .outline1 ≡ sets (l .outline1) 0 (outline1From p vs)
+  pub second : left .outline2 ≡ sets (l .outline2) 0 (outline2From p vs)
+  pub codes : left .sliceAt ≡ sets (l .sliceAt) 0 (codesFrom stride p vs)
+  pub shapes : left .slice ≡ sets (l .slice) 0 (shapesFrom stride p vs)
 
 -- the whole record, of n bytes, is there, within what the program takes
-pub record Whole (v : Version) (es : List ℕ) (n : ℕ) (h : Head) : Type 0 where
+pub record Whole (v : Version) (es : List ℕ) (n : ℕ) (p : Plan) : Type 0 where
   pub entry : EntryOk v es
   pub bytes : v .bytes ≤ 64
-  pub whole : n ≡ lengthOf (v .bytes) (v .stride) h
-  pub few1 : h .vc1 ≤ 64
-  pub few2 : h .vc2 ≤ 64
-  pub few3 : h .slices ≤ 28
+  pub whole : n ≡ lengthOf (v .bytes) (v .stride) p
+  pub few1 : p .vc1 ≤ takenVertices
+  pub few2 : p .vc2 ≤ takenVertices
+  pub few3 : p .slices ≤ takenSlices
 
 -- and room for m values
-pub record ValuesFit (v : Version) (es : List ℕ) (n : ℕ) (h : Head) (m : ℕ) : Type 0 where
-  pub all : Whole v es n h
+pub record ValuesFit (v : Version) (es : List ℕ) (n : ℕ) (p : Plan) (m : ℕ) : Type 0 where
+  pub all : Whole v es n p
   pub room : 1024 ≤ m
 
 -- and lists with room for what they hold
-pub record BodyFit (v : Version) (es : List ℕ) (n : ℕ) (h : Head) (r1 r2 r3 r4 : ℕ) : Type 0 where
-  pub all : Whole v es n h
-  pub first : 3 * h .vc1 ≤ r1
-  pub second : 3 * h .vc2 ≤ r2
-  pub codes : 4 * h .slices ≤ r3
-  pub numbers : 6 * h .slices ≤ r4
-
--- the values of the fields that follow the head
-abbrev pub bodyValues : Version → List ℕ → Head → List ℕ → List ℕ
-bodyValues v es h b = unpack (bodyOf es (h .vc1 + h .vc2) (h .slices)) (drop (v .bytes) b)
+pub record BodyFit (v : Version) (es : List ℕ) (n : ℕ) (p : Plan) (l : Lengths) : Type 0 where
+  pub all : Whole v es n p
+  pub roomy : Roomy p l

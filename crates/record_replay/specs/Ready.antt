@@ -1,9 +1,16 @@
--- What a head's lists require of the lists that hold them.
-use Prim.Native.Nat.{ℕ, _*_, _≤_}
-use Rattle.record.specs.declared.head.Head.{Head}
+-- The lists that a record is read to, and the part of them that a plan names.
+use Prim.Native.Nat.{ℕ, _*_}
+use mathlib.Core.List.{List}
+use lib.ListN.{take}
+use lib.Ieee.{Float}
+use Rattle.slice.specs.Slice.{codeWidth, shapeWidth}
+use Rattle.stitch_run.specs.declared.plan.Plan.{Plan}
+use Rattle.record.specs.Record.{Lists, lists}
 
-pub record HeldFit (h : Head) (r1 r2 r3 r4 : ℕ) : Type 0 where
-  pub first : 3 * h .vc1 ≤ r1
-  pub second : 3 * h .vc2 ≤ r2
-  pub codes : 4 * h .slices ≤ r3
-  pub numbers : 6 * h .slices ≤ r4
+abbrev pub reading : List Float → List Float → List ℕ → List Float → Lists
+reading o1 o2 at s = lists o1 o2 at s
+
+-- the fronts of the lists, as long as the counts say
+abbrev pub fronts : Plan → Lists → Lists
+fronts p l =
+    lists (take (3 * p .vc1) (l .outline1)) (take (3 * p .vc2) (l .outline2)) (take (codeWidth * p .slices) (l .sliceAt)) (take (shapeWidth * p .slices) (l .slice))

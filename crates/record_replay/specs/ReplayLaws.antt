@@ -4,28 +4,27 @@ use mathlib.Core.Path.{_≡_, refl, sym, ap, subst, _∙_}
 use mathlib.Core.List.{List}
 use native.Mathlib.Omega.{arith}
 use lib.ListN.{length, take, length-append}
-use lib.Ieee.{Float}
-use Rattle.basis.specs.Number.{+0, toleranceOf}
-use Rattle.basis.specs.declared.number.Tolerance.{Tolerance}
+use Rattle.basis.specs.Number.{+0}
 use Rattle.basis.specs.Refuse.{answer}
 use Rattle.basis.specs.RefuseLaws.{answer-no, answer-yes, answer-accepted}
 use Rattle.basis.specs.Room.{roomOf}
 use Rattle.basis.specs.RoomLaws.{room-front}
-use Rattle.select.specs.declared.class.Starts.{Starts}
-use Rattle.stitch_run.specs.Stitch.{Given, given, needOf, roundCount, loopCount, chainCount, roomItems, endItems, chainItems, chainEndItems, howItems}
+use Rattle.slice.specs.Slice.{codeWidth, shapeWidth}
+use Rattle.stitch_run.specs.declared.plan.Plan.{Plan}
+use Rattle.stitch_run.specs.Stitch.{Given, needOf, roundCount, loopCount, chainCount, roomItems, endItems, chainItems, chainEndItems, howItems}
 use Rattle.stitch.specs.Lent.{Lists}
 use Rattle.stitch_entries.specs.declared.answer.StitchAnswer.{StitchAnswer}
 use Rattle.stitch_entries.specs.Answers.{stitchRefused, stitchGiven}
 use Rattle.stitch_entries.specs.StitchEntry.{stitchNumber, StitchLeft}
-use Rattle.fields.specs.FieldLaws.{length-unpack}
-use Rattle.record.specs.declared.head.Head.{Head}
 use Rattle.record.specs.declared.head.Seen.{Seen}
-use Rattle.record.specs.Form.{form1, bodyOf}
-use Rattle.record.specs.Record.{headIn, bodyIn, slicesAt, stitchOf, stitchIn, readRefusal, seenRefused, seenGiven, ReadLeft}
-use Rattle.record.specs.RecordLaws.{length-body, length-outline1, length-outline2, length-codes, length-numbers}
+use Rattle.record.specs.Form.{form1}
+use Rattle.record.specs.Record as held
+use Rattle.record.specs.Record.{stitchBy, headIn, stitchIn, readRefusal, takenLengths, lengthsOf, seenRefused, seenGiven, ReadLeft}
+use Rattle.record.specs.RecordLaws.{read-long}
+use Rattle.record_read.specs.Ready.{Roomy}
 use Rattle.record_replay.specs.declared.replay.ReplayAnswer.{ReplayAnswer}
 use Rattle.record_replay.specs.Replayed.{heldIn, formNumber, replayNumber, replayRefused, replayGiven, replayOf, ReplayLeft}
-use Rattle.record_replay.specs.Ready.{HeldFit}
+use Rattle.record_replay.specs.Ready.{reading, fronts}
 
 -- what the stitch's answer comes to
 pub replay-answer : (slices n rounds loops chains : ℕ) (a : StitchAnswer) → a ≡ answer stitchRefused n (stitchGiven rounds loops chains)
@@ -35,14 +34,14 @@ replay-answer slices zero rounds loops chains a e = rw e
 replay-answer slices (suc n) rounds loops chains a e = rw e
 
 -- fronts of lists, as the code has them
-pub fronts : (o1 : List Float) (vc1 : ℕ) (o2 : List Float) (vc2 : ℕ) (at : List ℕ) (s : List Float) (n : ℕ) (starts : Starts) (selector : ℕ) (t : Tolerance) (x : Lists) (r : StitchAnswer) (left : Lists)
-    → StitchLeft (given (take (3 * vc1 - 0) o1) vc1 (take (3 * vc2 - 0) o2) vc2 (take (4 * n - 0) at) (take (6 * n - 0) s) n starts selector t) x r left
-    → StitchLeft (given (take (3 * vc1) o1) vc1 (take (3 * vc2) o2) vc2 (take (4 * n) at) (take (6 * n) s) n starts selector t) x r left
-fronts o1 vc1 o2 vc2 at s n starts selector t x r left w =
-    let a : 3 * vc1 - 0 ≡ 3 * vc1 = omega arith in
-    let b : 3 * vc2 - 0 ≡ 3 * vc2 = omega arith in
-    let c : 4 * n - 0 ≡ 4 * n = omega arith in
-    let d : 6 * n - 0 ≡ 6 * n = omega arith in
+pub fronts-of : (p : Plan) (l : held.Lists) (x : Lists) (r : StitchAnswer) (left : Lists)
+    → StitchLeft (stitchBy (reading (take (3 * p .vc1 - 0) (l .outline1)) (take (3 * p .vc2 - 0) (l .outline2)) (take (codeWidth * p .slices - 0) (l .sliceAt)) (take (shapeWidth * p .slices - 0) (l .slice))) p) x r left
+    → StitchLeft (stitchBy (fronts p l) p) x r left
+fronts-of p l x r left w =
+    let a : 3 * p .vc1 - 0 ≡ 3 * p .vc1 = omega arith in
+    let b : 3 * p .vc2 - 0 ≡ 3 * p .vc2 = omega arith in
+    let c : codeWidth * p .slices - 0 ≡ codeWidth * p .slices = omega arith in
+    let d : shapeWidth * p .slices - 0 ≡ shapeWidth * p .slices = omega arith in
     rw (a, b, c, d) at w
 
 -- ---- the reader refused
@@ -88,91 +87,82 @@ unfolding answer
 seen-number b zero = refl
 seen-number b (suc n) = refl
 
-module _ (b : List ℕ) (o1 o2 : List Float) (at : List ℕ) (s : List Float) (r : Seen) (o1′ o2′ : List Float) (at′ : List ℕ) (s′ : List Float)
-    (w : ReadLeft form1 b o1 o2 at s r o1′ o2′ at′ s′) (l1 : length o1 ≡ 192) (l2 : length o2 ≡ 192) (l3 : length at ≡ 112) (l4 : length s ≡ 168) where
-  form-same : readRefusal form1 b (length o1) (length o2) (length at) (length s) ≡ formNumber b
-  form-same = rw (l1, l2, l3, l4)
+module _ (b : List ℕ) (l : held.Lists) (r : Seen) (left : held.Lists) (w : ReadLeft form1 b l r left) (long : lengthsOf l ≡ takenLengths) where
+  form-same : readRefusal form1 b (lengthsOf l) ≡ formNumber b
+  form-same = ap (readRefusal form1 b) long
 
   pub seen-form : r .refusal ≡ formNumber b
-  seen-form = ap (λ (y : Seen). y .refusal) (w .answers) ∙ seen-number b (readRefusal form1 b (length o1) (length o2) (length at) (length s)) ∙ form-same
+  seen-form = ap (λ (y : Seen). y .refusal) (w .answers) ∙ seen-number b (readRefusal form1 b (lengthsOf l)) ∙ form-same
 
   module _ (z : r .refusal ≡ 0) where
-    accepted : readRefusal form1 b (length o1) (length o2) (length at) (length s) ≡ 0
+    accepted : readRefusal form1 b (lengthsOf l) ≡ 0
     accepted = form-same ∙ sym seen-form ∙ z
 
-    pub seen-head : r .head ≡ headIn form1 b
-    seen-head = ap (λ (y : Seen). y .head) (answer-accepted seenRefused _ (seenGiven (headIn form1 b)) r (w .answers) accepted)
+    pub seen-plan : r .plan ≡ headIn form1 b
+    seen-plan = ap (λ (y : Seen). y .plan) (answer-accepted seenRefused _ (seenGiven (headIn form1 b)) r (w .answers) accepted)
 
-    abbrev H : Head
-    H = headIn form1 b
+    abbrev p : Plan
+    p = headIn form1 b
 
-    long : slicesAt H + H .slices * 10 ≡ length (bodyIn form1 H b)
-    unfolding bodyIn
-    long = sym (length-unpack (bodyOf (form1 .entry) (H .vc1 + H .vc2) (H .slices)) _ ∙ length-body (form1 .entry) (H .vc1 + H .vc2) (H .slices) ∙ omega arith)
+    long1 : length (heldIn b .outline1) ≡ 3 * p .vc1
+    unfolding stitchIn
+    long1 = read-long form1 b (omega arith) .first
 
-    long1 : length (heldIn b .outline1) ≡ 3 * H .vc1
-    unfolding stitchIn stitchOf
-    long1 = length-outline1 H 10 (bodyIn form1 H b) (omega arith) long
+    long2 : length (heldIn b .outline2) ≡ 3 * p .vc2
+    unfolding stitchIn
+    long2 = read-long form1 b (omega arith) .second
 
-    long2 : length (heldIn b .outline2) ≡ 3 * H .vc2
-    unfolding stitchIn stitchOf
-    long2 = length-outline2 H 10 (bodyIn form1 H b) (omega arith) long
+    long3 : length (heldIn b .sliceAt) ≡ codeWidth * p .slices
+    unfolding stitchIn
+    long3 = read-long form1 b (omega arith) .codes
 
-    long3 : length (heldIn b .sliceAt) ≡ 4 * H .slices
-    unfolding stitchIn stitchOf
-    long3 = length-codes H 10 (bodyIn form1 H b) (omega arith) long
+    long4 : length (heldIn b .slice) ≡ shapeWidth * p .slices
+    unfolding stitchIn
+    long4 = read-long form1 b (omega arith) .shapes
 
-    long4 : length (heldIn b .slice) ≡ 6 * H .slices
-    unfolding stitchIn stitchOf
-    long4 = length-numbers H 10 (bodyIn form1 H b) (omega arith) long
+    is1 : left .outline1 ≡ roomOf +0 3 (p .vc1) (heldIn b .outline1) (l .outline1)
+    is1 = answer-accepted (λ _. l .outline1) _ _ (left .outline1) (w .first) accepted
 
-    is1 : o1′ ≡ roomOf +0 3 (H .vc1) (heldIn b .outline1) o1
-    is1 = answer-accepted (λ _. o1) _ _ o1′ (w .first) accepted
+    is2 : left .outline2 ≡ roomOf +0 3 (p .vc2) (heldIn b .outline2) (l .outline2)
+    is2 = answer-accepted (λ _. l .outline2) _ _ (left .outline2) (w .second) accepted
 
-    is2 : o2′ ≡ roomOf +0 3 (H .vc2) (heldIn b .outline2) o2
-    is2 = answer-accepted (λ _. o2) _ _ o2′ (w .second) accepted
+    is3 : left .sliceAt ≡ roomOf 0 codeWidth (p .slices) (heldIn b .sliceAt) (l .sliceAt)
+    is3 = answer-accepted (λ _. l .sliceAt) _ _ (left .sliceAt) (w .codes) accepted
 
-    is3 : at′ ≡ roomOf 0 4 (H .slices) (heldIn b .sliceAt) at
-    is3 = answer-accepted (λ _. at) _ _ at′ (w .codes) accepted
+    is4 : left .slice ≡ roomOf +0 shapeWidth (p .slices) (heldIn b .slice) (l .slice)
+    is4 = answer-accepted (λ _. l .slice) _ _ (left .slice) (w .shapes) accepted
 
-    is4 : s′ ≡ roomOf +0 6 (H .slices) (heldIn b .slice) s
-    is4 = answer-accepted (λ _. s) _ _ s′ (w .numbers) accepted
-
-    at-least : {A : Type 0} (d : A) (k need : ℕ) (items l l′ : List A) → l′ ≡ roomOf d k need items l → length items ≡ k * need → k * need ≤ length l′
+    at-least : {A : Type 0} (d : A) (k need : ℕ) (items x y : List A) → y ≡ roomOf d k need items x → length items ≡ k * need → k * need ≤ length y
     unfolding roomOf
-    at-least d k need items l l′ e f = omega (arith, ap length e ∙ length-append items _, f)
+    at-least d k need items x y e f = omega (arith, ap length e ∙ length-append items _, f)
 
-    pub held-fits : HeldFit (r .head) (length o1′) (length o2′) (length at′) (length s′)
+    pub held-fits : Roomy (r .plan) (lengthsOf left)
     held-fits =
-        rw seen-head
+        rw seen-plan
         (record {
-          first = at-least +0 3 (H .vc1) (heldIn b .outline1) o1 o1′ is1 long1;
-          second = at-least +0 3 (H .vc2) (heldIn b .outline2) o2 o2′ is2 long2;
-          codes = at-least 0 4 (H .slices) (heldIn b .sliceAt) at at′ is3 long3;
-          numbers = at-least +0 6 (H .slices) (heldIn b .slice) s s′ is4 long4;
+          first = at-least +0 3 (p .vc1) (heldIn b .outline1) (l .outline1) (left .outline1) is1 long1;
+          second = at-least +0 3 (p .vc2) (heldIn b .outline2) (l .outline2) (left .outline2) is2 long2;
+          codes = at-least 0 codeWidth (p .slices) (heldIn b .sliceAt) (l .sliceAt) (left .sliceAt) is3 long3;
+          shapes = at-least +0 shapeWidth (p .slices) (heldIn b .slice) (l .slice) (left .slice) is4 long4;
         })
 
     -- the lists' fronts are the stitch that the bytes hold
-    pub fronts-held : given (take (3 * r .head .vc1) o1′) (r .head .vc1) (take (3 * r .head .vc2) o2′) (r .head .vc2) (take (4 * r .head .slices) at′) (take (6 * r .head .slices) s′) (r .head .slices) (r .head .starts) (r .head .selector) (toleranceOf (r .head .tolerance))
-        ≡ heldIn b
-    unfolding stitchIn stitchOf
+    pub fronts-held : stitchBy (fronts (r .plan) left) (r .plan) ≡ heldIn b
+    unfolding stitchIn
     fronts-held =
         rw (
-          seen-head,
-          room-front +0 3 (H .vc1) (heldIn b .outline1) o1 o1′ (3 * H .vc1) is1 long1,
-          room-front +0 3 (H .vc2) (heldIn b .outline2) o2 o2′ (3 * H .vc2) is2 long2,
-          room-front 0 4 (H .slices) (heldIn b .sliceAt) at at′ (4 * H .slices) is3 long3,
-          room-front +0 6 (H .slices) (heldIn b .slice) s s′ (6 * H .slices) is4 long4,
+          seen-plan,
+          room-front +0 3 (p .vc1) (heldIn b .outline1) (l .outline1) (left .outline1) (3 * p .vc1) is1 long1,
+          room-front +0 3 (p .vc2) (heldIn b .outline2) (l .outline2) (left .outline2) (3 * p .vc2) is2 long2,
+          room-front 0 codeWidth (p .slices) (heldIn b .sliceAt) (l .sliceAt) (left .sliceAt) (codeWidth * p .slices) is3 long3,
+          room-front +0 shapeWidth (p .slices) (heldIn b .slice) (l .slice) (left .slice) (shapeWidth * p .slices) is4 long4,
         )
 
-    pub slices-held : r .head .slices ≡ heldIn b .slices
-    unfolding stitchIn stitchOf
-    slices-held = ap (λ (h : Head). h .slices) seen-head
+    slices-held : r .plan .slices ≡ heldIn b .slices
+    unfolding stitchIn
+    slices-held = ap (λ (q : Plan). q .slices) seen-plan
 
-    pub replay-stitched : (x : Lists) (a : StitchAnswer) (left : Lists) (y : ReplayAnswer)
-        → StitchLeft
-        (given (take (3 * r .head .vc1) o1′) (r .head .vc1) (take (3 * r .head .vc2) o2′) (r .head .vc2) (take (4 * r .head .slices) at′) (take (6 * r .head .slices) s′) (r .head .slices) (r .head .starts) (r .head .selector) (toleranceOf (r .head .tolerance)))
-        x a left
-        → y ≡ replayOf (r .head .slices) a → ReplayLeft b x y left
-    replay-stitched x a left y q e =
-        replay-held b (sym z ∙ seen-form) x y left a (subst (λ (g : Given). StitchLeft g x a left) fronts-held q) (e ∙ ap (λ (n : ℕ). replayOf n a) slices-held)
+    pub replay-stitched : (x : Lists) (a : StitchAnswer) (y : Lists) (c : ReplayAnswer) → StitchLeft (stitchBy (fronts (r .plan) left) (r .plan)) x a y
+        → c ≡ replayOf (r .plan .slices) a → ReplayLeft b x c y
+    replay-stitched x a y c q e =
+        replay-held b (sym z ∙ seen-form) x c y a (subst (λ (g : Given). StitchLeft g x a y) fronts-held q) (e ∙ ap (λ (n : ℕ). replayOf n a) slices-held)

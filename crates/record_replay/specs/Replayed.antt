@@ -10,7 +10,7 @@ use Rattle.stitch.specs.Lent.{Lists}
 use Rattle.stitch_entries.specs.declared.answer.StitchAnswer.{StitchAnswer}
 use Rattle.stitch_entries.specs.StitchEntry.{stitchNumber}
 use Rattle.record.specs.Form.{form1}
-use Rattle.record.specs.Record.{stitchIn, readRefusal}
+use Rattle.record.specs.Record.{stitchIn, takenLengths, readRefusal}
 use Rattle.record_replay.specs.declared.replay.ReplayAnswer.{ReplayAnswer}
 
 -- the stitch that the bytes hold
@@ -18,9 +18,9 @@ abbrev pub heldIn : List ℕ → Given
 heldIn b = stitchIn form1 b
 
 -- "11 .., 12 .., 13 .., looked at in that order, before all others"; then 1 and 2 by what the program takes. The lists that the record is read to have room for
--- 64 vertices an outline and 28 slices
+-- all that it takes
 abbrev pub formNumber : List ℕ → ℕ
-formNumber b = readRefusal form1 b 192 192 112 168
+formNumber b = readRefusal form1 b takenLengths
 
 -- and then the numbers of the stitch itself
 unfoldable pub replayNumber : List ℕ → Lists → ℕ

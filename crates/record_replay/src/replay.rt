@@ -1,23 +1,17 @@
 ghost use mathlib.Core.Path.{_≡_};
-ghost use Prim.Native.Nat.{_*_};
-ghost use lib.ListN.{length, take};
-ghost use Rattle.basis.specs.Number.{toleranceOf};
-ghost use Rattle.stitch_run.specs.Stitch.{given};
 ghost use Rattle.stitch.specs.Lent.{lists};
 ghost use Rattle.stitch_entries.specs.StitchEntry.{StitchLeft};
+ghost use Rattle.record.specs.Record.{stitchBy, lengthsOf};
+ghost use Rattle.record_read.specs.Ready.{Roomy};
 ghost use Rattle.record_replay.specs.Replayed.{replayRefused, replayOf, ReplayLeft};
-ghost use Rattle.record_replay.specs.Ready.{HeldFit};
-use record::head::Head;
+ghost use Rattle.record_replay.specs.Ready.{reading, fronts};
+use record::form;
 use record_read::read;
+use slice::data::CODE_WIDTH;
+use slice::data::SHAPE_WIDTH;
 use stitch_entries::answer::StitchAnswer;
 use stitch_entries::stitching;
-
-// The most numbers of an outline that is taken, and of the codes and numbers of slices.
-pub const OUTLINE: usize = 192;
-
-pub const CODES: usize = 112;
-
-pub const NUMBERS: usize = 168;
+use stitch_run::plan::Plan;
 
 // What a replay answers: the counts of its stitch, or its number and nothing.
 pub struct ReplayAnswer {
@@ -58,7 +52,7 @@ fn replay_of(slices: usize, a: StitchAnswer) -> ReplayAnswer
 
 // Stitches what was read to the front of the lists.
 fn stitch_held(
-    h: Head,
+    p: Plan,
     o1: &[f64],
     o2: &[f64],
     at: &[usize],
@@ -69,27 +63,19 @@ fn stitch_held(
     chain_ends: &mut [usize],
     chain_how: &mut [usize],
 ) -> StitchAnswer
-    requires { ⌜ HeldFit h (length (now o1)) (length (now o2)) (length (now at)) (length (now s)) ⌝ }
-    ensures { λ r. ⌜ StitchLeft (given (take (3 * h .vc1) (now (o1 .entry))) (h .vc1) (take (3 * h .vc2) (now (o2 .entry))) (h .vc2) (take (4 * h .slices) (now (at .entry))) (take (6 * h .slices) (now (s .entry))) (h .slices) (h .starts) (h .selector) (toleranceOf (h .tolerance))) (lists (now (room .entry)) (now (ends .entry)) (now (chain .entry)) (now («chain_ends» .entry)) (now («chain_how» .entry))) r (lists (now (room .exit)) (now (ends .exit)) (now (chain .exit)) (now («chain_ends» .exit)) (now («chain_how» .exit))) ⌝ }
+    requires { ⌜ Roomy p (lengthsOf (reading (now o1) (now o2) (now at) (now s))) ⌝ }
+    ensures { λ r. ⌜ StitchLeft (stitchBy (fronts p (reading (now (o1 .entry)) (now (o2 .entry)) (now (at .entry)) (now (s .entry)))) p) (lists (now (room .entry)) (now (ends .entry)) (now (chain .entry)) (now («chain_ends» .entry)) (now («chain_how» .entry))) r (lists (now (room .exit)) (now (ends .exit)) (now (chain .exit)) (now («chain_ends» .exit)) (now («chain_how» .exit))) ⌝ }
 {
-    let n1 = 3 * h.vc1;
-    let n2 = 3 * h.vc2;
-    let n3 = 4 * h.slices;
-    let n4 = 6 * h.slices;
-    let starts = h.starts;
-    stitching::entry(
+    let n1 = 3 * p.vc1;
+    let n2 = 3 * p.vc2;
+    let n3 = CODE_WIDTH * p.slices;
+    let n4 = SHAPE_WIDTH * p.slices;
+    stitching::stitched(
         &o1[0..n1],
-        h.vc1,
         &o2[0..n2],
-        h.vc2,
         &at[0..n3],
         &s[0..n4],
-        h.slices,
-        starts.pline2,
-        starts.pline1_overlapping,
-        starts.pline2_overlapping,
-        h.selector,
-        h.tolerance,
+        p,
         room,
         ends,
         chain,
@@ -109,17 +95,17 @@ pub fn replay(
 ) -> ReplayAnswer
     ensures { λ r. ⌜ ReplayLeft (now (bytes .entry)) (lists (now (room .entry)) (now (ends .entry)) (now (chain .entry)) (now («chain_ends» .entry)) (now («chain_how» .entry))) r (lists (now (room .exit)) (now (ends .exit)) (now (chain .exit)) (now («chain_ends» .exit)) (now («chain_how» .exit))) ⌝ }
 {
-    let mut o1 = [0.0f64; OUTLINE];
-    let mut o2 = [0.0f64; OUTLINE];
-    let mut at = [0usize; CODES];
-    let mut s = [0.0f64; NUMBERS];
+    let mut o1 = [0.0f64; form::OUTLINE];
+    let mut o2 = [0.0f64; form::OUTLINE];
+    let mut at = [0usize; form::CODES];
+    let mut s = [0.0f64; form::SHAPES];
     let seen = read::read(bytes, &mut o1, &mut o2, &mut at, &mut s);
     if seen.refusal != 0 {
         return replay_refused(seen.refusal);
     }
-    let h = seen.head;
+    let p = seen.plan;
     let a = stitch_held(
-        h,
+        p,
         &o1,
         &o2,
         &at,
@@ -130,5 +116,5 @@ pub fn replay(
         chain_ends,
         chain_how,
     );
-    replay_of(h.slices, a)
+    replay_of(p.slices, a)
 }

@@ -13,7 +13,7 @@ use Rattle.basis.specs.StoreLaws.{sets-after}
 use Rattle.record.specs.declared.form.Version.{Version}
 use Rattle.record.specs.Form.{vertexShape, bodyOf}
 use Rattle.record.specs.RecordLaws.{vertex-size}
-use Rattle.record_write.specs.Writer.{packed}
+use Rattle.record.specs.Record.{packed}
 use Rattle.record_write.specs.Ready.{PackFit}
 
 pub packing-vertices : {v : Version} {hs es : List ℕ} {head values k n : ℕ} (l : List ℕ) {l′ : List ℕ} (xs : List ℕ) → PackFit v hs head es values k n (length l) → l′ ≡ sets l 0 xs

@@ -15,6 +15,8 @@ use Rattle.fields.specs.Fields.{rows, infinity, numOf, bitsOf}
 use Rattle.fields.specs.FieldLaws.{thin-narrow, narrow-append, narrow-rows}
 use Rattle.fields.specs.NumberLaws.{AllPlain, plain-none, plain-one, bits-below, bits-num, nan-read}
 use Rattle.fields.specs.Ready.{Narrow, narrow-one, Fitted, fit-none, fit-one}
+use Rattle.slice.specs.declared.data.Codes.{Codes}
+use Rattle.slice.specs.Slice.{codeWidth, shapeWidth, codesAt}
 use Rattle.record.specs.Form.{form1, vertexShape, bodyOf, column, mix}
 use Rattle.record_write.specs.KeepLaws.{within-no-nan}
 
@@ -53,22 +55,24 @@ vertices-fitted (suc n) (x ∷ y ∷ []) e b = absurd (omega arith)
 vertices-fitted (suc n) (x ∷ y ∷ z ∷ vs) e (below-one p (below-one q (below-one r b))) = fit-one p (fit-one q (fit-one r (vertices-fitted n vs (omega arith) b)))
 
 -- what is known of the codes of n slices
-pub record CodesFit (at : List ℕ) (i : ℕ) : Type 0 where
-  pub source : getD at (4 * i) 0 < 256
-  pub inverted : getD at (4 * i + 1) 0 < 256
-  pub start : getD at (4 * i + 2) 0 < 65536
-  pub offset : getD at (4 * i + 3) 0 < 65536
+pub record CodesFit (c : Codes) : Type 0 where
+  pub source : c .source < 256
+  pub inverted : c .inverted < 256
+  pub start : c .start < 65536
+  pub offset : c .offset < 65536
 
-next : (a b c d : ℕ) (at : List ℕ) (i : ℕ) → CodesFit (a ∷ b ∷ c ∷ d ∷ at) (suc i) → CodesFit at i
+next : (a b c d : ℕ) (at : List ℕ) (i : ℕ) → CodesFit (codesAt (a ∷ b ∷ c ∷ d ∷ at) (suc i)) → CodesFit (codesAt at i)
+unfolding codesAt
 next a b c d at i f =
-    let e : 4 * suc i ≡ suc (suc (suc (suc (4 * i)))) = omega arith in
-    let e1 : 4 * suc i + 1 ≡ suc (suc (suc (suc (4 * i + 1)))) = omega arith in
-    let e2 : 4 * suc i + 2 ≡ suc (suc (suc (suc (4 * i + 2)))) = omega arith in
-    let e3 : 4 * suc i + 3 ≡ suc (suc (suc (suc (4 * i + 3)))) = omega arith in
+    let e : codeWidth * suc i ≡ suc (suc (suc (suc (codeWidth * i)))) = omega arith in
+    let e1 : codeWidth * suc i + 1 ≡ suc (suc (suc (suc (codeWidth * i + 1)))) = omega arith in
+    let e2 : codeWidth * suc i + 2 ≡ suc (suc (suc (suc (codeWidth * i + 2)))) = omega arith in
+    let e3 : codeWidth * suc i + 3 ≡ suc (suc (suc (suc (codeWidth * i + 3)))) = omega arith in
     record { source = rw e at (f .source); inverted = rw e1 at (f .inverted); start = rw e2 at (f .start); offset = rw e3 at (f .offset) }
 
-pub slices-fitted : (n : ℕ) (at vs : List ℕ) → length at ≡ 4 * n → length vs ≡ 6 * n → ((i : ℕ) → i < n → CodesFit at i) → Below vs → Fitted (rows n (form1 .entry)) (mix 4 6 n at vs)
-unfolding rows mix
+pub slices-fitted : (n : ℕ) (at vs : List ℕ) → length at ≡ codeWidth * n → length vs ≡ shapeWidth * n → ((i : ℕ) → i < n → CodesFit (codesAt at i)) → Below vs
+    → Fitted (rows n (form1 .entry)) (mix codeWidth shapeWidth n at vs)
+unfolding rows mix codesAt
 slices-fitted zero at vs h k f b = fit-none
 slices-fitted (suc n) [] vs h k f b = absurd (omega arith)
 slices-fitted (suc n) (a1 ∷ []) vs h k f b = absurd (omega arith)
@@ -83,7 +87,7 @@ slices-fitted (suc n) (a1 ∷ a2 ∷ a3 ∷ a4 ∷ at) (x1 ∷ x2 ∷ x3 ∷ x4 
 slices-fitted (suc n) (a1 ∷ a2 ∷ a3 ∷ a4 ∷ at) (x1 ∷ x2 ∷ x3 ∷ x4 ∷ x5 ∷ x6 ∷ vs) h k f
     (below-one b1 (below-one b2 (below-one b3 (below-one b4 (below-one b5 (below-one b6 b)))))) =
     let g = f 0 (omega arith) in
-    let rest : (i : ℕ) → i < n → CodesFit at i = λ i l. next a1 a2 a3 a4 at i (f (suc i) (omega arith)) in
+    let rest : (i : ℕ) → i < n → CodesFit (codesAt at i) = λ i l. next a1 a2 a3 a4 at i (f (suc i) (omega arith)) in
     fit-one (g .source)
     (fit-one (g .inverted)
     (fit-one (g .start)

@@ -7,3 +7,4 @@ pub mod Fits
 pub mod WriteRead
 pub mod ReadWrite
 pub mod OneAnswer
+pub mod First

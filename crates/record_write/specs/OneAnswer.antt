@@ -2,23 +2,22 @@
 use Prim.Native.Nat.{ℕ}
 use mathlib.Core.Path.{_≡_}
 use mathlib.Core.List.{List}
-use lib.Ieee.{Float}
 use Rattle.basis.specs.RefuseLaws.{one-answer}
 use Rattle.stitch_run.specs.Stitch.{Given}
 use Rattle.record.specs.declared.head.Seen.{Seen}
 use Rattle.record.specs.Form.{form1}
-use Rattle.record.specs.Record.{ReadLeft}
+use Rattle.record.specs.Record.{Lists, ReadLeft}
 use Rattle.record_write.specs.declared.write.Written.{Written}
 use Rattle.record_write.specs.Writer.{WriteLeft}
 
-pub read-one : (b : List ℕ) (o1 o2 : List Float) (at : List ℕ) (s : List Float) (r : Seen) (p1 p2 : List Float) (pa : List ℕ) (ps : List Float) (t : Seen) (q1 q2 : List Float) (qa : List ℕ) (qs : List Float)
-    → ReadLeft form1 b o1 o2 at s r p1 p2 pa ps → ReadLeft form1 b o1 o2 at s t q1 q2 qa qs → (r ≡ t) × (p1 ≡ q1) × (p2 ≡ q2) × (pa ≡ qa) × (ps ≡ qs)
-read-one b o1 o2 at s r p1 p2 pa ps t q1 q2 qa qs x y = (
-  one-answer r t _ (x .answers) (y .answers),
-  one-answer p1 q1 _ (x .first) (y .first),
-  one-answer p2 q2 _ (x .second) (y .second),
-  one-answer pa qa _ (x .codes) (y .codes),
-  one-answer ps qs _ (x .numbers) (y .numbers),
+pub read-one : (b : List ℕ) (l : Lists) (r s : Seen) (x y : Lists) → ReadLeft form1 b l r x → ReadLeft form1 b l s y
+    → (r ≡ s) × (x .outline1 ≡ y .outline1) × (x .outline2 ≡ y .outline2) × (x .sliceAt ≡ y .sliceAt) × (x .slice ≡ y .slice)
+read-one b l r s x y p q = (
+  one-answer r s _ (p .answers) (q .answers),
+  one-answer (x .outline1) (y .outline1) _ (p .first) (q .first),
+  one-answer (x .outline2) (y .outline2) _ (p .second) (q .second),
+  one-answer (x .sliceAt) (y .sliceAt) _ (p .codes) (q .codes),
+  one-answer (x .slice) (y .slice) _ (p .shapes) (q .shapes),
 )
 
 pub write-one : (g : Given) (bytes : List ℕ) (r : Written) (p : List ℕ) (s : Written) (q : List ℕ) → WriteLeft form1 g bytes r p → WriteLeft form1 g bytes s q → (r ≡ s) × (p ≡ q)

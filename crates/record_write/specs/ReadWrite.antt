@@ -12,16 +12,17 @@ use Rattle.basis.specs.Choice.{and-left, and-right}
 use Rattle.basis.specs.Number.{tolerable}
 use Rattle.basis.specs.Refuse.{Row, row, firstOf}
 use Rattle.basis.specs.RefuseLaws.{Clear, clear, clear-left, clear-right, clear-both, none-clear}
+use Rattle.slice.specs.Slice.{codeWidth, shapeWidth}
+use Rattle.stitch_run.specs.declared.plan.Plan.{Plan}
 use Rattle.stitch_run.specs.Stitch.{Given}
-use Rattle.stitch_entries.specs.StitchRows.{listRows, codeRows, numberRows, indexRows}
-use Rattle.stitch_entries.specs.StitchEntry.{shapeRows}
+use Rattle.stitch_entries.specs.StitchEntry.{listPart, codePart, numberPart, indexPart, shapeRows}
 use Rattle.fields.specs.Fields.{size, valueOf, pack, unpack, bitsOf}
 use Rattle.fields.specs.FieldLaws.{Octets, octets-drop, length-unpack, unpack-fitted, pack-unpack}
-use Rattle.record.specs.declared.head.Head.{Head}
-use Rattle.record.specs.Form.{form1, bodyOf, column, mix}
-use Rattle.record.specs.Record.{headIn, bodyIn, slicesAt, outline1Of, outline2Of, codesOf, numbersOf, stitchOf, stitchIn, markOk, frameRows, lengthOf, lengthIn, takenRows, countRows, roomRows, readRefusal, headOf, valuesOf, recordOf}
+use Rattle.record.specs.declared.head.Lengths.{Lengths}
+use Rattle.record.specs.Form.{form1, commonWidth, bodyOf, column, mix}
+use Rattle.record.specs.Record.{listsIn, planIn, headIn, bodyIn, slicesFrom, outline1From, outline2From, codesFrom, shapesFrom, stitchIn, markOk, frameRows, lengthOf, lengthIn, takenRows, countRows, roomRows, readRows, readRefusal, headOf, valuesOf, recordOf}
 use Rattle.record.specs.RecordLaws.{length-body, size-body}
-use Rattle.record_write.specs.Writer.{keepRows, lengthFor, lengthGiven, writeRefusal}
+use Rattle.record_write.specs.Writer.{keepRows, lengthGiven, writeRows, writeRefusal}
 use Rattle.record_write.specs.Columns.{rows-back}
 use Rattle.record_write.specs.Fits.{Below, fitted-below, below-at, below-take, below-drop, below-column, head-narrow, body-narrow, tolerance-back, numbers-kept}
 
@@ -34,53 +35,41 @@ twelve : (a0 a1 a2 a3 a7 b0 b1 b2 b3 b7 x4 x5 x6 x8 x9 x10 x11 : ℕ) → a0 ≡
     → (a0 ∷ a1 ∷ a2 ∷ a3 ∷ x4 ∷ x5 ∷ x6 ∷ a7 ∷ x8 ∷ x9 ∷ x10 ∷ x11 ∷ []) ≡ (b0 ∷ b1 ∷ b2 ∷ b3 ∷ x4 ∷ x5 ∷ x6 ∷ b7 ∷ x8 ∷ x9 ∷ x10 ∷ x11 ∷ [])
 twelve a0 a1 a2 a3 a7 b0 b1 b2 b3 b7 x4 x5 x6 x8 x9 x10 x11 p q r s t = rw (p, q, r, s, t)
 
-module _ (b : List ℕ) (octets : Octets b) (r1 r2 r3 r4 : ℕ) (z : readRefusal form1 b r1 r2 r3 r4 ≡ 0) (ok : Clear (shapeRows (stitchIn form1 b))) where
-  abbrev H : Head
+module _ (b : List ℕ) (octets : Octets b) (l : Lengths) (z : readRefusal form1 b l ≡ 0) (ok : Clear (shapeRows (stitchIn form1 b))) where
+  abbrev H : Plan
   H = headIn form1 b
 
   abbrev g : Given
   g = stitchIn form1 b
 
   abbrev vs : List ℕ
-  vs = bodyIn form1 H b
+  vs = bodyIn (size (form1 .head)) (form1 .entry) H b
 
   abbrev frame : List Row
-  frame = frameRows 1 (size (form1 .head)) 4610 b
+  frame = frameRows 1 (size (form1 .head)) (form1 .most) b
 
   abbrev counts : List Row
   counts = countRows (length b) (lengthIn form1 H) H
 
-  accepted : Clear (frame ++ (counts ++ roomRows H r1 r2 r3 r4))
-  unfolding readRefusal
-  accepted = clear (frame ++ (counts ++ roomRows H r1 r2 r3 r4)) tt z
+  accepted : Clear (frame ++ (counts ++ roomRows H l))
+  unfolding readRows
+  accepted = clear (frame ++ (counts ++ roomRows H l)) tt z
 
   framed : Clear frame
-  framed = clear-left frame (counts ++ roomRows H r1 r2 r3 r4) accepted
+  framed = clear-left frame (counts ++ roomRows H l) accepted
 
   counted : Clear counts
-  counted = clear-left counts (roomRows H r1 r2 r3 r4) (clear-right frame (counts ++ roomRows H r1 r2 r3 r4) accepted)
+  counted = clear-left counts (roomRows H l) (clear-right frame (counts ++ roomRows H l) accepted)
 
   long : length b ≡ lengthIn form1 H
   long = eqb-true (length b) (lengthIn form1 H) (not-false _ (counted .0))
 
   -- the parts of the stitch's table
-  abbrev lists : List Row
-  lists = listRows (length (g .outline1)) (g .vc1) (length (g .outline2)) (g .vc2) (length (g .sliceAt)) (length (g .slice)) (g .slices)
+  after-lists : Clear (codePart g ++ (numberPart g ++ indexPart g))
+  after-lists = clear-right (listPart g) (codePart g ++ (numberPart g ++ indexPart g)) ok
 
-  abbrev codes : List Row
-  codes = codeRows (g .vc1) (g .vc2) (g .selector) (g .sliceAt)
-
-  abbrev numbers : List Row
-  numbers = numberRows (g .tolerance) (g .outline1) (g .outline2) (g .slice)
-
-  abbrev indexes : List Row
-  indexes = indexRows (g .vc1) (g .vc2) (g .sliceAt) (g .starts) (g .slices)
-
-  after-lists : Clear (codes ++ (numbers ++ indexes))
-  after-lists = clear-right lists (codes ++ (numbers ++ indexes)) ok
-
-  numbers-clear : Clear numbers
-  numbers-clear = clear-left numbers indexes (clear-right codes (numbers ++ indexes) after-lists)
+  numbers-clear : Clear (numberPart g)
+  numbers-clear = clear-left (numberPart g) (indexPart g) (clear-right (codePart g) (numberPart g ++ indexPart g) after-lists)
 
   -- ---- the head
   marked : markOk b ≡ true
@@ -105,11 +94,11 @@ module _ (b : List ℕ) (octets : Octets b) (r1 r2 r3 r4 : ℕ) (z : readRefusal
   head-below = fitted-below (unpack-fitted (form1 .head) b octets) head-narrow
 
   tolerance-kept : bitsOf (g .tolerance .position) ≡ getD (unpack (form1 .head) b) 7 0
-  unfolding stitchIn stitchOf headIn
+  unfolding stitchIn headIn
   tolerance-kept = tolerance-back (getD (unpack (form1 .head) b) 7 0) (below-at 7 head-below) (not-false (tolerable (g .tolerance)) (numbers-clear .0))
 
-  head-same : headOf 1 g ≡ unpack (form1 .head) b
-  unfolding stitchIn stitchOf headIn unpack
+  head-same : headOf 1 (planIn g) ≡ unpack (form1 .head) b
+  unfolding stitchIn headIn unpack
   head-same =
       let e0 : 80 ≡ valueOf 1 b = sym (one-byte b ∙ byte0) in
       let e1 : 66 ≡ valueOf 1 (drop 1 b) = sym (one-byte (drop 1 b) ∙ getD-drop 1 b 0 0 ∙ byte1) in
@@ -123,28 +112,28 @@ module _ (b : List ℕ) (octets : Octets b) (r1 r2 r3 r4 : ℕ) (z : readRefusal
   unfolding bodyIn
   body-below = fitted-below (unpack-fitted (bodyOf (form1 .entry) (H .vc1 + H .vc2) (H .slices)) (drop (size (form1 .head)) b) (octets-drop (size (form1 .head)) b octets)) (body-narrow (H .vc1 + H .vc2) (H .slices))
 
-  values-long : length vs ≡ (H .vc1 + H .vc2) * 3 + H .slices * 10
+  values-long : length vs ≡ (H .vc1 + H .vc2) * 3 + H .slices * commonWidth
   unfolding bodyIn
   values-long = length-unpack (bodyOf (form1 .entry) (H .vc1 + H .vc2) (H .slices)) (drop (size (form1 .head)) b) ∙ length-body (form1 .entry) (H .vc1 + H .vc2) (H .slices)
 
-  first-kept : map bitsOf (outline1Of H vs) ≡ take (3 * H .vc1) vs
-  unfolding outline1Of
-  first-kept = numbers-kept (below-take (3 * H .vc1) body-below) (unfold stitchIn stitchOf in not-false _ (numbers-clear .1 .0))
+  first-kept : map bitsOf (outline1From H vs) ≡ take (3 * H .vc1) vs
+  unfolding outline1From
+  first-kept = numbers-kept (below-take (3 * H .vc1) body-below) (unfold stitchIn in not-false _ (numbers-clear .1 .0))
 
-  second-kept : map bitsOf (outline2Of H vs) ≡ take (3 * H .vc2) (drop (3 * H .vc1) vs)
-  unfolding outline2Of
-  second-kept = numbers-kept (below-take (3 * H .vc2) (below-drop (3 * H .vc1) body-below)) (unfold stitchIn stitchOf in not-false _ (numbers-clear .1 .1 .0))
+  second-kept : map bitsOf (outline2From H vs) ≡ take (3 * H .vc2) (drop (3 * H .vc1) vs)
+  unfolding outline2From
+  second-kept = numbers-kept (below-take (3 * H .vc2) (below-drop (3 * H .vc1) body-below)) (unfold stitchIn in not-false _ (numbers-clear .1 .1 .0))
 
-  third-kept : map bitsOf (numbersOf 10 H vs) ≡ column 10 4 6 (H .slices) (drop (slicesAt H) vs)
-  unfolding numbersOf
-  third-kept = numbers-kept (below-column 10 4 6 (H .slices) (below-drop (slicesAt H) body-below)) (unfold stitchIn stitchOf in not-false _ (numbers-clear .1 .1 .1 .0))
+  third-kept : map bitsOf (shapesFrom commonWidth H vs) ≡ column commonWidth codeWidth shapeWidth (H .slices) (drop (slicesFrom H) vs)
+  unfolding shapesFrom
+  third-kept = numbers-kept (below-column commonWidth codeWidth shapeWidth (H .slices) (below-drop (slicesFrom H) body-below)) (unfold stitchIn in not-false _ (numbers-clear .1 .1 .1 .0))
 
-  slices-kept : mix 4 6 (H .slices) (codesOf 10 H vs) (map bitsOf (numbersOf 10 H vs)) ≡ drop (slicesAt H) vs
-  unfolding codesOf
-  slices-kept = rw third-kept (rows-back 4 6 (H .slices) (drop (slicesAt H) vs) (length-drop (slicesAt H) vs ∙ omega (arith, values-long)))
+  slices-kept : mix codeWidth shapeWidth (H .slices) (codesFrom commonWidth H vs) (map bitsOf (shapesFrom commonWidth H vs)) ≡ drop (slicesFrom H) vs
+  unfolding codesFrom
+  slices-kept = rw third-kept (rows-back codeWidth shapeWidth (H .slices) (drop (slicesFrom H) vs) (length-drop (slicesFrom H) vs ∙ omega (arith, values-long)))
 
-  values-same : valuesOf g ≡ vs
-  unfolding valuesOf stitchIn stitchOf
+  values-same : valuesOf (listsIn g) (g .slices) ≡ vs
+  unfolding valuesOf stitchIn
   values-same =
       rw (first-kept, second-kept, slices-kept)
       (ap (λ (l : List ℕ). take (3 * H .vc1) vs ++ (take (3 * H .vc2) (drop (3 * H .vc1) vs) ++ l)) (sym (drop-drop (3 * H .vc2) (3 * H .vc1) vs))
@@ -156,10 +145,10 @@ module _ (b : List ℕ) (octets : Octets b) (r1 r2 r3 r4 : ℕ) (z : readRefusal
   unfolding lengthOf
   sizes = omega (arith, size-body (form1 .entry) (H .vc1 + H .vc2) (H .slices), long)
 
-  head-bytes : pack (form1 .head) (headOf 1 g) ≡ take (size (form1 .head)) b
+  head-bytes : pack (form1 .head) (headOf 1 (planIn g)) ≡ take (size (form1 .head)) b
   head-bytes = ap (pack (form1 .head)) head-same ∙ pack-unpack (form1 .head) b octets (omega (arith, sizes))
 
-  body-bytes : pack (bodyOf (form1 .entry) (H .vc1 + H .vc2) (H .slices)) (valuesOf g) ≡ drop (size (form1 .head)) b
+  body-bytes : pack (bodyOf (form1 .entry) (H .vc1 + H .vc2) (H .slices)) (valuesOf (listsIn g) (g .slices)) ≡ drop (size (form1 .head)) b
   unfolding bodyIn
   body-bytes =
       let body = bodyOf (form1 .entry) (H .vc1 + H .vc2) (H .slices) in
@@ -169,8 +158,8 @@ module _ (b : List ℕ) (octets : Octets b) (r1 r2 r3 r4 : ℕ) (z : readRefusal
       ∙ pack-unpack body rest (octets-drop (size (form1 .head)) b octets) (omega (arith, lr))
       ∙ take-all (size body) rest (omega (arith, lr))
 
-  both-parts : recordOf form1 g ≡ pack (form1 .head) (headOf 1 g) ++ pack (bodyOf (form1 .entry) (H .vc1 + H .vc2) (H .slices)) (valuesOf g)
-  unfolding recordOf stitchIn stitchOf
+  both-parts : recordOf form1 g ≡ pack (form1 .head) (headOf 1 (planIn g)) ++ pack (bodyOf (form1 .entry) (H .vc1 + H .vc2) (H .slices)) (valuesOf (listsIn g) (g .slices))
+  unfolding recordOf stitchIn
   both-parts = refl
 
   pub same-bytes : recordOf form1 g ≡ b
@@ -178,27 +167,28 @@ module _ (b : List ℕ) (octets : Octets b) (r1 r2 r3 r4 : ℕ) (z : readRefusal
 
   -- and the writer does not refuse it
   same-length : lengthGiven form1 g ≡ lengthIn form1 H
-  unfolding lengthFor lengthOf stitchIn stitchOf
+  unfolding stitchIn
   same-length = refl
 
-  taken : Clear (takenRows (g .vc1) (g .vc2) (g .slices))
-  unfolding stitchIn stitchOf
+  taken : Clear (takenRows (planIn g))
+  unfolding stitchIn
   taken = counted .1
 
   pub written-again : (room : ℕ) → length b ≤ room → writeRefusal form1 g room ≡ 0
   unfolding writeRefusal
   written-again room h =
+      let after = codePart g ++ (numberPart g ++ indexPart g) in
       let all : Clear (keepRows g) =
-      clear-both lists (takenRows (g .vc1) (g .vc2) (g .slices) ++ (codes ++ (numbers ++ indexes))) (clear-left lists (codes ++ (numbers ++ indexes)) ok) (clear-both (takenRows (g .vc1) (g .vc2) (g .slices)) (codes ++ (numbers ++ indexes)) taken after-lists) in
+      clear-both (listPart g) (takenRows (planIn g) ++ after) (clear-left (listPart g) after ok) (clear-both (takenRows (planIn g)) after taken after-lists) in
       let last : Clear (row (ltb room (lengthGiven form1 g)) 9 ∷ []) = (le-ltb room (lengthGiven form1 g) (omega (arith, long, same-length, h)), tt) in
-      none-clear (keepRows g ++ (row (ltb room (lengthGiven form1 g)) 9 ∷ [])) (clear-both (keepRows g) (row (ltb room (lengthGiven form1 g)) 9 ∷ []) all last)
+      none-clear (writeRows form1 g room) (clear-both (keepRows g) (row (ltb room (lengthGiven form1 g)) 9 ∷ []) all last)
 
 -- the theorem, over the reader's and the stitch's own numbers: of a record that is accepted, the writer gives back each byte
 pub record WritesBack (b : List ℕ) : Type 0 where
   pub same : recordOf form1 (stitchIn form1 b) ≡ b
   pub accepted : (room : ℕ) → length b ≤ room → writeRefusal form1 (stitchIn form1 b) room ≡ 0
 
-pub read-then-write : (b : List ℕ) → Octets b → (r1 r2 r3 r4 : ℕ) → readRefusal form1 b r1 r2 r3 r4 ≡ 0 → firstOf (shapeRows (stitchIn form1 b)) ≡ 0 → WritesBack b
-read-then-write b octets r1 r2 r3 r4 z y =
+pub read-then-write : (b : List ℕ) → Octets b → (l : Lengths) → readRefusal form1 b l ≡ 0 → firstOf (shapeRows (stitchIn form1 b)) ≡ 0 → WritesBack b
+read-then-write b octets l z y =
     let ok = clear (shapeRows (stitchIn form1 b)) tt y in
-    record { same = same-bytes b octets r1 r2 r3 r4 z ok; accepted = written-again b octets r1 r2 r3 r4 z ok }
+    record { same = same-bytes b octets l z ok; accepted = written-again b octets l z ok }

@@ -1,34 +1,34 @@
 -- "Writing then reading a record gives the same stitch": of everything that the writer does not refuse, number for number, bit for bit.
-use Prim.Native.Nat.{ℕ, _+_, _*_, _/_, _≤_, _<_}
-use mathlib.Core.Bool.{Bool, true, false, not, cond}
-use mathlib.Core.Path.{_≡_, refl, sym, ap, subst, _∙_}
+use Prim.Native.Nat.{ℕ, _+_, _*_, _≤_, _<_}
+use mathlib.Core.Bool.{true, false, not}
+use mathlib.Core.Path.{_≡_, refl, sym, ap, _∙_}
 use mathlib.Core.List.{List, [], _∷_, _++_, map, append-assoc, append-nil}
-use native.Mathlib.Nat.{mul-div-right}
 use native.Mathlib.Omega.{arith}
-use borrow.Author.Tests.{ltb-true, ltb-false, leb-true, le-ltb, le-leb, eq-eqb, eqb-true, not-false}
+use borrow.Author.Tests.{ltb-false, le-ltb, le-leb, eq-eqb, eqb-true, not-false}
 use lib.Dec.{T, ltb, eqb}
-use lib.ListN.{length, getD, take, drop, length-append, length-map}
+use lib.ListN.{length, take, drop, length-append, length-map}
 use lib.Seq.{take-at, drop-at, drop-drop}
 use lib.Ieee.{binary64, fits}
 use Rattle.basis.specs.Choice.{by-test, or-left, or-right}
-use Rattle.basis.specs.Each.{placesBelow}
-use Rattle.basis.specs.EachLaws.{each-at}
 use Rattle.basis.specs.Number.{allWithin}
-use Rattle.basis.specs.Refuse.{row, firstOf, sourceFault, countFor}
-use Rattle.basis.specs.RefuseLaws.{Clear, clear, clear-left, none-clear, choice-ok}
+use Rattle.basis.specs.Refuse.{row, firstOf, sourceFault}
+use Rattle.basis.specs.RefuseLaws.{Clear, clear, clear-left, clear-both, none-clear, choice-ok}
+use Rattle.slice.specs.Slice.{codeWidth, shapeWidth, codesAt}
+use Rattle.slice.specs.Faults.{sourceKnown}
+use Rattle.slice.specs.SliceLaws.{slice-at, turned-at, start-at, offset-at}
 use Rattle.stitch_run.specs.Stitch.{Given}
-use Rattle.stitch_entries.specs.StitchRows.{sourcesKnown, startsInside, offsetsInside, startsFault}
+use Rattle.stitch_entries.specs.StitchRows.{startsFault}
 use Rattle.fields.specs.Fields.{size, bytesOf, valueOf, pack, unpack, numOf, bitsOf}
-use Rattle.fields.specs.FieldLaws.{unpack-pack, fitted-append, fitted-length, length-pack}
+use Rattle.fields.specs.FieldLaws.{unpack-pack, fitted-append, length-pack}
 use Rattle.fields.specs.NumberLaws.{Plain, AllPlain, num-bits, bits-below, nums-bits}
 use Rattle.fields.specs.Ready.{Fitted, fit-none, fit-one}
-use Rattle.record.specs.declared.head.Head.{Head}
-use Rattle.record.specs.Form.{form1, bodyOf, column, mix}
-use Rattle.record.specs.Record.{headAt, headIn, bodyIn, outline1Of, outline2Of, codesOf, numbersOf, stitchOf, stitchIn, markOk, frameRows, lengthOf, lengthIn, countRows, roomRows, readRefusal, headOf, valuesOf, recordOf}
-use Rattle.record.specs.RecordLaws.{size-body}
-use Rattle.record_write.specs.Writer.{keepRows, lengthFor, lengthGiven, writeRefusal}
+use Rattle.record.specs.declared.head.Lengths.{Lengths}
+use Rattle.record.specs.Form.{form1, commonWidth, bodyOf, column, mix}
+use Rattle.record.specs.Record.{listsIn, planIn, planAt, headIn, bodyIn, outline1From, outline2From, codesFrom, shapesFrom, stitchIn, markOk, frameRows, lengthOf, lengthIn, countRows, roomRows, readRows, readRefusal, headOf, valuesOf, recordOf}
+use Rattle.record.specs.RecordLaws.{counts-small}
+use Rattle.record_write.specs.Writer.{keepRows, lengthGiven, writeRows, writeRefusal}
 use Rattle.record_write.specs.Ready.{Keeps}
-use Rattle.record_write.specs.KeepLaws.{codes-clear, numbers-clear, indexes-clear, keeps}
+use Rattle.record_write.specs.KeepLaws.{taken-clear, codes-clear, numbers-clear, indexes-clear, keeps, record-long}
 use Rattle.record_write.specs.Columns.{codes-back, numbers-back}
 use Rattle.record_write.specs.Fits.{Held, all-plain, bits-all-below, below-append, CodesFit, vertices-fitted, slices-fitted}
 
@@ -40,11 +40,11 @@ pub record HeldGiven (g : Given) : Type 0 where
   pub numbers : Held (g .slice)
 
 -- lists with room for what is read back
-pub record RoomFor (g : Given) (r1 r2 r3 r4 : ℕ) : Type 0 where
-  pub first : 3 * g .vc1 ≤ r1
-  pub second : 3 * g .vc2 ≤ r2
-  pub codes : 4 * g .slices ≤ r3
-  pub numbers : 6 * g .slices ≤ r4
+pub record RoomFor (g : Given) (l : Lengths) : Type 0 where
+  pub first : 3 * g .vc1 ≤ l .outline1
+  pub second : 3 * g .vc2 ≤ l .outline2
+  pub codes : codeWidth * g .slices ≤ l .«slice_at»
+  pub shapes : shapeWidth * g .slices ≤ l .slice
 
 module _ (g : Given) (ok : Clear (keepRows g)) (held : HeldGiven g) where
   kept : Keeps g (lengthGiven form1 g)
@@ -72,7 +72,7 @@ module _ (g : Given) (ok : Clear (keepRows g)) (held : HeldGiven g) where
   patterns3 = map bitsOf (g .slice)
 
   abbrev mixed : List ℕ
-  mixed = mix 4 6 (g .slices) (g .sliceAt) patterns3
+  mixed = mix codeWidth shapeWidth (g .slices) (g .sliceAt) patterns3
 
   long1 : length patterns1 ≡ 3 * g .vc1
   long1 = length-map (g .outline1) bitsOf ∙ kept .long1
@@ -80,51 +80,32 @@ module _ (g : Given) (ok : Clear (keepRows g)) (held : HeldGiven g) where
   long2 : length patterns2 ≡ 3 * g .vc2
   long2 = length-map (g .outline2) bitsOf ∙ kept .long2
 
-  long3 : length patterns3 ≡ 6 * g .slices
+  long3 : length patterns3 ≡ shapeWidth * g .slices
   long3 = length-map (g .slice) bitsOf ∙ kept .long4
 
   -- ---- each value fits its field
-  items : length (g .sliceAt) / 4 ≡ g .slices
-  items = ap (λ (n : ℕ). n / 4) (kept .long3) ∙ mul-div-right (g .slices) (omega arith)
-
-  counts-small : (source : ℕ) → countFor (g .vc1) (g .vc2) source ≤ 64
-  counts-small source = go (eqb source 1)
-    where
-      go : (b : Bool) → cond b (g .vc1) (g .vc2) ≤ 64
-      go true = kept .few .few1
-      go false = kept .few .few2
-
   source-small : (s : ℕ) → not (sourceFault s) ≡ true → s ≤ 2
   unfolding sourceFault
   source-small s e =
       by-test (eqb s 1) (λ t. omega (arith, eqb-true s 1 t))
       (λ f. by-test (eqb s 2) (λ t. omega (arith, eqb-true s 2 t)) (λ f2. absurd (mathlib.Core.Bool.false≢true (rw (f, f2) at e))))
 
-  codes-fit : (i : ℕ) → i < g .slices → CodesFit (g .sliceAt) i
-  unfolding sourcesKnown placesBelow startsInside offsetsInside
+  codes-fit : (i : ℕ) → i < g .slices → CodesFit (codesAt (g .sliceAt) i)
+  unfolding sourceKnown
   codes-fit i h =
-      let n : i < length (g .sliceAt) / 4 = subst (λ (k : ℕ). i < k) (sym items) h in
-      let small = counts-small (getD (g .sliceAt) (4 * i) 0) in
+      let c = codesAt (g .sliceAt) i in
+      let small = counts-small (planIn g) (taken-clear g ok) (c .source) in
       record {
-        source = omega (arith, source-small (getD (g .sliceAt) (4 * i) 0) (each-at _ (length (g .sliceAt) / 4) i (not-false _ (codes-clear g ok .1 .1 .1 .0)) n));
-        inverted = omega (arith, ltb-true (getD (g .sliceAt) (4 * i + 1) 0) 2 (each-at _ (length (g .sliceAt) / 4) i (not-false _ (codes-clear g ok .1 .1 .1 .1 .0)) n));
-        start =
-            omega (
-              arith,
-              small,
-              ltb-true (getD (g .sliceAt) (4 * i + 2) 0) (countFor (g .vc1) (g .vc2) (getD (g .sliceAt) (4 * i) 0))
-                  (each-at _ (length (g .sliceAt) / 4) i (not-false _ (indexes-clear g ok .0)) n),
-            );
-        offset =
-            omega (
-              arith,
-              small,
-              leb-true (getD (g .sliceAt) (4 * i + 3) 0) (countFor (g .vc1) (g .vc2) (getD (g .sliceAt) (4 * i) 0))
-                  (each-at _ (length (g .sliceAt) / 4) i (not-false _ (indexes-clear g ok .1 .0)) n),
-            );
+        source = omega (arith, source-small (c .source) (slice-at (g .sliceAt) (g .slices) (kept .long3) sourceKnown (not-false _ (codes-clear g ok .1 .1 .1 .0)) i h));
+        inverted = omega (arith, turned-at (g .sliceAt) (g .slices) (kept .long3) (not-false _ (codes-clear g ok .1 .1 .1 .1 .0)) i h);
+        start = omega (arith, small, start-at (g .sliceAt) (g .slices) (kept .long3) (g .vc1) (g .vc2) (not-false _ (indexes-clear g ok .0)) i h);
+        offset = omega (arith, small, offset-at (g .sliceAt) (g .slices) (kept .long3) (g .vc1) (g .vc2) (not-false _ (indexes-clear g ok .1 .0)) i h);
       }
 
-  body-fitted : Fitted (bodyOf (form1 .entry) (g .vc1 + g .vc2) (g .slices)) (valuesOf g)
+  abbrev values : List ℕ
+  values = valuesOf (listsIn g) (g .slices)
+
+  body-fitted : Fitted (bodyOf (form1 .entry) (g .vc1 + g .vc2) (g .slices)) (values)
   unfolding bodyOf valuesOf
   body-fitted =
       rw (sym (append-assoc patterns1 patterns2 mixed))
@@ -143,7 +124,7 @@ module _ (g : Given) (ok : Clear (keepRows g)) (held : HeldGiven g) where
       let c : s .«pline2_overlapping» ≤ g .slices = ltb-false _ _ (or-right (ltb (s .«pline2_overlapping») (s .«pline1_overlapping»)) _ f) in
       (omega arith, omega arith, c)
 
-  head-fitted : Fitted (form1 .head) (headOf 1 g)
+  head-fitted : Fitted (form1 .head) (headOf 1 (planIn g))
   head-fitted =
       let few = kept .few in
       let s = choice-ok (g .selector) (codes-clear g ok .1 .1 .0) in
@@ -170,69 +151,57 @@ module _ (g : Given) (ok : Clear (keepRows g)) (held : HeldGiven g) where
 
   -- ---- the bytes, in their two parts
   abbrev headBytes : List ℕ
-  headBytes = pack (form1 .head) (headOf 1 g)
+  headBytes = pack (form1 .head) (headOf 1 (planIn g))
 
   abbrev bodyBytes : List ℕ
-  bodyBytes = pack (bodyOf (form1 .entry) (g .vc1 + g .vc2) (g .slices)) (valuesOf g)
+  bodyBytes = pack (bodyOf (form1 .entry) (g .vc1 + g .vc2) (g .slices)) (values)
 
   head-long : length headBytes ≡ size (form1 .head)
-  head-long = length-pack (form1 .head) (headOf 1 g) (omega arith)
+  head-long = length-pack (form1 .head) (headOf 1 (planIn g)) (omega arith)
 
-  -- the head of a stitch
-  abbrev headFor : Head
-  headFor = record { vc1 = g .vc1; vc2 = g .vc2; selector = g .selector; tolerance = g .tolerance .position; starts = g .starts; slices = g .slices }
-
-  head-back : headIn form1 (recordOf form1 g) ≡ headFor
+  head-back : headIn form1 (recordOf form1 g) ≡ planIn g
   unfolding headIn recordOf
-  head-back = ap (headAt 8) (unpack-pack bodyBytes head-fitted) ∙ rw (num-bits (g .tolerance .position) plain-tolerance)
+  head-back = ap (planAt 8) (unpack-pack bodyBytes head-fitted) ∙ rw (num-bits (g .tolerance .position) plain-tolerance)
 
-  body-back : bodyIn form1 headFor (recordOf form1 g) ≡ valuesOf g
+  body-back : bodyIn (size (form1 .head)) (form1 .entry) (planIn g) (recordOf form1 g) ≡ values
   unfolding bodyIn recordOf
   body-back =
       let body = bodyOf (form1 .entry) (g .vc1 + g .vc2) (g .slices) in
       ap (unpack body) (drop-at headBytes bodyBytes (size (form1 .head)) head-long ∙ sym (append-nil bodyBytes)) ∙ unpack-pack [] body-fitted
 
   -- ---- the lists
-  first-back : outline1Of headFor (valuesOf g) ≡ g .outline1
-  unfolding outline1Of valuesOf
+  first-back : outline1From (planIn g) (values) ≡ g .outline1
+  unfolding outline1From valuesOf
   first-back = ap (map numOf) (take-at patterns1 (patterns2 ++ mixed) (3 * g .vc1) long1) ∙ nums-bits plain1
 
   past-first : drop (3 * g .vc1) (patterns1 ++ (patterns2 ++ mixed)) ≡ patterns2 ++ mixed
   past-first = drop-at patterns1 (patterns2 ++ mixed) (3 * g .vc1) long1
 
-  second-back : outline2Of headFor (valuesOf g) ≡ g .outline2
-  unfolding outline2Of valuesOf
+  second-back : outline2From (planIn g) (values) ≡ g .outline2
+  unfolding outline2From valuesOf
   second-back = ap (λ (l : List ℕ). map numOf (take (3 * g .vc2) l)) past-first ∙ ap (map numOf) (take-at patterns2 mixed (3 * g .vc2) long2) ∙ nums-bits plain2
 
   past-both : drop (3 * g .vc1 + 3 * g .vc2) (patterns1 ++ (patterns2 ++ mixed)) ≡ mixed
   past-both =
       sym (drop-drop (3 * g .vc2) (3 * g .vc1) (patterns1 ++ (patterns2 ++ mixed))) ∙ ap (drop (3 * g .vc2)) past-first ∙ drop-at patterns2 mixed (3 * g .vc2) long2
 
-  codes-same : codesOf 10 headFor (valuesOf g) ≡ g .sliceAt
-  unfolding codesOf valuesOf
-  codes-same = ap (column 10 0 4 (g .slices)) past-both ∙ codes-back 4 6 (g .slices) (g .sliceAt) patterns3 (omega (arith, kept .long3)) (omega (arith, long3))
+  codes-same : codesFrom commonWidth (planIn g) (values) ≡ g .sliceAt
+  unfolding codesFrom valuesOf
+  codes-same = ap (column commonWidth 0 codeWidth (g .slices)) past-both ∙ codes-back codeWidth shapeWidth (g .slices) (g .sliceAt) patterns3 (omega (arith, kept .long3)) (omega (arith, long3))
 
-  numbers-same : numbersOf 10 headFor (valuesOf g) ≡ g .slice
-  unfolding numbersOf valuesOf
-  numbers-same =
-      ap (λ (l : List ℕ). map numOf (column 10 4 6 (g .slices) l)) past-both
-      ∙ ap (map numOf) (numbers-back 4 6 (g .slices) (g .sliceAt) patterns3 (omega (arith, kept .long3)) (omega (arith, long3)))
+  shapes-same : shapesFrom commonWidth (planIn g) (values) ≡ g .slice
+  unfolding shapesFrom valuesOf
+  shapes-same =
+      ap (λ (l : List ℕ). map numOf (column commonWidth codeWidth shapeWidth (g .slices) l)) past-both
+      ∙ ap (map numOf) (numbers-back codeWidth shapeWidth (g .slices) (g .sliceAt) patterns3 (omega (arith, kept .long3)) (omega (arith, long3)))
       ∙ nums-bits plain3
 
   -- the same stitch is read
   pub same-stitch : stitchIn form1 (recordOf form1 g) ≡ g
-  unfolding stitchIn stitchOf
-  same-stitch = rw (head-back, body-back, first-back, second-back, codes-same, numbers-same)
+  unfolding stitchIn
+  same-stitch = rw (head-back, body-back, first-back, second-back, codes-same, shapes-same)
 
   -- ---- and it is not refused
-  record-long : length (recordOf form1 g) ≡ lengthGiven form1 g
-  unfolding recordOf lengthFor
-  record-long =
-      let body = bodyOf (form1 .entry) (g .vc1 + g .vc2) (g .slices) in
-      let lb : length bodyBytes ≡ (g .vc1 + g .vc2) * 24 + g .slices * size (form1 .entry) =
-      length-pack body (valuesOf g) (omega (arith, fitted-length body-fitted)) ∙ size-body (form1 .entry) (g .vc1 + g .vc2) (g .slices) in
-      length-append headBytes bodyBytes ∙ omega (arith, head-long, lb)
-
   -- what is written starts with the mark and the version
   mark-written : 5 ≤ length (recordOf form1 g) → markOk (recordOf form1 g) ≡ true
   mark-written h = unfold markOk recordOf pack bytesOf in rw (le-leb 5 _ (unfold recordOf pack bytesOf in h))
@@ -244,77 +213,43 @@ module _ (g : Given) (ok : Clear (keepRows g)) (held : HeldGiven g) where
   unfolding size
   head-size = refl
 
-  same-length : lengthIn form1 headFor ≡ lengthGiven form1 g
-  unfolding lengthOf lengthFor
-  same-length = refl
-
   least : 26 ≤ lengthGiven form1 g
-  unfolding lengthFor size
+  unfolding lengthOf size
   least = omega arith
 
-  most : lengthGiven form1 g ≤ 4610
-  unfolding lengthFor size
+  most : lengthGiven form1 g ≤ form1 .most
+  unfolding lengthOf size
   most = omega (arith, kept .few .few1, kept .few .few2, kept .few .few3)
 
-  pub not-refused : (r1 r2 r3 r4 : ℕ) → RoomFor g r1 r2 r3 r4 → readRefusal form1 (recordOf form1 g) r1 r2 r3 r4 ≡ 0
-  unfolding readRefusal
-  not-refused r1 r2 r3 r4 room = go (recordOf form1 g) mark-written version-written record-long head-back
+  pub not-refused : (l : Lengths) → RoomFor g l → readRefusal form1 (recordOf form1 g) l ≡ 0
+  unfolding readRows
+  not-refused l room = go (recordOf form1 g) mark-written version-written (record-long g kept) head-back
     where
-      go : (b : List ℕ) → (5 ≤ length b → markOk b ≡ true) → valueOf 2 (drop 3 b) ≡ 1 → length b ≡ lengthGiven form1 g → headIn form1 b ≡ headFor
-          → firstOf (frameRows 1 (size (form1 .head)) 4610 b ++ (countRows (length b) (lengthIn form1 (headIn form1 b)) (headIn form1 b) ++ roomRows (headIn form1 b) r1 r2 r3 r4)) ≡ 0
-      go b m v l e =
-          let low : 26 ≤ length b = omega (arith, l, least) in
-          let m1 : not (markOk b) ≡ false = ap not (m (omega arith)) in
-          let m2 : not (eqb (valueOf 2 (drop 3 b)) 1) ≡ false = ap not (eq-eqb (valueOf 2 (drop 3 b)) 1 v) in
-          let m3 : ltb (length b) (size (form1 .head)) ≡ false = rw head-size (le-ltb (length b) 26 low) in
-          let m4 : not (eqb (length b) (lengthIn form1 headFor)) ≡ false = ap not (eq-eqb (length b) (lengthIn form1 headFor) (l ∙ sym same-length)) in
+      go : (b : List ℕ) → (5 ≤ length b → markOk b ≡ true) → valueOf 2 (drop 3 b) ≡ 1 → length b ≡ lengthGiven form1 g → headIn form1 b ≡ planIn g
+          → firstOf
+          (frameRows 1 (size (form1 .head)) (form1 .most) b ++ (countRows (length b) (lengthIn form1 (headIn form1 b)) (headIn form1 b) ++ roomRows (headIn form1 b) l)) ≡ 0
+      go b m v long e =
+          let p = planIn g in
+          let low : 26 ≤ length b = omega (arith, long, least) in
+          let framed : Clear (frameRows 1 (size (form1 .head)) (form1 .most) b) = (
+            ap not (m (omega arith)),
+            (ap not (eq-eqb (valueOf 2 (drop 3 b)) 1 v), (rw head-size (le-ltb (length b) 26 low), (le-ltb (form1 .most) (length b) (omega (arith, long, most)), tt))),
+          ) in
+          let counted : Clear (countRows (length b) (lengthIn form1 p) p) = (ap not (eq-eqb (length b) (lengthIn form1 p) long), taken-clear g ok) in
+          let rooms : Clear (roomRows p l) =
+          (le-ltb _ _ (room .first), (le-ltb _ _ (room .second), (le-ltb _ _ (room .codes), (le-ltb _ _ (room .shapes), tt)))) in
           rw e
-          (none-clear
-          (frameRows 1 (size (form1 .head)) 4610 b ++ (countRows (length b) (lengthIn form1 headFor) headFor ++ roomRows headFor r1 r2 r3 r4)) (
-            m1,
-            (
-              m2,
-              (
-                m3,
-                (
-                  le-ltb 4610 (length b) (omega (arith, l, most)),
-                  (
-                    m4,
-                    (
-                      le-ltb 28 (g .slices) (kept .few .few3),
-                      (
-                        le-ltb 64 (g .vc1) (kept .few .few1),
-                        (
-                          le-ltb 64 (g .vc2) (kept .few .few2),
-                          (
-                            le-ltb r1 (3 * g .vc1) (room .first),
-                            (
-                              le-ltb r2 (3 * g .vc2) (room .second),
-                              (
-                                le-ltb r3 (4 * g .slices) (room .codes),
-                                (
-                                  le-ltb r4 (6 * g .slices) (room .numbers),
-                                  tt,
-                                ),
-                              ),
-                            ),
-                          ),
-                        ),
-                      ),
-                    ),
-                  ),
-                ),
-              ),
-            ),
-          ))
+          (none-clear (frameRows 1 (size (form1 .head)) (form1 .most) b ++ (countRows (length b) (lengthIn form1 p) p ++ roomRows p l))
+          (clear-both (frameRows 1 (size (form1 .head)) (form1 .most) b) (countRows (length b) (lengthIn form1 p) p ++ roomRows p l) framed
+          (clear-both (countRows (length b) (lengthIn form1 p) p) (roomRows p l) counted rooms)))
 
 -- the theorem, over the writer's own number: what it did not refuse is read back as it was
 pub record ReadsBack (g : Given) : Type 0 where
   pub same : stitchIn form1 (recordOf form1 g) ≡ g
-  pub accepted : (r1 r2 r3 r4 : ℕ) → RoomFor g r1 r2 r3 r4 → readRefusal form1 (recordOf form1 g) r1 r2 r3 r4 ≡ 0
+  pub accepted : (l : Lengths) → RoomFor g l → readRefusal form1 (recordOf form1 g) l ≡ 0
 
 pub write-then-read : (g : Given) (room : ℕ) → writeRefusal form1 g room ≡ 0 → HeldGiven g → ReadsBack g
 unfolding writeRefusal
 write-then-read g room z held =
-    let ok = clear-left (keepRows g) (row (ltb room (lengthGiven form1 g)) 9 ∷ []) (clear (keepRows g ++ (row (ltb room (lengthGiven form1 g)) 9 ∷ [])) tt z) in
+    let ok = clear-left (keepRows g) (row (ltb room (lengthGiven form1 g)) 9 ∷ []) (clear (writeRows form1 g room) tt z) in
     record { same = same-stitch g ok held; accepted = not-refused g ok held }

@@ -1,4 +1,4 @@
-// The record `PBR` of document 02, K1: its writer, and that writing and reading undo each other.
+// The writer of the record `PBR`; and the proof that writing and reading undo each other.
 pub mod pack;
 pub mod values;
 pub mod write;

@@ -2,7 +2,7 @@
 ghost use mathlib.Core.Path.{_≡_};
 ghost use lib.ListN.{length};
 ghost use lib.Seq.{sets};
-ghost use Rattle.record_write.specs.Writer.{packed};
+ghost use Rattle.record.specs.Record.{packed};
 ghost use Rattle.record_write.specs.Ready.{PackFit};
 use fields::shape;
 use record::form;

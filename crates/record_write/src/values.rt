@@ -5,56 +5,55 @@ ghost use lib.ListN.{length};
 ghost use lib.Seq.{sets};
 ghost use Rattle.fields.specs.Fields.{bitsOf};
 ghost use Rattle.fields.specs.Ready.{Number};
+ghost use Rattle.slice.specs.Slice.{codeWidth, shapeWidth};
 ghost use Rattle.record.specs.Form.{mix};
-ghost use Rattle.record_write.specs.Writer.{headValues, bodyValues};
+ghost use Rattle.record.specs.Record.{lists, headOf, valuesOf};
 ghost use Rattle.record_write.specs.Ready.{MixFit, ValuesFit};
 use fields::copy;
-use select::class::Starts;
+use record::form;
+use slice::data::CODE_WIDTH;
+use slice::data::SHAPE_WIDTH;
+use stitch_run::plan::Plan;
 
 // The values of the head's fields in version 1.
-pub fn head_values(
-    vc1: usize,
-    vc2: usize,
-    selector: u32,
-    tolerance: f64,
-    starts: Starts,
-    slices: usize,
-) -> [usize; 12]
-    requires { ⌜ Number tolerance ⌝ }
-    ensures { λ r. ⌜ r ≡ headValues 1 vc1 vc2 selector tolerance starts slices ⌝ }
+pub fn head_values(p: Plan) -> [usize; 12]
+    requires { ⌜ Number (p .tolerance .position) ⌝ }
+    ensures { λ r. ⌜ r ≡ headOf 1 p ⌝ }
 {
-    let bits = copy::bits(tolerance);
+    let tolerance = p.tolerance;
+    let starts = p.starts;
+    let bits = copy::bits(tolerance.position);
     [
         80,
         66,
         82,
         1,
-        vc1,
-        vc2,
-        selector as usize,
+        p.vc1,
+        p.vc2,
+        p.selector as usize,
         bits,
         starts.pline2,
         starts.pline1_overlapping,
         starts.pline2_overlapping,
-        slices,
+        p.slices,
     ]
 }
 
-// Lists of each slice its 4 codes and the patterns of its 6 numbers, from `to` on.
+// Lists of each slice its codes and the patterns of its shape, from `to` on.
 fn mix_slices(slice_at: &[usize], slice: &[f64], count: usize, values: &mut [usize], to: usize)
     requires { ⌜ MixFit (length (now «slice_at»)) (now slice) count (length (now values)) to ⌝ }
-    ensures { λ _. ⌜ now (values .exit) ≡ sets (now (values .entry)) to (mix 4 6 count (now («slice_at» .entry)) (map bitsOf (now (slice .entry)))) ⌝ }
+    ensures { λ _. ⌜ now (values .exit) ≡ sets (now (values .entry)) to (mix codeWidth shapeWidth count (now («slice_at» .entry)) (map bitsOf (now (slice .entry)))) ⌝ }
 {
     let mut q = to;
     let mut i = 0;
     let mut j = 0;
     let mut left = count;
     while left > 0 {
-        copy::copy(slice_at, i, 4, values, q);
-        copy::copy_bits(slice, j, 6, values, q + 4);
-        q += 10;
-        i += 4;
-        j += 6;
+        copy::copy(slice_at, i, CODE_WIDTH, values, q);
+        copy::copy_bits(slice, j, SHAPE_WIDTH, values, q + CODE_WIDTH);
+        q += form::COMMON_WIDTH;
+        i += CODE_WIDTH;
+        j += SHAPE_WIDTH;
         left -= 1;
     }
 }
@@ -69,7 +68,7 @@ pub fn list_values(
     values: &mut [usize],
 )
     requires { ⌜ ValuesFit (now outline1) (now outline2) (length (now «slice_at»)) (now slice) count (length (now values)) ⌝ }
-    ensures { λ _. ⌜ now (values .exit) ≡ sets (now (values .entry)) 0 (bodyValues (now (outline1 .entry)) (now (outline2 .entry)) (now («slice_at» .entry)) (now (slice .entry)) count) ⌝ }
+    ensures { λ _. ⌜ now (values .exit) ≡ sets (now (values .entry)) 0 (valuesOf (lists (now (outline1 .entry)) (now (outline2 .entry)) (now («slice_at» .entry)) (now (slice .entry))) count) ⌝ }
 {
     let n1 = outline1.len();
     let n2 = outline2.len();

@@ -1,20 +1,20 @@
 // The writer.
 ghost use mathlib.Core.Path.{_≡_};
+ghost use Prim.Native.Nat.{_+_};
 ghost use lib.ListN.{length};
 ghost use lib.Seq.{sets};
 ghost use Rattle.basis.specs.Refuse.{firstFrom};
 ghost use Rattle.stitch_run.specs.Stitch.{given};
 ghost use Rattle.record.specs.Form.{form1};
-ghost use Rattle.record.specs.Record.{recordOf};
-ghost use Rattle.record_write.specs.Writer.{keepRows, lengthFor, writtenRefused, writtenGiven, WriteLeft};
-ghost use Rattle.record_write.specs.Ready.{Keeps, KeepsIn};
+ghost use Rattle.record.specs.Record.{headOf, packed, recordOf};
+ghost use Rattle.record_write.specs.Writer.{keepRows, writtenRefused, writtenGiven, WriteLeft};
+ghost use Rattle.record_write.specs.Ready.{Packs, Keeps};
 use crate::pack;
 use crate::values;
-use basis::number::Tolerance;
 use record::form;
 use record::head;
-use select::class::Starts;
 use stitch_entries::faults;
+use stitch_run::plan::Plan;
 
 // What a writer answers: the bytes of the record, or its number and 0.
 pub struct Written {
@@ -40,125 +40,78 @@ fn written_given(length: usize) -> Written
 // Numbers 1 to 8: what the stitch refuses, and with it what the program does not take.
 fn keep_refusal(
     outline1: &[f64],
-    vc1: usize,
     outline2: &[f64],
-    vc2: usize,
     slice_at: &[usize],
     slice: &[f64],
-    slices: usize,
-    starts: Starts,
-    selector: u32,
-    tolerance: Tolerance,
+    p: Plan,
 ) -> u32
-    ensures { λ n. ⌜ n ≡ firstFrom 0 (keepRows (given (now (outline1 .entry)) vc1 (now (outline2 .entry)) vc2 (now («slice_at» .entry)) (now (slice .entry)) slices starts selector tolerance)) ⌝ }
+    ensures { λ n. ⌜ n ≡ firstFrom 0 (keepRows (given (now (outline1 .entry)) (now (outline2 .entry)) (now («slice_at» .entry)) (now (slice .entry)) p)) ⌝ }
 {
-    let r = faults::list_refusal(
-        outline1.len(),
-        vc1,
-        outline2.len(),
-        vc2,
-        slice_at.len(),
-        slice.len(),
-        slices,
-    );
-    let r = head::taken_refusal(r, vc1, vc2, slices);
-    let r = faults::code_refusal(r, vc1, vc2, selector, slice_at);
-    let r = faults::number_refusal(r, tolerance, outline1, outline2, slice);
-    faults::index_refusal(r, vc1, vc2, slice_at, starts, slices)
+    let r = faults::list_refusal(outline1, outline2, slice_at, slice, p);
+    let r = head::taken_refusal(r, p);
+    let r = faults::code_refusal(r, slice_at, p);
+    let r = faults::number_refusal(r, p.tolerance, outline1, outline2, slice);
+    faults::index_refusal(r, slice_at, p)
 }
 
-// The bytes that a stitch takes in version 1.
-fn length_of(vc1: usize, vc2: usize, slices: usize) -> usize
-    requires { ⌜ KeepsIn vc1 vc2 slices ⌝ }
-    ensures { λ r. ⌜ r ≡ lengthFor form1 vc1 vc2 slices ⌝ }
-{
-    form::HEAD1_BYTES
-        + (vc1 * form::VERTEX_BYTES + (vc2 * form::VERTEX_BYTES + slices * form::SLICE1_BYTES))
-}
-
-// Writes the record of a stitch that is not refused, where there is room.
-fn write_kept(
-    outline1: &[f64],
-    vc1: usize,
-    outline2: &[f64],
-    vc2: usize,
-    slice_at: &[usize],
-    slice: &[f64],
-    slices: usize,
-    starts: Starts,
-    selector: u32,
-    tolerance: Tolerance,
-    bytes: &mut [u8],
-)
-    requires { ⌜ Keeps (given (now outline1) vc1 (now outline2) vc2 (now «slice_at») (now slice) slices starts selector tolerance) (length (now bytes)) ⌝ }
-    ensures { λ _. ⌜ now (bytes .exit) ≡ sets (now (bytes .entry)) 0 (recordOf form1 (given (now (outline1 .entry)) vc1 (now (outline2 .entry)) vc2 (now («slice_at» .entry)) (now (slice .entry)) slices starts selector tolerance)) ⌝ }
+// Packs the values of a stitch, of version 1, from the front on.
+fn pack_kept(p: Plan, values: &[usize], bytes: &mut [u8])
+    requires { ⌜ Packs p (length (now values)) (length (now bytes)) ⌝ }
+    ensures { λ _. ⌜ now (bytes .exit) ≡ sets (now (bytes .entry)) 0 (packed (form1 .head) (headOf 1 p) (form1 .entry) (now (values .entry)) (p .vc1 + p .vc2) (p .slices)) ⌝ }
 {
     let v = form::version1();
     let widths = form::head1();
     let entry = form::slice1();
-    let mut held = [0usize; form::VALUES];
-    let n = 3 * vc1 + 3 * vc2 + slices * 10;
-    let head = values::head_values(vc1, vc2, selector, tolerance.position, starts, slices);
-    values::list_values(outline1, outline2, slice_at, slice, slices, &mut held);
+    let head = values::head_values(p);
     pack::pack_form(
         v,
         &widths,
         &head,
         &entry,
-        &held[0..n],
-        vc1 + vc2,
-        slices,
+        values,
+        p.vc1 + p.vc2,
+        p.slices,
         bytes,
     );
+}
+
+// Writes the record of a stitch that is not refused, where there is room.
+fn write_kept(
+    outline1: &[f64],
+    outline2: &[f64],
+    slice_at: &[usize],
+    slice: &[f64],
+    p: Plan,
+    bytes: &mut [u8],
+)
+    requires { ⌜ Keeps (given (now outline1) (now outline2) (now «slice_at») (now slice) p) (length (now bytes)) ⌝ }
+    ensures { λ _. ⌜ now (bytes .exit) ≡ sets (now (bytes .entry)) 0 (recordOf form1 (given (now (outline1 .entry)) (now (outline2 .entry)) (now («slice_at» .entry)) (now (slice .entry)) p)) ⌝ }
+{
+    let mut held = [0usize; form::VALUES];
+    let n = 3 * p.vc1 + 3 * p.vc2 + p.slices * form::COMMON_WIDTH;
+    values::list_values(outline1, outline2, slice_at, slice, p.slices, &mut held);
+    pack_kept(p, &held[0..n], bytes);
 }
 
 // Writes the record of a stitch, of version 1, at the front of the lent bytes.
 pub fn write(
     outline1: &[f64],
-    vc1: usize,
     outline2: &[f64],
-    vc2: usize,
     slice_at: &[usize],
     slice: &[f64],
-    slices: usize,
-    starts: Starts,
-    selector: u32,
-    tolerance: Tolerance,
+    p: Plan,
     bytes: &mut [u8],
 ) -> Written
-    ensures { λ r. ⌜ WriteLeft form1 (given (now (outline1 .entry)) vc1 (now (outline2 .entry)) vc2 (now («slice_at» .entry)) (now (slice .entry)) slices starts selector tolerance) (now (bytes .entry)) r (now (bytes .exit)) ⌝ }
+    ensures { λ r. ⌜ WriteLeft form1 (given (now (outline1 .entry)) (now (outline2 .entry)) (now («slice_at» .entry)) (now (slice .entry)) p) (now (bytes .entry)) r (now (bytes .exit)) ⌝ }
 {
-    let r = keep_refusal(
-        outline1,
-        vc1,
-        outline2,
-        vc2,
-        slice_at,
-        slice,
-        slices,
-        starts,
-        selector,
-        tolerance,
-    );
+    let r = keep_refusal(outline1, outline2, slice_at, slice, p);
     if r != 0 {
         return written_refused(r);
     }
-    let n = length_of(vc1, vc2, slices);
+    let n = head::length_of(p, form::version1());
     if bytes.len() < n {
         return written_refused(9);
     }
-    write_kept(
-        outline1,
-        vc1,
-        outline2,
-        vc2,
-        slice_at,
-        slice,
-        slices,
-        starts,
-        selector,
-        tolerance,
-        bytes,
-    );
+    write_kept(outline1, outline2, slice_at, slice, p, bytes);
     written_given(n)
 }

@@ -1,14 +1,7 @@
-// Runs an archived stitch again: reads the record in the file that the first argument names, or from standard input where there is none, and prints what came of it.
+// Runs an archived stitch again: reads the record in the file that the argument names, or from standard input where there is none, and prints what came of it.
+// What cannot be read, and a second name, is said on standard error, and then nothing is printed.
+mod read;
 mod show;
-
-// One byte more than a record has at most, so that a longer one is seen to be longer.
-const BYTES: usize = 4611;
-
-fn replay_from(fd: i32) {
-    let mut bytes = [0u8; BYTES];
-    let n = io::read_full(fd, &mut bytes);
-    show::replay(&bytes[..n]);
-}
 
 fn replay_file(path: &[u8]) {
     let fd = os::open_read(path);
@@ -16,13 +9,17 @@ fn replay_file(path: &[u8]) {
         os::fail(path);
         return;
     }
-    replay_from(fd);
+    read::replay_from(fd, path);
     libc::close(fd);
 }
 
 fn main() {
     if os::arg_count() < 2 {
-        replay_from(libc::STDIN_FILENO);
+        read::replay_from(libc::STDIN_FILENO, b"standard input");
+        return;
+    }
+    if 2 < os::arg_count() {
+        io::write_all(libc::STDERR_FILENO, b"replay: one file, and no second\n");
         return;
     }
     let mut path = io::buffer();

@@ -1,11 +1,12 @@
 // What a replay prints.
 use libc::STDOUT_FILENO;
+use record::form;
 use record_replay::replay;
 
-// Room for the vertices of 28 slices of offset 64: three numbers for each of 1 + 28 * 65.
-const ROOM: usize = 5463;
+// An entry for each slice that is taken; three numbers for each vertex of the need, which is the most where each slice has the most vertices.
+const SLICES: usize = form::TAKEN_SLICES;
 
-const SLICES: usize = 28;
+const ROOM: usize = 3 * (1 + SLICES * (form::TAKEN_VERTICES + 1));
 
 fn word(text: &[u8]) {
     io::write_all(STDOUT_FILENO, text);
@@ -21,8 +22,8 @@ fn refused(n: u32) {
     word(b"\n");
 }
 
-fn at(list: &[usize; 28], i: usize) -> usize {
-    if i < 28 { list[i] } else { 0 }
+fn at(list: &[usize; SLICES], i: usize) -> usize {
+    if i < SLICES { list[i] } else { 0 }
 }
 
 fn between(from: usize, to: usize) -> usize {
@@ -30,7 +31,7 @@ fn between(from: usize, to: usize) -> usize {
 }
 
 fn next(i: usize) -> usize {
-    if i < 28 { i + 1 } else { i }
+    if i < SLICES { i + 1 } else { i }
 }
 
 // How a chain ended.
@@ -44,7 +45,7 @@ fn ending(how: usize) {
 }
 
 // The slices of a chain.
-fn slices(chain: &[usize; 28], from: usize, to: usize) {
+fn slices(chain: &[usize; SLICES], from: usize, to: usize) {
     let mut i = from;
     let mut left = between(from, to);
     while left > 0 {
@@ -63,7 +64,7 @@ struct Shown {
 }
 
 // One chain: its slices, how it ended, the vertices of its loop, 0 unless it closed.
-fn line(chain: &[usize; 28], to: usize, how: usize, end: usize, shown: Shown) -> Shown {
+fn line(chain: &[usize; SLICES], to: usize, how: usize, end: usize, shown: Shown) -> Shown {
     slices(chain, shown.slices, to);
     ending(how);
     if how != 0 {
@@ -84,10 +85,10 @@ fn line(chain: &[usize; 28], to: usize, how: usize, end: usize, shown: Shown) ->
 }
 
 fn chains(
-    chain: &[usize; 28],
-    chain_ends: &[usize; 28],
-    chain_how: &[usize; 28],
-    ends: &[usize; 28],
+    chain: &[usize; SLICES],
+    chain_ends: &[usize; SLICES],
+    chain_how: &[usize; SLICES],
+    ends: &[usize; SLICES],
     count: usize,
 ) {
     let mut shown = Shown {

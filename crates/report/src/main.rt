@@ -1,11 +1,16 @@
 // The report on outlines in whole microdegrees: a vertex a line, an empty line between outlines, from the file that the argument names or from standard input.
-mod outline;
+// What cannot be read, and a second name, is said on standard error, and then there is no report.
+mod gathered;
 mod print;
 mod read;
 
 fn main() {
     if os::arg_count() < 2 {
         read::report_on(libc::STDIN_FILENO);
+        return;
+    }
+    if 2 < os::arg_count() {
+        io::write_all(libc::STDERR_FILENO, b"report: one file, and no second\n");
         return;
     }
     let mut path = io::buffer();

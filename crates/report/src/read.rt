@@ -1,7 +1,7 @@
 // Reading to the end.
 ghost use Rattle.straight_entries.specs.Running.{Reported};
-use crate::outline;
-use crate::outline::State;
+use crate::gathered;
+use crate::gathered::State;
 use crate::print;
 
 // Every byte of a part of the text.
@@ -12,7 +12,7 @@ fn take_all(start: State, points: &mut [i64], text: &[u8]) -> State
     let mut s = start;
     let mut i: usize = 0;
     while i < text.len() {
-        s = outline::take(s, points, text[i]);
+        s = gathered::take(s, points, text[i]);
         i += 1;
     }
     s
@@ -27,10 +27,10 @@ fn read_some(fd: i32, s: State, points: &mut [i64]) -> State
     let got = libc::read(fd, &mut buf);
     if got < 0 {
         os::fail(b"read");
-        return outline::stopped(s, 1);
+        return gathered::stopped(s, 1);
     }
     if got == 0 {
-        return outline::stopped(s, 0);
+        return gathered::stopped(s, 0);
     }
     let n = io::count(got, &buf);
     take_all(s, points, &buf[..n])
@@ -40,7 +40,7 @@ fn read_some(fd: i32, s: State, points: &mut [i64]) -> State
 fn read_all(fd: i32, points: &mut [i64]) -> State
     ensures { λ r. ⌜ Reported (r .«so_far») ⌝ }
 {
-    let mut s = outline::begin();
+    let mut s = gathered::begin();
     let mut turns = u64::MAX;
     while turns > 0 && s.more == 1 {
         s = read_some(fd, s, points);
@@ -53,7 +53,7 @@ fn read_all(fd: i32, points: &mut [i64]) -> State
 pub(crate) fn report_on(fd: i32) {
     let mut points = [0i64; 2050];
     let s = read_all(fd, &mut points);
-    let s = outline::finish(s, &mut points);
+    let s = gathered::finish(s, &mut points);
     if s.bad == 0 {
         print::report(s.so_far);
     }

@@ -41,7 +41,7 @@ use Rattle.stitch_entries.specs.StitchEntry.{stitchRefusal, StitchLeft}
 
 pub data Said : Type 0 where
   -- the candidates of an outline, over its cuts and splits: start and offset of each
-  candidatesAre : cuts.Given → (source : ℕ) → (splits : List Float) → (numbers : List ℕ) → Said
+  candidatesAre : cuts.Given → (splits : List Float) → (numbers : List ℕ) → Said
   -- a view over an outline has so many vertices
   verticesAre : (outline : List Float) → (vc : ℕ) → View → ℕ → Said
   -- what pruning gives: so many slices, and where their classes start
@@ -64,9 +64,9 @@ t# n says = record { number = n; says = says }
 -- ---- of the definitions
 
 abbrev pub Holds : Said → Type 0
-Holds (candidatesAre g source splits numbers) =
+Holds (candidatesAre g splits numbers) =
     (candNumbers (alongCuts g splits) ≡ numbers)
-    × (candidatesRefusal g source splits (2 * cuts.cutCount g) (6 * cuts.cutCount g) (6 * cuts.cutCount g) ≡ 0)
+    × (candidatesRefusal g splits (record { at = 2 * cuts.cutCount g; cand = 6 * cuts.cutCount g; probe = 6 * cuts.cutCount g }) ≡ 0)
 Holds (verticesAre o vc v n) = (vertexCount (viewData v) ≡ n) × (viewVertexRefusal o vc v ≡ 0)
 Holds (slicesAre c p) = (prunedOf c ≡ p) × (pruneRefusal c (codeWidth * needOf (c .call)) (shapeWidth * needOf (c .call)) ≡ 0)
 Holds (loopsAre g rounds ends loops room) =
@@ -108,8 +108,8 @@ pub record Untouched (x left : Lists) : Type 0 where
 
 abbrev pub Answers : Said → Type 0
 -- `mask_candidates`
-Answers (candidatesAre g source splits numbers) =
-    (l : slices.Rooms) (r : CountAnswer) (left : slices.Rooms) → CandRooms g l → Sliced g source splits l r left
+Answers (candidatesAre g splits numbers) =
+    (l : slices.Rooms) (r : CountAnswer) (left : slices.Rooms) → CandRooms g l → Sliced g splits l r left
     → (r .refusal ≡ 0) × (take (2 * r .count) (left .at) ≡ numbers)
 -- `mask_view_vertex`: the last vertex is found, and none after it
 Answers (verticesAre o vc v n) = (viewVertexAnswer o vc v (n - 1) .found ≡ 1) × (viewVertexAnswer o vc v n .found ≡ 0)
@@ -138,9 +138,9 @@ a = floats (0 ∷ 0 ∷ 0 ∷ 4 ∷ 0 ∷ 0 ∷ 4 ∷ 4 ∷ 0 ∷ 0 ∷ 4 ∷ 0 
 abbrev pub b : List Float
 b = floats (2 ∷ 2 ∷ 0 ∷ 6 ∷ 2 ∷ 0 ∷ 6 ∷ 6 ∷ 0 ∷ 2 ∷ 6 ∷ 0 ∷ [])
 
--- "intersections (4,2) on segments 1 and 0, then (2,4) on 2 and 3": the cuts of A, 0, and of B, 1
+-- "intersections (4,2) on segments 1 and 0, then (2,4) on 2 and 3": the cuts of A, outline 1, and of B, outline 2
 abbrev pub cutsOf : List Float → ℕ → cuts.Given
-cutsOf outline which = cuts.given outline 4 which (1 ∷ 0 ∷ 2 ∷ 3 ∷ []) (floats (4 ∷ 2 ∷ 2 ∷ 4 ∷ [])) 2 [] [] 0 t
+cutsOf outline source = cuts.given outline (1 ∷ 0 ∷ 2 ∷ 3 ∷ []) (floats (4 ∷ 2 ∷ 2 ∷ 4 ∷ [])) [] [] (cuts.caseOf 4 source 2 0 t)
 
 -- a split of a straight segment: the part from (x, y) on, and the cut (u, v) twice
 abbrev splitAt : ℕ → ℕ → ℕ → ℕ → List Float
@@ -183,7 +183,7 @@ abbrev pub triangle : List Float
 triangle = floats (0 ∷ 0 ∷ 0 ∷ 4 ∷ 0 ∷ 0 ∷ 0 ∷ 4 ∷ 0 ∷ [])
 
 abbrev pub oneCut : ℕ → cuts.Given
-oneCut x = cuts.given triangle 3 0 (0 ∷ 0 ∷ []) (floats (x ∷ 0 ∷ [])) 1 [] [] 0 t
+oneCut x = cuts.given triangle (0 ∷ 0 ∷ []) (floats (x ∷ 0 ∷ [])) [] [] (cuts.caseOf 3 1 1 0 t)
 
 -- its candidate's view: from the cut round to the cut
 abbrev roundFrom : ℕ → ℕ → View
@@ -217,9 +217,9 @@ overTheGap =
 abbrev pub sheet : List Case
 sheet =
     -- "T1 A's candidates: start 1 offset 1; start 2 offset 3."
-    t# 1 (candidatesAre (cutsOf a 0) 1 (splitAt 4 0 4 2 ++ splitAt 4 4 2 4) (1 ∷ 1 ∷ 2 ∷ 3 ∷ []) ∷ [])
+    t# 1 (candidatesAre (cutsOf a 1) (splitAt 4 0 4 2 ++ splitAt 4 4 2 4) (1 ∷ 1 ∷ 2 ∷ 3 ∷ []) ∷ [])
     -- "T2 B's: start 0 offset 3; start 3 offset 1."
-    ∷ t# 2 (candidatesAre (cutsOf b 1) 2 (splitAt 2 2 4 2 ++ splitAt 2 6 2 4) (0 ∷ 3 ∷ 3 ∷ 1 ∷ []) ∷ [])
+    ∷ t# 2 (candidatesAre (cutsOf b 2) (splitAt 2 2 4 2 ++ splitAt 2 6 2 4) (0 ∷ 3 ∷ 3 ∷ 1 ∷ []) ∷ [])
     -- "T3 Union: starts 1, 2, 2; 2 rounds; one loop (2,4) (0,4) (0,0) (4,0) (4,2) (6,2) (6,6) (2,6); room 9."
     ∷ t# 3
     (slicesAre (prunedBy 0) (twoFrom 1 2 2)
@@ -231,9 +231,9 @@ sheet =
     (slicesAre (prunedBy 2) (twoFrom 1 2 2)
     ∷ loopsAre (stitchOf 2 1) 2 (6 ∷ []) (turned 4 2 ++ turned 4 0 ++ turned 0 0 ++ turned 0 4 ++ at 2 4 ++ at 2 2) 7 ∷ [])
     -- "T6 A triangle with one cut on vertex 0: offset 2."
-    ∷ t# 6 (candidatesAre (oneCut 0) 1 (splitAt 0 0 0 0) (0 ∷ 2 ∷ []) ∷ [])
+    ∷ t# 6 (candidatesAre (oneCut 0) (splitAt 0 0 0 0) (0 ∷ 2 ∷ []) ∷ [])
     -- "T7 The cut inside segment 0: offset 3, 5 view vertices."
-    ∷ t# 7 (candidatesAre (oneCut 1) 1 (splitAt 0 0 1 0) (0 ∷ 3 ∷ []) ∷ verticesAre triangle 3 (roundFrom 1 3) 5 ∷ [])
+    ∷ t# 7 (candidatesAre (oneCut 1) (splitAt 0 0 1 0) (0 ∷ 3 ∷ []) ∷ verticesAre triangle 3 (roundFrom 1 3) 5 ∷ [])
     -- "T8 No slices: 0 rounds, 0 loops, empty room accepted."
     ∷ t# 8 (loopsAre nothing 0 [] [] 0 ∷ [])
     -- "T9 Union with room 8: refusal 9."

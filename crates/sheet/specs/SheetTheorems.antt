@@ -29,15 +29,15 @@ use Rattle.view_entries.specs.ViewVertex.{viewVertexRefusal, viewVertexAnswer}
 use Rattle.view_entries.specs.SingleEntry.{singleRefusal, singleAnswer}
 use Rattle.view.specs.Create.{nearVertex, bulgeBefore, createView, singleView}
 use Rattle.cut.specs.Cuts as cuts
-use Rattle.cut.specs.Cuts.{hitCut, moved, markedEnd, lapCut, cutOf}
+use Rattle.cut.specs.Cuts.{whichOf, hitCut, moved, markedEnd, lapCut, cutOf}
 use Rattle.cut.specs.Order.{distSquared, distance, sooner, earlier, insert, ordered, orderOf, cutNumbers, cutPoints}
 use Rattle.candidate.specs.Candidates as slices
 use Rattle.candidate_write.specs.ItemLaws.{flat-length, wide-numbers}
-use Rattle.candidate.specs.Candidates.{sameNext, firstCut, traverseFrom, traverseOf, sliceOf, pieceOf, walkOf, walked, walkAt, candidateAt, candidatesTo, walkLost, lostTo, anyWalkLost}
-use Rattle.cut_entries.specs.CutRows.{tooMany, cutRoomFault, cutLengthFault}
+use Rattle.candidate.specs.Candidates.{sameNext, firstCut, traverseFrom, traverseOf, sliceOf, pieceOf, walkOf, walked, walkAt, candidateAt, candidatesTo}
+use Rattle.cut_entries.specs.CutRows.{listRows, valueRows, viewStartFault, viewOffsetFault, indexRows}
 use Rattle.basis.specs.declared.answer.CountAnswer.{CountAnswer}
 use Rattle.basis.specs.Answers.{countRefused, counted}
-use Rattle.candidate_entries.specs.Candidates.{alongCuts, candidatesRefusal, candNumber}
+use Rattle.candidate_entries.specs.Candidates.{alongCuts, laterRows, candidatesRefusal, candNumber}
 use Rattle.select.specs.Select.{classOf, preferenceOf, suitsOf, firstThat, orElse, choose, choicesOf, pickOf, selectOf}
 use Rattle.prune.specs.declared.counts.Pruned.{Pruned}
 use Rattle.prune.specs.Prune as prune
@@ -48,12 +48,12 @@ use Rattle.prune_entries.specs.PruneEntry.{inputRows, pruneRefusal, pruneNumber
 use Rattle.stitch_vertices.specs.Vertices.{addVertex, addFirst, addView, dropLast}
 use Rattle.stitch_run.specs.Run as run
 use Rattle.stitch_run.specs.Run.{passing, free, candidate, taken, answered, asked, nextOf, roundOf, opened, onward, ended}
-use Rattle.stitch_run.specs.Run.{stopped, walk, chainFrom, added, begun, turn, turns, roundsOf}
+use Rattle.stitch_run.specs.Run.{walk, chainFrom, added, begun, turn, turns, roundsOf}
 use Rattle.stitch_run.specs.Stitch as stitch
 use Rattle.stitch_run.specs.Stitch.{sliceOutline, sliceCount, sliceVertex, startPoint, addSlice}
 use Rattle.slice.specs.Slice.{codesAt, shapeAt, sliceView}
 use Rattle.stitch_run.specs.Stitch.{offersTo, rulesOf, runOf, loopOf, loopsOf, howOf, totals, roundCount, loopCount, roomItems}
-use Rattle.stitch_run.specs.Stitch.{endItems, isSpent, anySpent, roundsFault, sumBelow, weightAt, needFor}
+use Rattle.stitch_run.specs.Stitch.{endItems, sumBelow, weightAt, needFor}
 use Rattle.stitch.specs.Lent.{Lists}
 use Rattle.stitch_entries.specs.StitchRows.{startsFault, lengths}
 use Rattle.stitch_entries.specs.declared.answer.StitchAnswer.{StitchAnswer}
@@ -72,11 +72,11 @@ unfolding numbers vertexAt wrap outlineAt forwardAt turnedAt invertedAt vertexOf
 views = tt
 
 cutting : Unit {0}
-unfolding views pointAt hitCut moved markedEnd lapCut cutOf distSquared distance sooner earlier insert ordered orderOf cutNumbers cutPoints flatMap
+unfolding views pointAt whichOf hitCut moved markedEnd lapCut cutOf distSquared distance sooner earlier insert ordered orderOf cutNumbers cutPoints flatMap
 cutting = tt
 
 slicing : Unit {0}
-unfolding cutting sameNext slices.firstFrom firstCut traverseFrom traverseOf sliceOf pieceOf walkOf walked walkAt candidateAt candidatesTo slices.candidatesOf walkLost lostTo anyWalkLost
+unfolding cutting sameNext slices.firstFrom firstCut traverseFrom traverseOf sliceOf pieceOf walkOf walked walkAt candidateAt candidatesTo slices.candidatesOf
 slicing = tt
 
 pruning : Unit {0}
@@ -84,15 +84,15 @@ unfolding numbers flatMap candCodes lapCodes lapInverted keptTo lapsTo wantedOf 
 pruning = tt
 
 rounds : Unit {0}
-unfolding passing free candidate run.candidatesOf taken answered asked nextOf roundOf opened onward ended stopped walk chainFrom added begun turn turns run.run classOf preferenceOf suitsOf firstThat orElse choose choicesOf pickOf selectOf
+unfolding passing free candidate run.candidatesOf taken answered asked nextOf roundOf opened onward ended walk chainFrom added begun turn turns run.run classOf preferenceOf suitsOf firstThat orElse choose choicesOf pickOf selectOf
 rounds = tt
 
 stitching : Unit {0}
-unfolding views pruning rounds addVertex addFirst addView dropLast codesAt shapeAt sliceView sliceOutline sliceCount sliceVertex startPoint addSlice offersTo rulesOf runOf loopOf loopsOf howOf totals roundCount loopCount roomItems endItems roundsOf isSpent anySpent roundsFault sumBelow weightAt needFor stitch.needOf run.slicesOf run.orderOf
+unfolding views pruning rounds addVertex addFirst addView dropLast codesAt shapeAt sliceView sliceOutline sliceCount sliceVertex startPoint addSlice offersTo rulesOf runOf loopOf loopsOf howOf totals roundCount loopCount roomItems endItems roundsOf sumBelow weightAt needFor stitch.needOf run.slicesOf run.orderOf
 stitching = tt
 
 refusals : Unit {0}
-unfolding firstOf lengthFault sizeFault sourceFault tooMany cutRoomFault cutLengthFault candidatesRefusal inputRows pruneRefusal eachSlice sourceKnown startInside offsetInside startsFault stitchRefusal viewVertexRefusal singleRefusal
+unfolding firstOf lengthFault sizeFault sourceFault listRows valueRows viewStartFault viewOffsetFault indexRows laterRows candidatesRefusal inputRows pruneRefusal eachSlice sourceKnown startInside offsetInside startsFault stitchRefusal viewVertexRefusal singleRefusal
 refusals = tt
 
 -- ---- the theorem of the definitions
@@ -136,13 +136,13 @@ in-front : {A : Type 0} (z : A) (w need : ℕ) (items wanted entry l : List A) �
 unfolding roomOf
 in-front {A = A} z w need items wanted entry l e h = subst (λ (k : List A). take (length k) l ≡ k) h (room-front z w need items entry l (length items) e refl)
 
-candidates-answer : (g : cuts.Given) (source : ℕ) (splits : List Float) (wanted : List ℕ) → Holds (candidatesAre g source splits wanted) → Answers (candidatesAre g source splits wanted)
+candidates-answer : (g : cuts.Given) (splits : List Float) (wanted : List ℕ) → Holds (candidatesAre g splits wanted) → Answers (candidatesAre g splits wanted)
 unfolding slices.candidatesOf
-candidates-answer g source splits wanted h l r left rooms holds =
+candidates-answer g splits wanted h l r left rooms holds =
     let along = alongCuts g splits in
-    let none : candNumber g source splits l ≡ 0 = rw (rooms .at, rooms .cand, rooms .probe) (h .1) in
-    let told : r ≡ counted (slices.candCount along) = answer-accepted countRefused (candNumber g source splits l) _ r (holds .answers) none in
-    let at = answer-accepted (λ _. l .at) (candNumber g source splits l) _ (left .at) (holds .at) none in
+    let none : candNumber g splits l ≡ 0 = rw (rooms .at, rooms .cand, rooms .probe) (h .1) in
+    let told : r ≡ counted (slices.candCount along) = answer-accepted countRefused (candNumber g splits l) _ r (holds .answers) none in
+    let at = answer-accepted (λ _. l .at) (candNumber g splits l) _ (left .at) (holds .at) none in
     let n : slices.candCount along ≡ r .count = ap (λ (x : CountAnswer). x .count) (sym told) in
     let size : length (slices.candNumbers along) ≡ 2 * r .count =
     flat-length 2 slices.numbersOf wide-numbers along (along .count) ∙ ap (λ (k : ℕ). 2 * k) n in
@@ -210,7 +210,7 @@ apart-answer o vc i a b t h =
     made = rw (h .0)
 
 answers-of : (s : Said) → Holds s → Answers s
-answers-of (candidatesAre g source splits wanted) h = candidates-answer g source splits wanted h
+answers-of (candidatesAre g splits wanted) h = candidates-answer g splits wanted h
 answers-of (verticesAre o vc v n) h = vertices-answer o vc v n h
 answers-of (slicesAre c p) h = slices-answer c p h
 answers-of (loopsAre g n ends loops room) h = loops-answer g n ends loops room h

@@ -17,7 +17,7 @@ use Rattle.stitch_vertices.specs.Held.{chainOf}
 use Rattle.stitch_vertices.specs.RestLaws.{chain-length, chain-less, chain-numbers, rest-lent, rest-front, rest-back}
 use Rattle.stitch_chain.specs.declared.rounds.ChainEnd.{ChainEnd}
 use Rattle.stitch.specs.declared.turn.Tally.{Tally}
-use Rattle.stitch_run.specs.Run.{Ending, closed, tooSmall, noCandidate, noSelection, spent, Chain, Stitched, opened, added, begun, turn, turns, slicesOf, orderOf}
+use Rattle.stitch_run.specs.Run.{Ending, closed, tooSmall, noCandidate, noSelection, Chain, Stitched, opened, added, begun, turn, turns, slicesOf, orderOf}
 use Rattle.stitch_run.specs.Stitch.{Given, rulesOf, loopOf, loopsOf, howOf, totals, sumBelow, weightAt, needFor, needOf}
 use Rattle.slice.specs.Slice.{sliceView}
 use Rattle.stitch_run.specs.Demand3.{sumOver, leaves, finished}
@@ -58,7 +58,6 @@ left-of closed = looped refl (λ vs. refl) (λ m. refl)
 left-of tooSmall = nothing refl (λ vs. refl) (λ m. refl)
 left-of noCandidate = nothing refl (λ vs. refl) (λ m. refl)
 left-of noSelection = nothing refl (λ vs. refl) (λ m. refl)
-left-of spent = nothing refl (λ vs. refl) (λ m. refl)
 
 module _ (l : List (Chain (List Vertex))) (c : Chain (List Vertex)) where
   -- nothing more is left

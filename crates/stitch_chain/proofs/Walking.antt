@@ -1,5 +1,5 @@
 -- Laws of a chain's rounds.
-use Prim.Native.Nat.{ℕ, suc, _+_, _-_, _*_, _≤_, _<_}
+use Prim.Native.Nat.{ℕ, zero, suc, _+_, _-_, _*_, _≤_, _<_}
 use mathlib.Core.Bool.{Bool, true, false}
 use mathlib.Core.Path.{_≡_, refl, sym, ap, subst, _∙_}
 use mathlib.Core.List.{List, [], _∷_, _++_, append-assoc, append-nil, map, map-append}
@@ -25,7 +25,7 @@ use Rattle.stitch_round.specs.Ready.{Sound, Points, toldOf, RoundFit, standing,
 use Rattle.stitch_chain.specs.Ready.{Begun, Placing, Placed, orderTo, doneTo, mostOf, Opening, chainAt, Walked}
 use Rattle.stitch_chain.specs.ChainLaws.{begun-put, begins-fit}
 
--- ---- the loop of rounds. w is the chain under way, as the definition has it; `left` rounds may still be taken
+-- ---- the loop of rounds. w is the chain under way, as the definition has it; `left` slices may still be joined
 
 pub record Walking (g : Given) (i : ℕ) (points : List Float) (room₀ : List Float) (chain₀ : List ℕ) (visited : List Bool) (room : List Float) (chain : List ℕ) (n current rounds : ℕ) : Type 0 where
   w : Underway (List Vertex)
@@ -37,7 +37,7 @@ pub record Walking (g : Given) (i : ℕ) (points : List Float) (room₀ : List F
   built-is : w .built ≡ chainOf room n
   marks-is : w .visited ≡ visited
   whole : walk (rulesOf g) left (nextOf (rulesOf g) w) w ≡ chainAt g i
-  enough : g .slices < left + length (orderTo g i ++ placed w)
+  enough : g .slices ≤ left + length (orderTo g i ++ placed w)
   listed : Begun rounds (orderTo g i ++ map (λ r. r .slice) (w .past)) chain₀ (g .slices) chain
   beyond : (v : ℕ) → 3 * mostOf g ≤ 3 * doneTo g i + v → drop v room ≡ drop v room₀
   pub sound : Sound g
@@ -66,9 +66,10 @@ module _ {C : Type 0} (R : Rules C) where
   unfolding walk
   walk-onto f j w e = ap (λ (x : Next). walk R (suc f) x w) e
 
-  walk-ends : (f : ℕ) (y : Ending) (w : Underway C) → nextOf R w ≡ ends y → walk R (suc f) (nextOf R w) w ≡ ended R w y
+  walk-ends : (f : ℕ) (y : Ending) (w : Underway C) → nextOf R w ≡ ends y → walk R f (nextOf R w) w ≡ ended R w y
   unfolding walk
-  walk-ends f y w e = ap (λ (x : Next). walk R (suc f) x w) e
+  walk-ends zero y w e = ap (λ (x : Next). walk R zero x w) e
+  walk-ends (suc f) y w e = ap (λ (x : Next). walk R (suc f) x w) e
 
 -- ---- what the definition's laws say of a chain under way
 
@@ -133,7 +134,7 @@ module _ (o1 o2 : List Float) (at : List ℕ) (numbers : List Float) (p : Plan) 
       let z : length (v .built) ≡ n = ap length b ∙ chain-length room′ n in
       record {
         w = v;
-        left = suc (p .slices);
+        left = p .slices;
         going = u;
         roomy = y;
         first-is = refl;
@@ -222,7 +223,7 @@ module _ (o1 o2 : List Float) (at : List ℕ) (numbers : List Float) (p : Plan) 
             let u = going-onward R (among g) (orderTo g i) (t .w) j onto-is (t .going) in
             let y = roomy-onward R (among g) length (weightAt at) (grows g) (doneTo g i) (orderTo g i) (t .w) j (t .going) (t .roomy) in
             let f = t .left - 1 in
-            let s : t .left ≡ suc f = omega (arith, t .enough, tally-most (p .slices) _ _ (t .going .tally)) in
+            let s : t .left ≡ suc f = omega (arith, t .enough, placed-longer R (among g) (orderTo g i) (t .w) j, tally-most (p .slices) _ _ (u .tally)) in
             let b : v .built ≡ chainOf room′ n′ =
             ap (λ (z : List Vertex). addSlice g j (dropLast z)) (t .built-is) ∙ ap (addSlice g j) (sym (chain-less room n (t .some))) ∙ sym (x .added .grown .chain) in
             let m : v .visited ≡ visited′ = ap (λ (z : List Bool). set z j true) (t .marks-is) ∙ sym (x .marks) in
@@ -261,10 +262,8 @@ module _ (o1 o2 : List Float) (at : List ℕ) (numbers : List Float) (p : Plan) 
       unfolding ended
       walk-end {how} q =
           let x = ends-of (nextOf R (t .w)) how (sym q ∙ told) in
-          let f = t .left - 1 in
-          let s : t .left ≡ suc f = unfold rulesOf in omega (arith, t .enough, tally-most (p .slices) _ _ (t .going .tally)) in
           let e : chainAt g i ≡ ended R (t .w) (x .0) =
-          sym (t .whole) ∙ ap (λ (z : ℕ). walk R z (nextOf R (t .w)) (t .w)) s ∙ walk-ends R f (x .0) (t .w) (x .1) in
+          sym (t .whole) ∙ walk-ends R (t .left) (x .0) (t .w) (x .1) in
           let c : (orderTo g i ++ map (λ r. r .slice) (t .w .past)) ++ (current ∷ []) ≡ orderTo g i ++ slicesOf (chainAt g i .chain) =
           append-assoc (orderTo g i) (map (λ r. r .slice) (t .w .past)) (current ∷ [])
           ∙ ap (λ (z : List ℕ). orderTo g i ++ z) (ap (λ (z : ℕ). map (λ r. r .slice) (t .w .past) ++ (z ∷ [])) (sym (t .current-is)) ∙ sym (ap (λ (z : Finished (List Vertex)). slicesOf (z .chain)) e ∙ ended-slices R (among g) (t .w) (x .0))) in

@@ -19,14 +19,13 @@ use Rattle.stitch_run.specs.declared.plan.Plan.{Plan}
 use Rattle.stitch_run.specs.Stitch.{Given, given, sliceOutline, sliceCount, roundCount, loopCount, chainCount}
 use Rattle.slice.specs.Slice.{codeWidth, shapeWidth, codesAt, sliceView, sliceOffset}
 use Rattle.slice.specs.SliceLaws.{start-at, offset-at}
-use Rattle.stitch_run.specs.Demand3Theorems.{no-rounds-fault}
 use Rattle.stitch_round.specs.Ready.{Sound}
 use Rattle.stitch.specs.Lent.{Lists, NeedFit, StitchFit, Written}
 use Rattle.stitch.specs.declared.write.Stitched.{Stitched}
 use Rattle.stitch_entries.specs.declared.answer.StitchAnswer.{StitchAnswer}
 use Rattle.stitch_entries.specs.declared.faults.Lengths.{Lengths}
 use Rattle.stitch_entries.specs.Answers.{stitchRefused, stitchGiven}
-use Rattle.stitch_entries.specs.StitchEntry.{listPart, codePart, numberPart, indexPart, shapeRows, roomPart, guardRows, stitchRefusal, lengthsOf, stitchNumber, StitchLeft}
+use Rattle.stitch_entries.specs.StitchEntry.{listPart, codePart, numberPart, indexPart, shapeRows, roomPart, stitchRefusal, lengthsOf, stitchNumber, StitchLeft}
 
 module _ (g : Given) where
   -- each slice's view fits its own outline
@@ -99,15 +98,9 @@ module _ (g : Given) where
   stays zero t h = absurd (h refl)
   stays (suc r) t h = sym (found-stays r t)
 
-  -- the guard's row is never there
-  guard-none : (r : ℕ) → r ≡ firstFrom r (guardRows g)
-  unfolding firstFrom orElse
-  guard-none zero = rw (no-rounds-fault g)
-  guard-none (suc r) = refl
-
   module _ (l : Lengths) where
     abbrev rest : List Row
-    rest = roomPart g l ++ guardRows g
+    rest = roomPart g l
 
     pub shape-found : (r : ℕ) → r ≡ firstFrom 0 (shapeRows g) → (r ≡ 0 → ⊥) → r ≡ stitchRefusal g l
     unfolding stitchRefusal
@@ -117,17 +110,17 @@ module _ (g : Given) where
     unfolding stitchRefusal
     room-found r p e z q =
         first-from (shapeRows g ++ rest) r tt
-        (then-rows r p 0 (shapeRows g) rest (then-rows r r p (roomPart g l) (guardRows g) (guard-none r) (subst (λ (n : ℕ). r ≡ firstFrom n (roomPart g l)) (sym z) q)) e)
+        (then-rows r p 0 (shapeRows g) rest (subst (λ (n : ℕ). r ≡ firstFrom n (roomPart g l)) (sym z) q) e)
 
   module _ (x : Lists) where
     pub stitch-accepted : (number : ℕ) → number ≡ stitchNumber g x → number ≡ 0 → StitchFit g x
     unfolding stitchRefusal
     stitch-accepted number e z =
         let rooms = roomPart g (lengthsOf x) in
-        let ok = clear (shapeRows g ++ (rooms ++ guardRows g)) tt (sym e ∙ z) in
-        let d : Clear rooms = clear-left rooms (guardRows g) (clear-right (shapeRows g) (rooms ++ guardRows g) ok) in
+        let ok = clear (shapeRows g ++ rooms) tt (sym e ∙ z) in
+        let d : Clear rooms = clear-right (shapeRows g) rooms ok in
         record {
-          sound = sound (clear-left (shapeRows g) (rooms ++ guardRows g) ok);
+          sound = sound (clear-left (shapeRows g) rooms ok);
           long =
               record {
                 room = ltb-false _ _ (d .0);

@@ -21,12 +21,12 @@ use Rattle.outline.specs.declared.point.Vertex.{Vertex}
 use Rattle.stitch_run.specs.Run.{Chain, slicesOf, orderOf}
 use Rattle.stitch_run.specs.Demand3.{LowestFirst}
 use Rattle.stitch_run.specs.Stitch.{Given, runOf, totals, roundCount, loopCount, chainCount, chainItems, chainEndItems}
-use Rattle.stitch_run.specs.Demand3Theorems.{exactly-n-rounds, each-slice-once, no-other-slice, lowest-begins, chains-ascend, chain-items, chain-end-items, no-rounds-fault}
+use Rattle.stitch_run.specs.Demand3Theorems.{exactly-n-rounds, each-slice-once, no-other-slice, lowest-begins, chains-ascend, chain-items, chain-end-items}
 use Rattle.stitch_run.specs.NeedIsTight.{toAndFro, Tight, need-is-tight}
 use Rattle.stitch.specs.Lent.{Lists, Long}
 use Rattle.stitch_entries.specs.declared.answer.StitchAnswer.{StitchAnswer}
 use Rattle.stitch_entries.specs.Answers.{stitchRefused, stitchGiven}
-use Rattle.stitch_entries.specs.StitchEntry.{shapeRows, roomPart, lengthsOf, guardRows, stitchRefusal, stitchNumber, StitchLeft}
+use Rattle.stitch_entries.specs.StitchEntry.{shapeRows, roomPart, lengthsOf, stitchRefusal, stitchNumber, StitchLeft}
 use Rattle.stitch_entries.specs.TightLaws.{tight-shape}
 use Rattle.stitch_entries.specs.Demand.{parted, chainsIn, Demanded, Shorter}
 
@@ -59,12 +59,12 @@ abbrev onlyNumber : ℕ → List Row → Bool
 onlyNumber n [] = true
 onlyNumber n (row b m ∷ t) = eqb m n && onlyNumber n t
 
-first-same : (n : ℕ) (s t : List Row) → T (onlyNumber n s) → Applies n s → firstOf (s ++ t) ≡ n
+first-same : (n : ℕ) (s : List Row) → T (onlyNumber n s) → Applies n s → firstOf s ≡ n
 unfolding firstOf
-first-same n [] t h a = absurd a
-first-same n (row true m ∷ s) t h a = eqb-true m n (true-of (eqb m n) (T-left (eqb m n) (onlyNumber n s) h))
-first-same n (row false m ∷ s) t h (inl (p, q)) = absurd (false≢true p)
-first-same n (row false m ∷ s) t h (inr a) = first-same n s t (T-right (eqb m n) (onlyNumber n s) h) a
+first-same n [] h a = absurd a
+first-same n (row true m ∷ s) h a = eqb-true m n (true-of (eqb m n) (T-left (eqb m n) (onlyNumber n s) h))
+first-same n (row false m ∷ s) h (inl (p, q)) = absurd (false≢true p)
+first-same n (row false m ∷ s) h (inr a) = first-same n s (T-right (eqb m n) (onlyNumber n s) h) a
 
 -- the rows of number 9
 abbrev rooms : Given → Lists → List Row
@@ -118,7 +118,7 @@ module _ (g : Given) (x : Lists) (r : StitchAnswer) (left : Lists) (holds : Stit
     -- nothing of 1 to 8 applies to it
     pub accepted-shape : firstOf (shapeRows g) ≡ 0
     unfolding stitchRefusal
-    accepted-shape = none-clear (shapeRows g) (clear-left (shapeRows g) (rooms g x ++ guardRows g) (clear (shapeRows g ++ (rooms g x ++ guardRows g)) tt number))
+    accepted-shape = none-clear (shapeRows g) (clear-left (shapeRows g) (rooms g x) (clear (shapeRows g ++ rooms g x) tt number))
 
   -- ---- the room: of a call to which nothing of 1 to 8 applies
 
@@ -129,23 +129,20 @@ module _ (g : Given) (x : Lists) (r : StitchAnswer) (left : Lists) (holds : Stit
     refusal-is (suc n) a b c = refl
 
     -- the rooms decide
-    by-rooms : r .refusal ≡ firstOf (rooms g x ++ guardRows g)
+    by-rooms : r .refusal ≡ firstOf (rooms g x)
     unfolding stitchRefusal
     by-rooms =
-        ap (λ (a : StitchAnswer). a .refusal) (holds .answers) ∙ refusal-is (stitchNumber g x) _ _ _ ∙ first-later (shapeRows g) (rooms g x ++ guardRows g) (clear (shapeRows g) tt shape)
+        ap (λ (a : StitchAnswer). a .refusal) (holds .answers) ∙ refusal-is (stitchNumber g x) _ _ _ ∙ first-later (shapeRows g) (rooms g x) (clear (shapeRows g) tt shape)
 
     -- the need is always enough
     pub need-accepted : Long g x → r .refusal ≡ 0
     need-accepted l =
         by-rooms
-        ∙ none-clear (rooms g x ++ guardRows g)
-        (clear-both (rooms g x) (guardRows g)
-        (le-ltb _ _ (l .room), (le-ltb _ _ (l .ends), (le-ltb _ _ (l .chain), (le-ltb _ _ (l .chainEnds), (le-ltb _ _ (l .chainHow), tt)))))
-        (no-rounds-fault g, tt))
+        ∙ none-clear (rooms g x) (le-ltb _ _ (l .room), (le-ltb _ _ (l .ends), (le-ltb _ _ (l .chain), (le-ltb _ _ (l .chainEnds), (le-ltb _ _ (l .chainHow), tt)))))
 
     -- a room one number shorter than the need is refused, and so is any other list one entry shorter
     pub shorter-refused : Shorter g x → r .refusal ≡ 9
-    shorter-refused h = by-rooms ∙ first-same 9 (rooms g x) (guardRows g) tt (go h)
+    shorter-refused h = by-rooms ∙ first-same 9 (rooms g x) tt (go h)
       where
         go : Shorter g x → Applies 9 (rooms g x)
         go (inl a) = inl (lt-ltb _ _ a, refl)

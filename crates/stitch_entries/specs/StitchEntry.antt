@@ -6,7 +6,7 @@ use lib.ListN.{length}
 use Rattle.basis.specs.Number.{+0}
 use Rattle.basis.specs.Room.{roomOf}
 use Rattle.basis.specs.Refuse.{Row, row, firstOf, answer}
-use Rattle.stitch_run.specs.Stitch.{Given, needOf, roundCount, loopCount, chainCount, roomItems, endItems, chainItems, chainEndItems, howItems, roundsFault}
+use Rattle.stitch_run.specs.Stitch.{Given, needOf, roundCount, loopCount, chainCount, roomItems, endItems, chainItems, chainEndItems, howItems}
 use Rattle.stitch.specs.Lent.{Lists}
 use Rattle.stitch_entries.specs.declared.answer.StitchAnswer.{StitchAnswer}
 use Rattle.stitch_entries.specs.declared.faults.Lengths.{Lengths}
@@ -34,12 +34,8 @@ shapeRows g = listPart g ++ (codePart g ++ (numberPart g ++ indexPart g))
 abbrev pub roomPart : Given → Lengths → List Row
 roomPart g l = roomRows (g .sliceAt) (g .slices) l
 
--- 10: "a chain of n slices more than n + 1 rounds"
-abbrev pub guardRows : Given → List Row
-guardRows g = row (roundsFault g) 10 ∷ []
-
 unfoldable pub stitchRefusal : Given → Lengths → ℕ
-stitchRefusal g l = firstOf (shapeRows g ++ (roomPart g l ++ guardRows g))
+stitchRefusal g l = firstOf (shapeRows g ++ roomPart g l)
 
 -- how long the lists of a call are
 abbrev pub lengthsOf : Lists → Lengths

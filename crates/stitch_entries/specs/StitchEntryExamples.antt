@@ -5,7 +5,6 @@ use Rattle.basis.specs.Number.{absF, within, tolerable}
 use Rattle.basis.specs.All.{allOf}
 use Rattle.basis.specs.Each.{eachTo, placesAtMost}
 use Rattle.basis.specs.Refuse.{firstOf, lengthFault, sizeFault, sourceFault}
-use Rattle.stitch_run.specs.Demand3Theorems.{no-rounds-fault}
 use Rattle.stitch_run.specs.Stitch.{sumBelow, weightAt, needFor, needOf}
 use Rattle.slice.specs.Faults.{sourceKnown, startInside, offsetInside, eachSlice}
 use Rattle.slice.specs.Slice.{codesAt}
@@ -15,7 +14,7 @@ use Rattle.stitch_entries.specs.StitchEntry.{stitchRefusal}
 
 pub t3-accepted : stitchRefusal union (lengths 27 2 2 2 2) ≡ 0
 unfolding stitchRefusal firstOf lengthFault sizeFault sourceFault eachSlice sourceKnown startInside offsetInside eachTo placesAtMost tolerable allOf within absF ofBits lt le startsFault needOf needFor sumBelow weightAt codesAt
-t3-accepted = rw (no-rounds-fault union)
+t3-accepted = refl
 
 pub t9 : stitchRefusal union (lengths 24 2 2 2 2) ≡ 9
 unfolding stitchRefusal firstOf lengthFault sizeFault sourceFault eachSlice sourceKnown startInside offsetInside eachTo placesAtMost tolerable allOf within absF ofBits lt le startsFault needOf needFor sumBelow weightAt codesAt

@@ -1,14 +1,13 @@
 -- Demand 3: the words in which it is said, over any rules.
 use Prim.Native.Nat.{ℕ, _+_, _-_, _≤_, _<_}
 use mathlib.Core.Path.{_≡_}
-use mathlib.Core.Logic.{_≢_}
 use mathlib.Core.List.{List, [], _∷_, map}
 use lib.Dec.{eqb}
 use lib.ListN.{length, getD}
 use Rattle.basis.specs.Choice.{codeOf}
 use Rattle.basis.specs.All.{All}
 use Rattle.select.specs.SelectTheorems.{Ascending}
-use Rattle.stitch_run.specs.Run.{Rules, Chain, Ending, closed, tooSmall, noCandidate, noSelection, spent, Next, onto, ends, Round, run, slicesOf, roundsOf, orderOf}
+use Rattle.stitch_run.specs.Run.{Rules, Chain, Ending, closed, tooSmall, noCandidate, noSelection, Next, onto, ends, Round, run, slicesOf, roundsOf, orderOf}
 
 -- ---- words
 
@@ -43,8 +42,6 @@ pub record Demand3 {C : Type 0} (R : Rules C) : Type 0 where
   pub lowest : All (λ c. LowestFirst (slicesOf c)) (run R)
   -- chains ascend by first number
   pub ascending : Ascending (map firstSlice (run R))
-  -- no chain takes more than n + 1 rounds: number 10 is never given
-  pub held : All (λ c. c .ending ≢ spent) (run R)
 
 -- ---- the room
 
@@ -59,7 +56,6 @@ leaves closed m = m - 1
 leaves tooSmall m = 0
 leaves noCandidate m = 0
 leaves noSelection m = 0
-leaves spent m = 0
 
 -- how many vertices the loops of these chains have
 abbrev pub finished : {C : Type 0} → (C → ℕ) → List (Chain C) → ℕ

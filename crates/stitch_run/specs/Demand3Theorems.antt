@@ -1,24 +1,22 @@
 -- Demand 3, of every stitch: each theorem holds for every input, whatever its lists hold.
 use Prim.Native.Nat.{ℕ, _+_, _*_, _≤_, _<_}
-use mathlib.Core.Bool.{false}
 use mathlib.Core.Path.{_≡_, ap, _∙_}
-use mathlib.Core.Logic.{_≢_}
 use mathlib.Core.List.{List, [], map}
 use native.Mathlib.Omega.{arith}
 use lib.ListN.{length, length-map}
 use Rattle.basis.specs.All.{All}
 use Rattle.outline.specs.declared.point.Vertex.{Vertex}
 use Rattle.stitch_vertices.specs.Vertices.{addFirst, dropLast}
-use Rattle.stitch_run.specs.Run.{spent, onto, slicesOf, orderOf}
+use Rattle.stitch_run.specs.Run.{onto, slicesOf, orderOf}
 use Rattle.stitch_run.specs.Stitch.{Given, sliceVertex, rulesOf, runOf, loopsOf, howOf, roundCount, loopCount, chainCount}
 use Rattle.slice.specs.Slice.{sliceOffset}
-use Rattle.stitch_run.specs.Stitch.{roomItems, endItems, chainItems, chainEndItems, howItems, roundsFault, weightAt, needFor, needOf}
+use Rattle.stitch_run.specs.Stitch.{roomItems, endItems, chainItems, chainEndItems, howItems, weightAt, needFor, needOf}
 use Rattle.stitch_run.specs.Demand3.{sumOver, times, LowestFirst, firstSlice, Demand3, reach, Enough}
 use Rattle.select.specs.SelectTheorems.{Ascending}
 use Rattle.stitch_run.specs.RunLaws.{demand3, same-length, no-slices}
 use Rattle.stitch_run.specs.NeedLaws.{enough, enough-end}
 use Rattle.stitch_run.specs.StitchLaws.{first-most, drop-length, weight, among, grows}
-use Rattle.stitch_run.specs.ReportLaws.{totals-length, totals-most, sum-map, flat-length, flat-loops, loops-size, loops-few, chains-few, none-spent, hows-known}
+use Rattle.stitch_run.specs.ReportLaws.{totals-length, totals-most, sum-map, flat-length, flat-loops, loops-size, loops-few, chains-few, hows-known}
 
 module _ (g : Given) where
   pub stitch-demand3 : Demand3 (rulesOf g)
@@ -50,15 +48,6 @@ module _ (g : Given) where
   pub chains-ascend : Ascending (map firstSlice (runOf g))
   unfolding runOf
   chains-ascend = stitch-demand3 .ascending
-
-  -- Number 10 is dead: no chain of n slices takes more than n + 1 rounds.
-  pub never-spent : All (λ c. c .ending ≢ spent) (runOf g)
-  unfolding runOf
-  never-spent = stitch-demand3 .held
-
-  pub no-rounds-fault : roundsFault g ≡ false
-  unfolding roundsFault
-  no-rounds-fault = none-spent (runOf g) never-spent
 
   -- ---- the room
 
@@ -126,7 +115,7 @@ module _ (g : Given) where
   -- each ended in one of the four ways
   pub how-is-known : All (λ n. n < 4) (howItems g)
   unfolding howItems
-  how-is-known = hows-known (runOf g) never-spent
+  how-is-known = hows-known (runOf g)
 
   -- no more chains than slices, no more loops than chains
   pub chains-at-most : chainCount g ≤ g .slices

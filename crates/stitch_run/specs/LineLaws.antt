@@ -114,9 +114,13 @@ module _ {C : Type 0} (R : Rules C) (m : ℕ) (build : ℕ → C) (line : InLine
     pub built : t .chain .built ≡ build m
     pub marks : (j : ℕ) → j < suc m → getD (t .visited) j false ≡ true
 
-  done-walk : (left k i : ℕ) (w : Underway C) → At i w → i + k ≡ m → k < left → Done (walk R left (nextOf R w) w)
+  done-walk : (left k i : ℕ) (w : Underway C) → At i w → i + k ≡ m → k ≤ left → Done (walk R left (nextOf R w) w)
   unfolding walk ended
-  done-walk zero k i w a e h = absurd (omega arith)
+  done-walk zero zero i w a e h =
+      let q : i ≡ m = omega arith in
+      let b : At m w = rw q at a in
+      subst (λ (x : Next). Done (walk R zero x w)) (sym (next-end w b)) (record { built = b .built; marks = λ j d. b .marks j d ∙ le-leb j m (omega arith) })
+  done-walk zero (suc k) i w a e h = absurd (omega arith)
   done-walk (suc left) zero i w a e h =
       let q : i ≡ m = omega arith in
       let b : At m w = rw q at a in
@@ -152,7 +156,7 @@ module _ {C : Type 0} (R : Rules C) (m : ℕ) (build : ℕ → C) (line : InLine
 
   done : Done whole
   unfolding chainFrom
-  done = done-walk (suc (R .count)) m 0 (opened R (replicate (R .count) false) 0) at-opened (omega arith) (omega (arith, line .count))
+  done = done-walk (R .count) m 0 (opened R (replicate (R .count) false) 0) at-opened (omega arith) (omega (arith, line .count))
 
   -- what the whole chain has built
   pub whole-built : whole .chain .built ≡ build m

@@ -6,14 +6,14 @@ use mathlib.Core.List.{List, [], _∷_, _++_, flatMap}
 use native.Mathlib.Omega.{arith}
 use lib.ListN.{length, getD}
 use Rattle.basis.specs.All.{All, all-snoc}
-use Rattle.stitch_run.specs.Run.{Rules, Ending, closed, tooSmall, noCandidate, noSelection, spent, Next, onto, ends, Chain, Underway, Finished, Stitched}
+use Rattle.stitch_run.specs.Run.{Rules, Ending, closed, tooSmall, noCandidate, noSelection, Next, onto, ends, Chain, Underway, Finished, Stitched}
 use Rattle.stitch_run.specs.Run.{nextOf, roundOf, opened, onward, ended, walk, chainFrom, added, begun, turn, turns, run, slicesOf, orderOf}
 use Rattle.stitch_run.specs.Stitch.{sumBelow, needFor}
 use Rattle.stitch_run.specs.Demand3.{finished, sumOver, firstSlice, reach, leaves, Moment, Within, Enough}
 use Rattle.stitch_run.specs.SumLaws.{sum-append}
 use Rattle.basis.specs.FlatLaws.{flat-snoc}
 use Rattle.stitch_run.specs.TallyLaws.{Tally, tally-weight, tally-most}
-use Rattle.stitch_run.specs.RunLaws.{Among, placed, placed-onward, placed-longer, Going, going-onward, going-opened, ended-slices, gone-chain, Kept, kept-turns, no-slices}
+use Rattle.stitch_run.specs.RunLaws.{nothing-left, Among, placed, placed-onward, placed-longer, Going, going-onward, going-opened, ended-slices, gone-chain, Kept, kept-turns, no-slices}
 
 -- what a slice's weight f says of the rules
 pub record Grows {C : Type 0} (R : Rules C) (size : C → ℕ) (f : ℕ → ℕ) : Type 0 where
@@ -27,7 +27,6 @@ leaves-most closed m = omega arith
 leaves-most tooSmall m = omega arith
 leaves-most noCandidate m = omega arith
 leaves-most noSelection m = omega arith
-leaves-most spent m = omega arith
 
 -- one chain more
 enough-snoc : {C : Type 0} (size : C → ℕ) (f : ℕ → ℕ) (room m : ℕ) (l : List (Chain C)) (c : Chain C)
@@ -111,10 +110,11 @@ module _ {C : Type 0} (R : Rules C) (among : Among R) (size : C → ℕ) (f : �
       }
 
   filled-walk : (base : ℕ) (prior : List ℕ) (left : ℕ) (x : Next) (w : Underway C) → nextOf R w ≡ x → Going R among prior w → Roomy base prior w
-      → R .count < left + length (prior ++ placed w) → Filled base prior (walk R left x w)
+      → R .count ≤ left + length (prior ++ placed w) → Filled base prior (walk R left x w)
   unfolding walk
-  filled-walk base prior zero x w q u y h = absurd (omega (arith, tally-most (R .count) _ _ (u .tally)))
+  filled-walk base prior zero (ends e) w q u y h = filled-ended base prior w e u y
   filled-walk base prior (suc left) (ends e) w q u y h = filled-ended base prior w e u y
+  filled-walk base prior zero (onto j) w q u y h = absurd (nothing-left R among prior w j q u (omega arith))
   filled-walk base prior (suc left) (onto j) w q u y h =
       filled-walk base prior left (nextOf R (onward R w j)) (onward R w j) refl (going-onward R among prior w j q u) (roomy-onward base prior w j u y)
       (omega (arith, placed-longer R among prior w j))
@@ -151,7 +151,7 @@ module _ {C : Type 0} (R : Rules C) (among : Among R) (size : C → ℕ) (f : �
   held-begun i s false e d k h =
       let w = opened R (s .visited) i in
       held-added s (chainFrom R (s .visited) i) (placed-most _ _ (gone-chain R among i s d e k .tally)) h
-      (filled-walk (finished size (s .chains)) (orderOf (s .chains)) (suc (R .count)) (nextOf R w) w refl (going-opened R among i s d e k) (roomy-opened i s d e k h) (omega arith))
+      (filled-walk (finished size (s .chains)) (orderOf (s .chains)) (R .count) (nextOf R w) w refl (going-opened R among i s d e k) (roomy-opened i s d e k h) (omega arith))
 
   -- After each turn the room was enough at every moment.
   pub held-turns : (i : ℕ) → i ≤ R .count → Held (turns R i)

@@ -10,8 +10,8 @@ use Rattle.basis.specs.All.{All}
 use Rattle.outline.specs.declared.point.Vertex.{Vertex}
 use Rattle.outline.specs.Points.{vertexNumbers}
 use Rattle.stitch_vertices.specs.Vertices.{dropLast}
-use Rattle.stitch_run.specs.Run.{Chain, Ending, closed, tooSmall, noCandidate, noSelection, spent, slicesOf, roundsOf, orderOf}
-use Rattle.stitch_run.specs.Stitch.{loopOf, loopsOf, howOf, totals, isSpent, anySpent}
+use Rattle.stitch_run.specs.Run.{Chain, Ending, closed, tooSmall, noCandidate, noSelection, slicesOf, roundsOf, orderOf}
+use Rattle.stitch_run.specs.Stitch.{loopOf, loopsOf, howOf, totals}
 use Rattle.stitch_run.specs.Demand3.{sumOver, LowestFirst, leaves, finished}
 use Rattle.stitch_run.specs.SumLaws.{sum-append}
 use Rattle.basis.specs.FlatLaws.{flat-snoc}
@@ -79,7 +79,6 @@ loop-size closed vs = omega (arith, length-reverse (dropLast vs), drop-length vs
 loop-size tooSmall vs = refl
 loop-size noCandidate vs = refl
 loop-size noSelection vs = refl
-loop-size spent vs = refl
 
 loop-few : (e : Ending) (vs : List Vertex) → length (loopOf e vs) ≤ 1
 unfolding loopOf
@@ -87,7 +86,6 @@ loop-few closed vs = omega arith
 loop-few tooSmall vs = omega arith
 loop-few noCandidate vs = omega arith
 loop-few noSelection vs = omega arith
-loop-few spent vs = omega arith
 
 -- the loops of some chains have the vertices that these leave
 pub loops-size : (l : List (Chain (List Vertex))) → sumOver length (loopsOf l) ≡ finished length l
@@ -113,27 +111,13 @@ chains-few (c ∷ l) a = omega (arith, some (slicesOf c) (a .0), length-append (
 
 -- ---- how chains ended
 
-not-spent : (e : Ending) → e ≢ spent → isSpent e ≡ false
-unfolding isSpent
-not-spent closed h = refl
-not-spent tooSmall h = refl
-not-spent noCandidate h = refl
-not-spent noSelection h = refl
-not-spent spent h = absurd (h refl)
-
-pub none-spent : (l : List (Chain (List Vertex))) → All (λ c. c .ending ≢ spent) l → anySpent l ≡ false
-unfolding anySpent
-none-spent [] a = refl
-none-spent (c ∷ l) a = rw (not-spent (c .ending) (a .0)) (none-spent l (a .1))
-
-how-known : (e : Ending) → e ≢ spent → howOf e < 4
+how-known : (e : Ending) → howOf e < 4
 unfolding howOf
-how-known closed h = omega arith
-how-known tooSmall h = omega arith
-how-known noCandidate h = omega arith
-how-known noSelection h = omega arith
-how-known spent h = absurd (h refl)
+how-known closed = omega arith
+how-known tooSmall = omega arith
+how-known noCandidate = omega arith
+how-known noSelection = omega arith
 
-pub hows-known : {C : Type 0} (l : List (Chain C)) → All (λ c. c .ending ≢ spent) l → All (λ n. n < 4) (map (λ c. howOf (c .ending)) l)
-hows-known [] a = tt
-hows-known (c ∷ l) a = (how-known (c .ending) (a .0), hows-known l (a .1))
+pub hows-known : {C : Type 0} (l : List (Chain C)) → All (λ n. n < 4) (map (λ c. howOf (c .ending)) l)
+hows-known [] = tt
+hows-known (c ∷ l) = (how-known (c .ending), hows-known l)

@@ -22,9 +22,9 @@ pub record Rules (C : Type 0) : Type 0 where
   -- the selector's answer, for the current slice and the candidates
   pub select : ℕ → List ℕ → Selected
 
--- "how it ended (closed, too small, no candidate, no slice selected)"; `spent` is refusal 10, a chain that took too many rounds
+-- "how it ended (closed, too small, no candidate, no slice selected)"
 pub data Ending : Type 0 where
-  closed tooSmall noCandidate noSelection spent : Ending
+  closed tooSmall noCandidate noSelection : Ending
 
 -- what a round comes to: another slice is joined, or the chain ends
 pub data Next : Type 0 where
@@ -126,19 +126,16 @@ module _ {C : Type 0} (R : Rules C) where
   unfoldable pub ended : Underway C → Ending → Finished C
   ended w e = record { chain = record { rounds = w .past ++ (roundOf w ∷ []); ending = e; built = w .built }; visited = w .visited }
 
-  -- no round is left to be taken
-  unfoldable pub stopped : Underway C → Finished C
-  stopped w = record { chain = record { rounds = w .past; ending = spent; built = w .built }; visited = w .visited }
-
-  -- round after round, and no more of them than the number says
+  -- round after round, until one ends the chain. The number says how many slices are left to be joined. K12: "every round but a chain's last visits a new slice", so no
+  -- round joins one where none is left, and what stands there decides nothing (RunLaws.antt `walk-enough`)
   unfoldable pub walk : ℕ → Next → Underway C → Finished C
-  walk zero x w = stopped w
+  walk zero (ends e) w = ended w e
+  walk zero (onto j) w = ended w noCandidate
   walk (suc left) (ends e) w = ended w e
   walk (suc left) (onto j) w = let v = onward w j in walk left (nextOf v) v
 
-  -- "a chain of n slices more than n + 1 rounds" is refused
   unfoldable pub chainFrom : List Bool → ℕ → Finished C
-  chainFrom visited i = let w = opened visited i in walk (suc (R .count)) (nextOf w) w
+  chainFrom visited i = let w = opened visited i in walk (R .count) (nextOf w) w
 
   -- ---- the stitch
 

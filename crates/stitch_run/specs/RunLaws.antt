@@ -2,7 +2,6 @@
 use Prim.Native.Nat.{ℕ, zero, suc, _+_, _≤_, _<_}
 use mathlib.Core.Bool.{Bool, true, false, cond}
 use mathlib.Core.Path.{_≡_, refl, sym, ap, subst, _∙_}
-use mathlib.Core.Logic.{_≢_}
 use mathlib.Core.List.{List, [], _∷_, _++_, append-assoc, map, map-append, flatMap, List·Memᴰ}
 use native.Mathlib.Nat.{not-suc-le-zero}
 use native.Mathlib.Omega.{arith}
@@ -13,7 +12,7 @@ use Rattle.basis.specs.Choice.{codeOf}
 use Rattle.basis.specs.All.{All, all-imp, all-snoc}
 use Rattle.select.specs.declared.best.Selected.{Selected}
 use Rattle.select.specs.declared.best.Selected.the-variants.{Slice, NoSlice}
-use Rattle.stitch_run.specs.Run.{Rules, Ending, closed, tooSmall, noCandidate, noSelection, spent, Next, onto, ends, Chain, Underway, Finished, Stitched}
+use Rattle.stitch_run.specs.Run.{Rules, Ending, closed, tooSmall, noCandidate, noSelection, Next, onto, ends, Chain, Underway, Finished, Stitched}
 use Rattle.stitch_run.specs.Run.{free, candidate, candidatesOf, taken, answered, asked, nextOf, roundOf, opened, onward, ended}
 use Rattle.stitch_run.specs.Run.{walk, chainFrom, added, begun, turn, turns, run, slicesOf, roundsOf, orderOf}
 use Rattle.stitch_run.specs.Stitch.{sumBelow}
@@ -27,20 +26,6 @@ use Rattle.stitch_run.specs.TallyLaws.{passing-mem, clash, unvisited, pa
 
 never : (e : Ending) (j : ℕ) → ends e ≡ onto j → ⊥
 never e j q = let z : _≡_ {A = ℕ} 0 1 = cc in omega arith
-
--- no rule ends a chain by `spent`
-abbrev Fair : Next → Type 0
-Fair (onto j) = Unit {0}
-Fair (ends closed) = Unit {0}
-Fair (ends tooSmall) = Unit {0}
-Fair (ends noCandidate) = Unit {0}
-Fair (ends noSelection) = Unit {0}
-Fair (ends spent) = ⊥
-
-fair-taken : (b s : Bool) (j : ℕ) → Fair (cond b (ends (cond s tooSmall closed)) (onto j))
-fair-taken true true j = tt
-fair-taken true false j = tt
-fair-taken false s j = tt
 
 -- the selector answers only among the candidates
 abbrev pub Among : {C : Type 0} → Rules C → Type 0
@@ -76,21 +61,6 @@ module _ {C : Type 0} (R : Rules C) (among : Among R) where
       let t = by-asked w j (candidatesOf R (w .visited) (w .first) (w .built)) q in
       let u = passing-mem (candidate R (w .visited) (w .first) (w .built)) (R .count) j (t .0) in
       (u .1, unvisited (getD (w .visited) j false) (eqb j (w .first)) (R .offers (w .built) j) (t .1) (u .0))
-
-  fair-answered : (w : Underway C) (s : Selected) → Fair (answered R (w .first) (w .built) s)
-  unfolding answered taken
-  fair-answered w NoSlice = tt
-  fair-answered w (Slice j) = fair-taken (eqb j (w .first)) (R .tiny (w .built)) j
-
-  fair-asked : (w : Underway C) (l : List ℕ) → Fair (asked R (w .first) (w .current) (w .built) l)
-  unfolding asked
-  fair-asked w [] = tt
-  fair-asked w (c ∷ cs) = fair-answered w (R .select (w .current) (c ∷ cs))
-
-  -- A round that ends the chain does not end it by `spent`.
-  pub ends-facts : (w : Underway C) (e : Ending) → nextOf R w ≡ ends e → e ≢ spent
-  unfolding nextOf
-  ends-facts w e q p = subst Fair (q ∙ ap ends p) (fair-asked w (candidatesOf R (w .visited) (w .first) (w .built)))
 
   -- ---- a chain under way, `prior` being the slices of the chains before it
 
@@ -132,41 +102,46 @@ module _ {C : Type 0} (R : Rules C) (among : Among R) where
     pub passed : (k : ℕ) → k < suc first → getD (t .visited) k false ≡ true
     pub head : firstSlice (t .chain) ≡ first
     pub lowest : LowestFirst (slicesOf (t .chain))
-    pub held : t .chain .ending ≢ spent
 
   -- its slices are those that were placed
   pub ended-slices : (w : Underway C) (e : Ending) → slicesOf (ended R w e .chain) ≡ placed w
   unfolding ended roundOf slicesOf
   ended-slices w e = map-append (λ r. r .slice) (w .past) (roundOf R w ∷ [])
 
-  pub gone-ended : (prior : List ℕ) (w : Underway C) (e : Ending) → e ≢ spent → Going prior w → Gone prior (w .first) (ended R w e)
+  pub gone-ended : (prior : List ℕ) (w : Underway C) (e : Ending) → Going prior w → Gone prior (w .first) (ended R w e)
   unfolding ended
-  gone-ended prior w e h u =
+  gone-ended prior w e u =
       let l = ended-slices w e in
       record {
         tally = rw l (u .tally);
         passed = u .passed;
         head = ap (λ (m : List ℕ). getD m 0 0) (l ∙ u .begins);
         lowest = subst LowestFirst (sym (l ∙ u .begins)) (u .above);
-        held = h;
       }
 
-  -- The rounds that may still be taken and the slices that are placed are more than n together, so the rounds never run out.
-  pub gone-walk : (prior : List ℕ) (left : ℕ) (x : Next) (w : Underway C) → nextOf R w ≡ x → Going prior w → R .count < left + length (prior ++ placed w)
+  -- where the slices that are left and those that are placed are n together, none is joined any more
+  pub nothing-left : (prior : List ℕ) (w : Underway C) (j : ℕ) → nextOf R w ≡ onto j → Going prior w → R .count ≤ length (prior ++ placed w) → ⊥
+  nothing-left prior w j q u h = omega (arith, placed-longer prior w j, tally-most (R .count) _ _ (going-onward prior w j q u .tally))
+
+  pub gone-walk : (prior : List ℕ) (left : ℕ) (x : Next) (w : Underway C) → nextOf R w ≡ x → Going prior w → R .count ≤ left + length (prior ++ placed w)
       → Gone prior (w .first) (walk R left x w)
   unfolding walk onward
-  gone-walk prior zero x w q u h = absurd (omega (arith, tally-most (R .count) _ _ (u .tally)))
-  gone-walk prior (suc left) (ends e) w q u h = gone-ended prior w e (ends-facts w e q) u
+  gone-walk prior zero (ends e) w q u h = gone-ended prior w e u
+  gone-walk prior (suc left) (ends e) w q u h = gone-ended prior w e u
+  gone-walk prior zero (onto j) w q u h = absurd (nothing-left prior w j q u (omega arith))
   gone-walk prior (suc left) (onto j) w q u h =
       gone-walk prior left (nextOf R (onward R w j)) (onward R w j) refl (going-onward prior w j q u) (omega (arith, placed-longer prior w j))
 
-  -- Any two numbers of rounds that are enough give the same chain: the guard decides nothing.
+  -- Any two numbers that are enough give the same chain: what would stand at the end of them decides nothing.
   pub walk-enough : (prior : List ℕ) (a b : ℕ) (x : Next) (w : Underway C) → nextOf R w ≡ x → Going prior w
-      → R .count < a + length (prior ++ placed w) → R .count < b + length (prior ++ placed w) → walk R a x w ≡ walk R b x w
+      → R .count ≤ a + length (prior ++ placed w) → R .count ≤ b + length (prior ++ placed w) → walk R a x w ≡ walk R b x w
   unfolding walk
-  walk-enough prior zero b x w q u h k = absurd (omega (arith, tally-most (R .count) _ _ (u .tally)))
-  walk-enough prior (suc a) zero x w q u h k = absurd (omega (arith, tally-most (R .count) _ _ (u .tally)))
+  walk-enough prior zero zero (ends e) w q u h k = refl
+  walk-enough prior zero (suc b) (ends e) w q u h k = refl
+  walk-enough prior (suc a) zero (ends e) w q u h k = refl
   walk-enough prior (suc a) (suc b) (ends e) w q u h k = refl
+  walk-enough prior zero b (onto j) w q u h k = absurd (nothing-left prior w j q u (omega arith))
+  walk-enough prior (suc a) zero (onto j) w q u h k = absurd (nothing-left prior w j q u (omega arith))
   walk-enough prior (suc a) (suc b) (onto j) w q u h k =
       walk-enough prior a b (nextOf R (onward R w j)) (onward R w j) refl (going-onward prior w j q u) (omega (arith, placed-longer prior w j)) (omega (arith, placed-longer prior w j))
 
@@ -178,7 +153,6 @@ module _ {C : Type 0} (R : Rules C) (among : Among R) where
     pub lowest : All (λ c. LowestFirst (slicesOf c)) (s .chains)
     pub ascending : Ascending (map firstSlice (s .chains))
     pub behind : All (λ j. j < i) (map firstSlice (s .chains))
-    pub held : All (λ c. c .ending ≢ spent) (s .chains)
 
   pub going-opened : (i : ℕ) (s : Stitched C) → i < R .count → getD (s .visited) i false ≡ false → Kept i s → Going (orderOf (s .chains)) (opened R (s .visited) i)
   unfolding opened
@@ -197,7 +171,7 @@ module _ {C : Type 0} (R : Rules C) (among : Among R) where
   pub gone-chain : (i : ℕ) (s : Stitched C) → i < R .count → getD (s .visited) i false ≡ false → Kept i s → Gone (orderOf (s .chains)) i (chainFrom R (s .visited) i)
   unfolding chainFrom opened
   gone-chain i s h e k =
-      gone-walk (orderOf (s .chains)) (suc (R .count)) (nextOf R (opened R (s .visited) i)) (opened R (s .visited) i) refl (going-opened i s h e k) (omega arith)
+      gone-walk (orderOf (s .chains)) (R .count) (nextOf R (opened R (s .visited) i)) (opened R (s .visited) i) refl (going-opened i s h e k) (omega arith)
 
   kept-added : (i : ℕ) (s : Stitched C) (t : Finished C) → Kept i s → Gone (orderOf (s .chains)) i t → Kept (suc i) (added R s t)
   unfolding added orderOf
@@ -210,7 +184,6 @@ module _ {C : Type 0} (R : Rules C) (among : Among R) where
         behind =
             rw (map-append firstSlice (s .chains) (t .chain ∷ []), o .head)
             (all-snoc (λ j. j < suc i) (map firstSlice (s .chains)) i (all-imp (λ j. j < i) (λ j. j < suc i) (λ j d. omega arith) (map firstSlice (s .chains)) (k .behind)) (omega arith));
-        held = all-snoc (λ c. c .ending ≢ spent) (s .chains) (t .chain) (k .held) (o .held);
       }
 
   kept-begun : (i : ℕ) (s : Stitched C) (b : Bool) → getD (s .visited) i false ≡ b → i < R .count → Kept i s → Kept (suc i) (begun R b i s)
@@ -222,7 +195,6 @@ module _ {C : Type 0} (R : Rules C) (among : Among R) where
         lowest = k .lowest;
         ascending = k .ascending;
         behind = all-imp (λ j. j < i) (λ j. j < suc i) (λ j d. omega arith) (map firstSlice (s .chains)) (k .behind);
-        held = k .held;
       }
   kept-begun i s false e h k = kept-added i s (chainFrom R (s .visited) i) k (gone-chain i s h e k)
 
@@ -230,7 +202,7 @@ module _ {C : Type 0} (R : Rules C) (among : Among R) where
   pub kept-turns : (i : ℕ) → i ≤ R .count → Kept i (turns R i)
   unfolding turns turn orderOf flatMap
   kept-turns zero h =
-      record { tally = tally-none (R .count); passed = λ k d. absurd (not-suc-le-zero d); lowest = tt; ascending = tt; behind = tt; held = tt }
+      record { tally = tally-none (R .count); passed = λ k d. absurd (not-suc-le-zero d); lowest = tt; ascending = tt; behind = tt }
   kept-turns (suc i) h = kept-begun i (turns R i) (getD (turns R i .visited) i false) refl (omega arith) (kept-turns i (omega arith))
 
   -- ---- demand 3
@@ -263,5 +235,4 @@ module _ {C : Type 0} (R : Rules C) (among : Among R) where
         only = λ k h. every-weight (λ j. codeOf (eqb k j)) ∙ below-out k (R .count) h;
         lowest = k .lowest;
         ascending = k .ascending;
-        held = k .held;
       }

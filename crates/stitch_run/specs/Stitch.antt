@@ -16,7 +16,7 @@ use Rattle.select.specs.declared.class.Starts.{Starts}
 use Rattle.select.specs.Select.{selectOf}
 use Rattle.stitch_vertices.specs.Vertices.{addView, dropLast}
 use Rattle.stitch_run.specs.declared.plan.Plan.{Plan}
-use Rattle.stitch_run.specs.Run.{Rules, Chain, Ending, closed, tooSmall, noCandidate, noSelection, spent, run, slicesOf, roundsOf, orderOf}
+use Rattle.stitch_run.specs.Run.{Rules, Chain, Ending, closed, tooSmall, noCandidate, noSelection, run, slicesOf, roundsOf, orderOf}
 
 -- What a call has: both outlines with their counts; the slices, as a list of codes, a list of numbers and a count; where their classes start;
 -- the selector, 0 for OrAnd and 1 for NotXor; the tolerance.
@@ -104,18 +104,16 @@ loopOf closed vs = reverse (dropLast vs) ∷ []
 loopOf tooSmall vs = []
 loopOf noCandidate vs = []
 loopOf noSelection vs = []
-loopOf spent vs = []
 
 unfoldable pub loopsOf : List (Chain (List Vertex)) → List (List Vertex)
 loopsOf l = flatMap (λ c. loopOf (c .ending) (c .built)) l
 
--- 0 closed, 1 too small, 2 no candidate, 3 no slice selected. A spent chain is refused, and its number is never reported.
+-- 0 closed, 1 too small, 2 no candidate, 3 no slice selected
 unfoldable pub howOf : Ending → ℕ
 howOf closed = 0
 howOf tooSmall = 1
 howOf noCandidate = 2
 howOf noSelection = 3
-howOf spent = 4
 
 -- for each number of a list, what all numbers up to and with it come to, m being before the first
 unfoldable pub totals : ℕ → List ℕ → List ℕ
@@ -152,22 +150,6 @@ module _ (g : Given) where
   -- "how it ended"
   unfoldable pub howItems : List ℕ
   howItems = map (λ c. howOf (c .ending)) (runOf g)
-
--- ---- refusal 10: "a chain of n slices more than n + 1 rounds"
-
-unfoldable pub isSpent : Ending → Bool
-isSpent closed = false
-isSpent tooSmall = false
-isSpent noCandidate = false
-isSpent noSelection = false
-isSpent spent = true
-
-unfoldable pub anySpent : List (Chain (List Vertex)) → Bool
-anySpent [] = false
-anySpent (c ∷ l) = isSpent (c .ending) || anySpent l
-
-unfoldable pub roundsFault : Given → Bool
-roundsFault g = anySpent (runOf g)
 
 -- ---- the need in vertices
 

@@ -13,11 +13,11 @@ use Rattle.view.specs.View.{forwardAt, turnedAt, invertedAt, vertexOf}
 use Rattle.select.specs.Select.{classOf, preferenceOf, suitsOf, firstThat, orElse, choose, choicesOf, pickOf, selectOf}
 use Rattle.stitch_vertices.specs.Vertices.{addVertex, addFirst, addView, dropLast}
 use Rattle.stitch_run.specs.Run.{passing, free, candidate, candidatesOf, taken, answered, asked, nextOf, roundOf, opened, onward, ended}
-use Rattle.stitch_run.specs.Run.{stopped, walk, chainFrom, added, begun, turn, turns, run, slicesOf, roundsOf, orderOf}
+use Rattle.stitch_run.specs.Run.{walk, chainFrom, added, begun, turn, turns, run, slicesOf, roundsOf, orderOf}
 use Rattle.stitch_run.specs.Stitch.{Given, given, planOf, sliceOutline, sliceCount, sliceVertex, startPoint, addSlice}
 use Rattle.slice.specs.Slice.{codesAt, shapeAt, sliceView}
 use Rattle.stitch_run.specs.Stitch.{offersTo, rulesOf, runOf, loopOf, loopsOf, howOf, totals, roundCount, loopCount, chainCount, roomItems}
-use Rattle.stitch_run.specs.Stitch.{endItems, chainItems, chainEndItems, howItems, isSpent, anySpent, roundsFault, sumBelow, weightAt, needFor, needOf}
+use Rattle.stitch_run.specs.Stitch.{endItems, chainItems, chainEndItems, howItems, sumBelow, weightAt, needFor, needOf}
 
 -- ---- what an example opens, under one name each: `unfolding tells` opens all that its own line does
 
@@ -38,7 +38,7 @@ unfolding classOf preferenceOf suitsOf firstThat orElse choose choicesOf pickOf 
 selectors = tt
 
 rounds : Unit {0}
-unfolding passing free candidate candidatesOf taken answered asked nextOf roundOf opened onward ended stopped walk chainFrom added begun turn turns run
+unfolding passing free candidate candidatesOf taken answered asked nextOf roundOf opened onward ended walk chainFrom added begun turn turns run
 rounds = tt
 
 runs : Unit {0}
@@ -46,7 +46,7 @@ unfolding slices selectors rounds rulesOf runOf
 runs = tt
 
 tells : Unit {0}
-unfolding runs flatMap slicesOf roundsOf orderOf loopOf loopsOf howOf totals roundCount loopCount chainCount roomItems endItems chainItems chainEndItems howItems isSpent anySpent roundsFault
+unfolding runs flatMap slicesOf roundsOf orderOf loopOf loopsOf howOf totals roundCount loopCount chainCount roomItems endItems chainItems chainEndItems howItems
 tells = tt
 
 unfoldable pub needs : Unit {0}

@@ -6,31 +6,27 @@ use native.Mathlib.Decide.{decLt}
 use native.Mathlib.Numerals.{add-one}
 use native.Mathlib.Nat.{mul-suc}
 use mathlib.Core.Path.{_≡_, refl, sym, ap, _∙_, subst}
-use mathlib.Core.Bool.{Bool, cond}
 use mathlib.Core.List.{List, [], _∷_}
-use lib.Dec.{ltb}
 use lib.ListN.{length, getD, drop, drop-of-length-le}
 use lib.Seq.{drop-cons}
 use lib.IntN.{ℤ, pos, negℤ, _+ℤ_, _-ℤ_, +ℤ-assoc, +ℤ-idl, +ℤ-idr, negℤ-+ℤ}
-use borrow.Author.Tests.{lt-ltb, le-ltb, ltb-true}
 use Rattle.straight.specs.Plane.{Spot, spots, first, sums, around}
-use Rattle.basis.specs.Choice.{by-test}
+use Rattle.outline.specs.OutlineLaws.{wrap-lt, wrap-same, wrap-less}
 use Rattle.whole.specs.IntegerLaws.{swap-mid}
 use Rattle.straight.specs.Ready.{spotAt, next, Edge, Outline}
 
 -- ---- the vertex after i
 pub next-more : (i n : ℕ) → i + 1 < n → i + 1 ≡ next i n
 unfolding next
-next-more i n h = sym (ap (λ (t : Bool). cond t (i + 1) 0) (lt-ltb (i + 1) n h))
+next-more i n h = sym (wrap-same n (i + 1) h)
 
-pub next-wrap : (i n : ℕ) → n ≤ i + 1 → 0 ≡ next i n
+pub next-wrap : (i n : ℕ) → i < n → n ≤ i + 1 → 0 ≡ next i n
 unfolding next
-next-wrap i n h = sym (ap (λ (t : Bool). cond t (i + 1) 0) (le-ltb (i + 1) n h))
+next-wrap i n h k = let e = wrap-less n (i + 1) k (omega arith) in omega (arith, e)
 
 pub next-below : (i n : ℕ) → i < n → next i n < n
 unfolding next
-next-below i n h =
-    by-test (ltb (i + 1) n) (λ e. let l = ltb-true (i + 1) n e in subst (λ (t : Bool). cond t (i + 1) 0 < n) (sym e) l) (λ e. subst (λ (t : Bool). cond t (i + 1) 0 < n) (sym e) (omega arith))
+next-below i n h = wrap-lt n (i + 1) (omega arith)
 
 -- ---- the vertices by their numbers
 double-suc : (i : ℕ) → 2 * suc i ≡ suc (suc (2 * i))
@@ -79,7 +75,7 @@ module _ {l : List ℤ} {n : ℕ} (o : Outline l n) where
     where
       by : Dec (i + 1 < n) → first (drop (i + 1) (spots l)) (spotAt l 0) ≡ spotAt l (next i n)
       by (yes p) = ap (λ (z : List Spot). first z (spotAt l 0)) (spots-from (i + 1) p) ∙ ap (spotAt l) (next-more i n p)
-      by (no p) = let q : n ≤ i + 1 = omega arith in ap (λ (z : List Spot). first z (spotAt l 0)) (spots-end (i + 1) q) ∙ ap (spotAt l) (next-wrap i n q)
+      by (no p) = let q : n ≤ i + 1 = omega arith in ap (λ (z : List Spot). first z (spotAt l 0)) (spots-end (i + 1) q) ∙ ap (spotAt l) (next-wrap i n h q)
 
   pub edge-on : (i : ℕ) → i < n → Edge l i (next i n)
   edge-on i h = record { from = omega (arith, o .long); to = omega (arith, o .long, next-below i n h); close = o .close }

@@ -1,9 +1,10 @@
 -- Document 02, K8: the winding number and the doubled signed area of an outline in whole microdegrees. Every number here is whole, without bound, so nothing is rounded.
 use Prim.Native.Nat.{ℕ}
-use mathlib.Core.Bool.{Bool, true, false, _&&_}
+use mathlib.Core.Bool.{Bool, _&&_}
 use mathlib.Core.List.{List, [], _∷_}
 use lib.IntN.{ℤ, pos, _+ℤ_, _-ℤ_, _*ℤ_}
 use lib.Signed.{ltZ, leZ}
+use Rattle.basis.specs.Choice.{codeOf}
 
 pub record Spot : Type 0 where
   pub x : ℤ
@@ -43,14 +44,9 @@ right a b p = ltZ (side a b p) (pos 0)
 unfoldable pub spans : Spot → Spot → Spot → Bool
 spans a b p = leZ (a .y) (p .y) && ltZ (p .y) (b .y)
 
--- 1 for yes
-abbrev pub one : Bool → ℕ
-one true = 1
-one false = 0
-
 -- "plus 1 if y1 ≤ y < y2 and the point is strictly left, minus 1 if y2 ≤ y < y1 and strictly right"
 unfoldable pub crossing : Spot → Spot → Spot → ℤ
-crossing p a b = pos (one (spans a b p && left a b p)) -ℤ pos (one (spans b a p && right a b p))
+crossing p a b = pos (codeOf (spans a b p && left a b p)) -ℤ pos (codeOf (spans b a p && right a b p))
 
 -- "Probes .. come in doubled coordinates", so the vertices are doubled too
 unfoldable pub twice : Spot → Spot

@@ -9,7 +9,8 @@ use lib.Signed.{ltZ, leZ}
 use native.Mathlib.Omega.{arith}
 use borrow.Author.Tests.{le-ltb, lt-ltb, leb-true}
 use Rattle.basis.specs.Choice.{by-test}
-use Rattle.straight.specs.Plane.{Spot, spots, side, left, right, spans, one, crossing, twice, winding, cross, area}
+use Rattle.basis.specs.Choice.{codeOf}
+use Rattle.straight.specs.Plane.{Spot, spots, side, left, right, spans, crossing, twice, winding, cross, area}
 use Rattle.whole.specs.IntegerLaws.{neg-minus, neg-mul, mul-neg, mul-sub, sub-mul, sub-both}
 use Rattle.straight.specs.AroundLaws.{started, repeated, reversed}
 
@@ -74,8 +75,8 @@ left-turns a b p = ap (ltZ (pos 0)) (side-turns a b p) ∙ below-zero (side a b 
 crossing-turns : (p a b : Spot) → crossing p b a ≡ negℤ (crossing p a b)
 unfolding crossing
 crossing-turns p a b =
-    (λ i. pos (one (spans b a p && left-turns a b p i)) -ℤ pos (one (spans a b p && sym (left-turns b a p) i)))
-    ∙ sym (neg-minus (pos (one (spans a b p && left a b p))) (pos (one (spans b a p && right a b p))))
+    (λ i. pos (codeOf (spans b a p && left-turns a b p i)) -ℤ pos (codeOf (spans a b p && sym (left-turns b a p) i)))
+    ∙ sym (neg-minus (pos (codeOf (spans a b p && left a b p))) (pos (codeOf (spans b a p && right a b p))))
 
 no-span : (c d : ℤ) → (leZ c d && ltZ d c) ≡ false
 no-span (pos m) (pos n) = no-order m n
@@ -85,7 +86,7 @@ no-span (negsuc m) (negsuc n) = no-order n m
 
 pub crossing-nothing : (p a : Spot) → crossing p a a ≡ pos 0
 unfolding crossing spans
-crossing-nothing p a = λ i. pos (one (no-span (a .y) (p .y) i && left a a p)) -ℤ pos (one (no-span (a .y) (p .y) i && right a a p))
+crossing-nothing p a = λ i. pos (codeOf (no-span (a .y) (p .y) i && left a a p)) -ℤ pos (codeOf (no-span (a .y) (p .y) i && right a a p))
 
 pub winding-reversed : (o : List Spot) (p : Spot) → winding (reverse o) p ≡ negℤ (winding o p)
 unfolding winding

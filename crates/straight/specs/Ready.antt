@@ -1,11 +1,12 @@
 -- What the code asks of its numbers, as its callers have shown it, and what it works out of one edge.
 use Prim.Native.Nat.{ℕ, _+_, _-_, _*_, _≤_, _<_}
-use mathlib.Core.Bool.{Bool, cond, _&&_}
+use mathlib.Core.Bool.{Bool, _&&_}
 use mathlib.Core.Path.{_≡_}
 use mathlib.Core.List.{List}
 use lib.Dec.{ltb}
 use lib.ListN.{length, getD}
 use lib.IntN.{ℤ, pos, negsuc}
+use Rattle.outline.specs.Outline.{wrap}
 use Rattle.whole.specs.Fit.{Near}
 use Rattle.straight.specs.Plane.{Spot, left, spans, cross}
 
@@ -66,7 +67,7 @@ spotAt l i = record { x = getD l (2 * i) (pos 0); y = getD l (2 * i + 1) (pos 0)
 
 -- the vertex after i, of n
 unfoldable pub next : ℕ → ℕ → ℕ
-next i n = cond (ltb (i + 1) n) (i + 1) 0
+next i n = wrap n (i + 1)
 
 -- "y1 ≤ y < y2 and the point is strictly left". "y2 ≤ y < y1 and strictly right" is the same of the edge the other way
 abbrev pub rises : Spot → Spot → Spot → Bool

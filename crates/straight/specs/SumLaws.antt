@@ -12,7 +12,8 @@ use Rattle.whole.specs.Two.{value, two, Roomy}
 use Rattle.whole.specs.TwoLaws.{value-two, high-below}
 use Rattle.whole.specs.Fit.{Near}
 use Rattle.whole.specs.FitLaws.{as-near, mul-near, sub-near}
-use Rattle.straight.specs.Plane.{Spot, spots, crossing, spans, twice, one, cross, around, winding, area}
+use Rattle.basis.specs.Choice.{codeOf}
+use Rattle.straight.specs.Plane.{Spot, spots, crossing, spans, twice, cross, around, winding, area}
 use Rattle.straight.specs.PlaneTheorems.{left-turns, cross-turns}
 use Rattle.straight.specs.Ready.{Edge, Seen, Outline, Probed, spotAt, next, rises, above, gain}
 use Rattle.straight.specs.PartLaws.{Part, same-part, part-more, edge-on, edge-back}
@@ -26,18 +27,18 @@ abbrev pub winds : Spot → Spot → Spot → ℤ
 winds p a b = crossing p (twice a) (twice b)
 
 abbrev pub rise : Spot → Spot → Spot → ℕ
-rise p a b = one (rises p (twice a) (twice b))
+rise p a b = codeOf (rises p (twice a) (twice b))
 
 pub winds-tied : (p a b : Spot) → winds p a b ≡ pos (rise p a b) -ℤ pos (rise p b a)
 unfolding crossing
-winds-tied p a b = λ i. pos (rise p a b) -ℤ pos (one (spans (twice b) (twice a) p && sym (left-turns (twice a) (twice b) p) i))
+winds-tied p a b = λ i. pos (rise p a b) -ℤ pos (codeOf (spans (twice b) (twice a) p && sym (left-turns (twice a) (twice b) p) i))
 
-pub one-most : (t : Bool) → one t ≤ 1
-one-most true = le-refl 1
-one-most false = zero-le
+pub code-most : (t : Bool) → codeOf t ≤ 1
+code-most true = le-refl 1
+code-most false = zero-le
 
 rise-most : (p a b : Spot) → rise p a b ≤ 1
-rise-most p a b = one-most (rises p (twice a) (twice b))
+rise-most p a b = code-most (rises p (twice a) (twice b))
 
 -- the whole, for a probe that is read back
 pub wound : (l : List ℤ) {x y x' y' : ℤ} → x' ≡ x → y' ≡ y → around (winds (record { x = x'; y = y' })) (spots l) ≡ winding (spots l) (record { x = x; y = y })

@@ -1,5 +1,6 @@
 // Sums round one outline.
 use crate::edge;
+use outline::read;
 use whole::signed;
 use whole::two;
 use whole::two::Two;
@@ -7,7 +8,8 @@ ghost use mathlib.Core.Path.{_≡_};
 ghost use Prim.Native.Nat.{_<_};
 ghost use lib.IntN.{pos, _-ℤ_};
 ghost use Rattle.whole.specs.Two.{value};
-ghost use Rattle.straight.specs.Plane.{spots, one, winding, area};
+ghost use Rattle.basis.specs.Choice.{codeOf};
+ghost use Rattle.straight.specs.Plane.{spots, winding, area};
 ghost use Rattle.straight.specs.Ready.{Outline, Probed, Few, next};
 ghost use Rattle.straight.specs.Words.{areaWords};
 
@@ -16,12 +18,12 @@ fn after(i: usize, n: usize) -> usize
     requires { ⌜ i < n ⌝ }
     ensures { λ r. ⌜ r ≡ next i n ⌝ }
 {
-    if i + 1 < n { i + 1 } else { 0 }
+    read::wrapped(i + 1, n)
 }
 
 // 1 for yes.
-fn one_of(t: bool) -> u64
-    ensures { λ r. ⌜ r ≡ one t ⌝ }
+fn code_of(t: bool) -> u64
+    ensures { λ r. ⌜ r ≡ codeOf t ⌝ }
 {
     if t { 1 } else { 0 }
 }
@@ -44,8 +46,8 @@ pub fn winding_of(l: &[i64], n: usize, x: i64, y: i64) -> i64
     let mut i: usize = 0;
     while i < n {
         let j = after(i, n);
-        up += one_of(edge::rises_at(l, i, j, x, y));
-        down += one_of(edge::rises_at(l, j, i, x, y));
+        up += code_of(edge::rises_at(l, i, j, x, y));
+        down += code_of(edge::rises_at(l, j, i, x, y));
         i += 1;
     }
     balance(up, down)

@@ -15,7 +15,8 @@ use Rattle.basis.specs.All.{all-append}
 use Rattle.basis.specs.Refuse.{firstOf, answer, lengthFault, sizeFault}
 use Rattle.basis.specs.RefuseLaws.{ok-length, size-ok}
 use Rattle.whole.specs.TwoLaws.{value-two}
-use Rattle.straight.specs.Plane.{Spot, spots, one, area}
+use Rattle.basis.specs.Choice.{codeOf}
+use Rattle.straight.specs.Plane.{Spot, spots, area}
 use Rattle.straight_report.specs.Report.{part, outlines, zeros, sizes, reportOf, lastOf, sizesFault}
 use Rattle.straight_report.specs.ReportLaws.{last-least}
 use Rattle.straight_entries.specs.declared.answer.ReportAnswer.{ReportAnswer}
@@ -70,7 +71,7 @@ outlines-more l o vc from (x ∷ es) k s h =
 zeros-more : (os : List (List Spot)) (o : List Spot) → zeros (os ++ (o ∷ [])) ≡ zeros os + zeros (o ∷ [])
 unfolding zeros
 zeros-more [] o = omega arith
-zeros-more (p ∷ os) o = ap (λ (n : ℕ). one (eqb (natAbs (area p)) 0) + n) (zeros-more os o) ∙ sym (add-assoc (one (eqb (natAbs (area p)) 0)) (zeros os) (zeros (o ∷ [])))
+zeros-more (p ∷ os) o = ap (λ (n : ℕ). codeOf (eqb (natAbs (area p)) 0) + n) (zeros-more os o) ∙ sym (add-assoc (codeOf (eqb (natAbs (area p)) 0)) (zeros os) (zeros (o ∷ [])))
 
 sizes-sum : (os : List (List Spot)) (o : List Spot) → sizes (os ++ (o ∷ [])) ≡ sizes os + sizes (o ∷ [])
 unfolding sizes

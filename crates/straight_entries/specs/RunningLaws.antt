@@ -14,10 +14,10 @@ use Rattle.whole.specs.TwoLaws.{high-below, value-two}
 use Rattle.straight_entries.specs.declared.answer.ReportAnswer.{ReportAnswer}
 use Rattle.basis.specs.Refuse.{answer}
 use Rattle.straight.specs.Plane.{spots, area}
-use Rattle.straight.specs.SumLaws.{one-most}
+use Rattle.straight.specs.SumLaws.{code-most}
 use Rattle.straight_report.specs.Report.{part, outlines, zeros, sizes, reportOf, Loops}
 use Rattle.straight_report.specs.MostTheorems.{area-most}
-use Rattle.straight_report.specs.ReportLaws.{going-none, going-cut, cut-outline}
+use Rattle.straight_report.specs.ReportLaws.{going-none, going-cut, cut-outline, four-thousand}
 use Rattle.straight_entries.specs.Answers.{reportRefused, reportFound}
 use Rattle.straight_entries.specs.ReportEntry.{reportRefusal, reportAnswer, report-accepted}
 use Rattle.straight_entries.specs.Running.{lowest, total, summed, joined, Reported, Both, Fewer, Joined}
@@ -34,9 +34,6 @@ counts-fit a b f = few-more (a .count) (b .count) (f .first .few) (f .second .fe
 
 pub zeros-fit : (a b : ReportAnswer) → Both a b → a .zero + b .zero < 2 ^ 64
 zeros-fit a b f = few-more (a .zero) (b .zero) (le-trans (f .first .some) (f .first .few)) (le-trans (f .second .some) (f .second .few))
-
-four-thousand : (v k : ℕ) → v ≤ 327680000000000000000 * k → k ≤ 4096 → v ≤ 1342177280000000000000000
-four-thousand v k h l = omega arith
 
 roomy : (h k : ℕ) → h < 72760 → k < 72760 → h + k + 1 < 2 ^ 64
 roomy h k p q = omega arith
@@ -96,7 +93,7 @@ module _ (a b r : ReportAnswer) (n : ℕ) (e : n ≡ lowest (a .refusal) (b .ref
 single-found : (o : List ℤ) (vc : ℕ) → Loops o (vc ∷ []) → Reported (reportFound 1 (reportOf (outlines o 0 (vc ∷ []))))
 unfolding outlines zeros sizes
 single-found o vc p =
-    let z = one-most (eqb (natAbs (area (spots (part o 0 vc)))) 0) in
+    let z = code-most (eqb (natAbs (area (spots (part o 0 vc)))) 0) in
     let m = area-most (cut-outline (going-cut p (going-none p) (le-refl 1))) in
     record {
       few = omega arith;

@@ -9,7 +9,8 @@ use lib.ListN.{length, getD, take, drop}
 use lib.IntN.{ℤ, pos, natAbs}
 use Rattle.basis.specs.Refuse.{sizeFault}
 use Rattle.whole.specs.Fit.{Near}
-use Rattle.straight.specs.Plane.{Spot, spots, one, area}
+use Rattle.basis.specs.Choice.{codeOf}
+use Rattle.straight.specs.Plane.{Spot, spots, area}
 use Rattle.straight_report.specs.declared.Report.{Report}
 
 -- the numbers of the outline from vertex `from` to the end e
@@ -23,7 +24,7 @@ outlines l from (e ∷ es) = spots (part l from e) ∷ outlines l e es
 -- "the number with area zero"
 unfoldable pub zeros : List (List Spot) → ℕ
 zeros [] = 0
-zeros (o ∷ os) = one (eqb (natAbs (area o)) 0) + zeros os
+zeros (o ∷ os) = codeOf (eqb (natAbs (area o)) 0) + zeros os
 
 -- "the total of the absolute doubled areas"
 unfoldable pub sizes : List (List Spot) → ℕ

@@ -18,9 +18,10 @@ use Rattle.whole.specs.declared.two.Two.{Two}
 use Rattle.whole.specs.Two.{value, Roomy}
 use Rattle.whole.specs.TwoLaws.{two-is, value-two, high-below}
 use Rattle.whole.specs.Fit.{Near}
-use Rattle.straight.specs.Plane.{Spot, spots, one, area}
+use Rattle.basis.specs.Choice.{codeOf}
+use Rattle.straight.specs.Plane.{Spot, spots, area}
 use Rattle.straight.specs.Ready.{Outline}
-use Rattle.straight.specs.SumLaws.{one-most}
+use Rattle.straight.specs.SumLaws.{code-most}
 use Rattle.straight.specs.Words.{areaWords}
 use Rattle.straight.specs.declared.sum.Area.{Area}
 use Rattle.straight_report.specs.declared.Report.{Report}
@@ -90,7 +91,7 @@ module _ {l : List ℤ} {ends : List ℕ} {k from none total : ℕ} (p : Loops l
       let m : getD ends k 0 ≤ lastOf 0 ends = subst (λ (x : ℕ). getD ends k 0 ≤ x) last-here (last-least (getD ends k 0) (drop (k + 1) ends) (or-right (sizeFault (getD ends k 0 - from)) _ sized-here)) in
       record { least = s .0; most = s .1; fits = omega (arith, p .whole); close = p .close }
 
-  pub going-more : (u v : ℕ) → u ≡ one (eqb (natAbs (area (spots (part l from (getD ends k 0))))) 0) → v ≡ natAbs (area (spots (part l from (getD ends k 0)))) → Going l ends (k + 1) (getD ends k 0) (none + u) (total + v)
+  pub going-more : (u v : ℕ) → u ≡ codeOf (eqb (natAbs (area (spots (part l from (getD ends k 0))))) 0) → v ≡ natAbs (area (spots (part l from (getD ends k 0)))) → Going l ends (k + 1) (getD ends k 0) (none + u) (total + v)
   unfolding sizesFault lastOf zeros sizes outlines
   going-more u v e f =
       let rest = outlines l (getD ends k 0) (drop (k + 1) ends) in
@@ -100,7 +101,7 @@ module _ {l : List ℤ} {ends : List ℕ} {k from none total : ℕ} (p : Loops l
         total-sum = ap (λ (x : ℕ). total + x + sizes rest) f ∙ add-assoc total _ (sizes rest) ∙ ap (λ (es : List ℕ). total + sizes (outlines l from es)) (sym here) ∙ g .total-sum;
         sized = or-right (sizeFault (getD ends k 0 - from)) _ sized-here;
         last = last-here;
-        none-most = omega (arith, e, one-most (eqb (natAbs (area (spots (part l from (getD ends k 0))))) 0), g .none-most);
+        none-most = omega (arith, e, code-most (eqb (natAbs (area (spots (part l from (getD ends k 0))))) 0), g .none-most);
         total-most = more (subst (λ (x : ℕ). x ≤ 327680000000000000000) (sym f) (area-most (cut-outline going-cut)));
       }
     where
@@ -154,14 +155,14 @@ module _ (ends : List ℕ) (k from : ℕ) where
 
 pub ruleset sizing = (last-none, last-some, sizes-stop, sizes-on, sizes-end)
 
-pub zero-high : (h l : ℕ) → (h ≡ 0 → ⊥) → 0 ≡ one (eqb (h * 2 ^ 64 + l) 0)
-zero-high h l f = ap one (sym (ne-eqb (h * 2 ^ 64 + l) 0 (λ e. f (omega arith))))
+pub zero-high : (h l : ℕ) → (h ≡ 0 → ⊥) → 0 ≡ codeOf (eqb (h * 2 ^ 64 + l) 0)
+zero-high h l f = ap codeOf (sym (ne-eqb (h * 2 ^ 64 + l) 0 (λ e. f (omega arith))))
 
-pub zero-low : (h l : ℕ) → (l ≡ 0 → ⊥) → 0 ≡ one (eqb (h * 2 ^ 64 + l) 0)
-zero-low h l f = ap one (sym (ne-eqb (h * 2 ^ 64 + l) 0 (λ e. f (omega arith))))
+pub zero-low : (h l : ℕ) → (l ≡ 0 → ⊥) → 0 ≡ codeOf (eqb (h * 2 ^ 64 + l) 0)
+zero-low h l f = ap codeOf (sym (ne-eqb (h * 2 ^ 64 + l) 0 (λ e. f (omega arith))))
 
-pub zero-both : (h l : ℕ) → h ≡ 0 → l ≡ 0 → 1 ≡ one (eqb (h * 2 ^ 64 + l) 0)
-zero-both h l e f = ap one (sym (eq-eqb (h * 2 ^ 64 + l) 0 (omega arith)))
+pub zero-both : (h l : ℕ) → h ≡ 0 → l ≡ 0 → 1 ≡ codeOf (eqb (h * 2 ^ 64 + l) 0)
+zero-both h l e f = ap codeOf (sym (eq-eqb (h * 2 ^ 64 + l) 0 (omega arith)))
 
 -- what an area's two words say
 pub area-says : (a : Area) (z : ℤ) → a ≡ areaWords z → a .high * 2 ^ 64 + a .low ≡ natAbs z
@@ -170,7 +171,7 @@ area-says a z e = ap (λ (b : Area). b .high * 2 ^ 64 + b .low) e ∙ value-two 
 pub size-says : (s : Two) (a : Area) (z : ℤ) → a ≡ areaWords z → s .high ≡ a .high → s .low ≡ a .low → value s ≡ natAbs z
 size-says s a z e h l = (λ i. h i * 2 ^ 64 + l i) ∙ area-says a z e
 
-four-thousand : (v k : ℕ) → v ≤ 327680000000000000000 * k → k ≤ 4096 → v ≤ 1342177280000000000000000
+pub four-thousand : (v k : ℕ) → v ≤ 327680000000000000000 * k → k ≤ 4096 → v ≤ 1342177280000000000000000
 four-thousand v k h l = omega arith
 
 few-more : (a b : ℕ) → a < 72760 → b < 18 → a + b + 1 < 2 ^ 64

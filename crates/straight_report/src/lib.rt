@@ -6,7 +6,8 @@ use whole::two::Two;
 ghost use mathlib.Core.Path.{_≡_};
 ghost use Prim.Native.Nat.{_+_, _*_, _^_};
 ghost use lib.Dec.{eqb};
-ghost use Rattle.straight.specs.Plane.{spots, one, area};
+ghost use Rattle.basis.specs.Choice.{codeOf};
+ghost use Rattle.straight.specs.Plane.{spots, area};
 ghost use Rattle.straight.specs.Words.{areaWords};
 ghost use Rattle.straight_report.specs.Report.{Cut, Loops, part, outlines, reportOf};
 
@@ -28,7 +29,7 @@ fn area_between(points: &[i64], from: usize, end: usize) -> Area
 
 // 1 for an area of zero.
 fn zero_of(a: Area) -> usize
-    ensures { λ r. ⌜ r ≡ one (eqb (a .high * 2 ^ 64 + a .low) 0) ⌝ }
+    ensures { λ r. ⌜ r ≡ codeOf (eqb (a .high * 2 ^ 64 + a .low) 0) ⌝ }
 {
     if a.high != 0 {
         return 0;

@@ -1,10 +1,12 @@
 -- Document 01, "Vertices of a view".
-use Prim.Native.Nat.{ℕ, _+_, _-_, _≤_, _<_}
+use Prim.Native.Nat.{ℕ, _+_, _-_, _*_, _≤_, _<_}
 use mathlib.Core.Bool.{cond}
 use mathlib.Core.List.{List, _∷_, _++_}
 use lib.Dec.{ltb, leb, eqb}
+use lib.ListN.{length}
 use lib.Ieee.{Float, neg}
 use Rattle.basis.specs.Number.{+0}
+use Rattle.basis.specs.Items.{firstItems}
 use Rattle.outline.specs.declared.point.Vertex.{Vertex}
 use Rattle.outline.specs.Points.{withBulge, atPoint, pointNumbers, vertexNumbers}
 use Rattle.outline.specs.Outline.{Whole, outlineAt}
@@ -49,6 +51,18 @@ vertexCount v = v .«end_index_offset» + 2
 
 unfoldable pub getVertex : List Float → ℕ → ViewData → ℕ → Found
 getVertex o vc v k = cond (leb (vertexCount v) k) found.NoVertex (found.At (vertexOf o vc v k))
+
+-- all vertices of a view, three numbers each, one after the other: vertex 0, vertex 1 and so on
+abbrev pub vertexItem : List Float → ℕ → ViewData → ℕ → List Float
+vertexItem o vc v k = vertexNumbers (vertexOf o vc v k)
+
+abbrev pub viewVertices : List Float → ℕ → ViewData → List Float
+viewVertices o vc v = firstItems (vertexItem o vc v) (vertexCount v)
+
+-- a view that fits, and room for all of its vertices
+pub record ListFit (o : List Float) (vc : ℕ) (v : ViewData) (room : List Float) : Type 0 where
+  pub view : Fit o vc v
+  pub fits : 3 * vertexCount v ≤ length room
 
 -- the numbers of a view, as a list that is looked through
 abbrev pub viewNumbers : ViewData → List Float

@@ -8,7 +8,7 @@ use basis::number;
 use basis::refuse;
 use view::vertex;
 
-fn refusal(outline: &[f64], vc: usize, v: View) -> u32
+pub(crate) fn refusal(outline: &[f64], vc: usize, v: View) -> u32
     ensures { λ r. ⌜ r ≡ viewVertexRefusal (now (outline .entry)) vc v ⌝ }
 {
     let r = refuse::or_else(0, refuse::bad_length(outline.len(), 3, vc), 1);

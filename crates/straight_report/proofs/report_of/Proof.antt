@@ -8,8 +8,9 @@ use denote.Ref.{now}
 use Rattle.whole.specs.declared.two.Two.{Two}
 use Rattle.whole.specs.Two.{value, two}
 use Rattle.whole.specs.TwoLaws.{value-two}
-use Rattle.straight.specs.Plane.{spots, one, area}
-use Rattle.straight.specs.SumLaws.{one-most}
+use Rattle.basis.specs.Choice.{codeOf}
+use Rattle.straight.specs.Plane.{spots, area}
+use Rattle.straight.specs.SumLaws.{code-most}
 use Rattle.straight_report.specs.Report.{part, outlines}
 use Rattle.straight_report.specs.MostTheorems.{area-most}
 use Rattle.straight_report.specs.ReportLaws.{Going, going-none, going-cut, going-more, going-end, cut-outline, area-says, size-says, total-high, report-is}
@@ -59,7 +60,7 @@ zero-of-requires c κs = search needs
 add-zero : tie.Need-add-zero Inv-loop μ-loop
 add-zero c =
     let k = c .before .before .before .before in
-    record { fits = omega (arith, k .loop .inv .0 .at, k .loop .inv .0 .none-most, k .before .before .before .pre .few, c .zero-of .ensures, one-most (eqb (c .before .area-between .result .high * 2 ^ 64 + c .before .area-between .result .low) 0)) }
+    record { fits = omega (arith, k .loop .inv .0 .at, k .loop .inv .0 .none-most, k .before .before .before .pre .few, c .zero-of .ensures, code-most (eqb (c .before .area-between .result .high * 2 ^ 64 + c .before .area-between .result .low) 0)) }
 
 size-of-requires : tie.Need-size-of-requires Inv-loop μ-loop
 size-of-requires c κs = search needs
@@ -91,7 +92,7 @@ loop-again c =
       subst (λ (n : ℕ). Going l ends (k .loop .k + 1) e (k .loop .zero + c .before .before .zero-of .result) n)
           (sym (ap value (c .add .ensures) ∙ value-two (value (k .loop .total) + value (z .result))))
           (going-more (s .pre) (k .loop .inv .0) (c .before .before .before .before .before .loop-test .taken) (c .before .before .zero-of .result) (value (z .result))
-          (c .before .before .zero-of .ensures ∙ ap (λ (n : ℕ). one (eqb n 0)) (area-says (a .result) (area (spots (part l (k .loop .from) e))) (a .ensures)))
+          (c .before .before .zero-of .ensures ∙ ap (λ (n : ℕ). codeOf (eqb n 0)) (area-says (a .result) (area (spots (part l (k .loop .from) e))) (a .ensures)))
           (size-says (z .result) (a .result) (area (spots (part l (k .loop .from) e))) (a .ensures) (z .ensures .0) (z .ensures .1))),
       low-fits (c .add .result) (value (k .loop .total) + value (z .result)) (c .add .ensures),
     )

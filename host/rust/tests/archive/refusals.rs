@@ -274,6 +274,29 @@ fn of_indexes_only_those_of_the_outline_named() {
     assert_eq!(on1.refused(Source::Pline2), None);
     assert_eq!(on2.refused(Source::Pline1), None);
     assert_eq!(on2.refused(Source::Pline2), Some(Refusal::Index));
+
+    // an overlap's own view is of outline 2
+    let overlapping = |view_data: View| Meeting {
+        laps: Overlaps::from([Overlap {
+            view_data,
+            ..Overlap::default()
+        }]),
+        ..Meeting::of_a()
+    };
+    for (start_index, end_index_offset, refusal) in [
+        (3, 4, None),
+        (4, 0, Some(Refusal::Index)),
+        (0, 5, Some(Refusal::Count)),
+        (4, 5, Some(Refusal::Index)),
+    ] {
+        let meeting = overlapping(View {
+            start_index,
+            end_index_offset,
+            ..View::default()
+        });
+        assert_eq!(meeting.refused(Source::Pline1), None);
+        assert_eq!(meeting.refused(Source::Pline2), refusal);
+    }
 }
 
 #[test]

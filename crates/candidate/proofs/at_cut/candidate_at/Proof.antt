@@ -1,6 +1,6 @@
 use Rattle.basis.specs.Choice.{cases}
 use Rattle.candidate.specs.Candidates.{candidateAt}
-use Rattle.candidate.specs.CandidateLaws.{places}
+use Rattle.candidate.proofs.Placing.{places, place-last}
 use borrow.Author.Needs.{needs}
 use Rattle.candidate.proofs.at_cut.candidate_at.Statement.{statement}
 use Rattle.candidate.proofs.at_cut.candidate_at.Tie as tie
@@ -19,7 +19,13 @@ shared-slice-read-if1 c = search needs
 
 returns : tie.Need-returns
 unfolding candidateAt
-returns c = search (needs, cases, places)
+returns c = search (needs, places, cases)
+
+mul-same-next : tie.Need-mul-same-next
+mul-same-next c = search needs
+
+add-same-next : tie.Need-add-same-next
+add-same-next c = search needs
 
 same-next-requires : tie.Need-same-next-requires
 same-next-requires c κs = search needs
@@ -31,7 +37,7 @@ mul-vertex-at : tie.Need-mul-vertex-at
 mul-vertex-at c = search needs
 
 vertex-at-requires : tie.Need-vertex-at-requires
-vertex-at-requires c κs = search (needs, places)
+vertex-at-requires c κs = search (needs, places, cases)
 
 mul-vertex-at-2 : tie.Need-mul-vertex-at-2
 mul-vertex-at-2 c = search needs
@@ -40,7 +46,7 @@ add-vertex-at : tie.Need-add-vertex-at
 add-vertex-at c = search needs
 
 vertex-at-requires-2 : tie.Need-vertex-at-requires-2
-vertex-at-requires-2 c κs = search (needs, places)
+vertex-at-requires-2 c κs = search (needs, places, cases)
 
 mul-piece : tie.Need-mul-piece
 mul-piece c = search needs
@@ -56,14 +62,14 @@ piece-requires c κs = search needs
 
 returns-2 : tie.Need-returns-2
 unfolding candidateAt
-returns-2 c = search (needs, cases, places)
+returns-2 c = search (needs, places, cases)
 
 walk-requires : tie.Need-walk-requires
-walk-requires c κs = search needs
+walk-requires c κs = place-last _ _ _ (search c) (c .before .same-next .ensures) (c .if2 .left)
 
 returns-3 : tie.Need-returns-3
 unfolding candidateAt
-returns-3 c = search (needs, cases, places)
+returns-3 c = search (needs, places, cases)
 
 pub candidate-at-spec : {M : Type 1} → statement M
 candidate-at-spec =
@@ -74,6 +80,8 @@ candidate-at-spec =
     mul-if1-2
     shared-slice-read-if1
     returns
+    mul-same-next
+    add-same-next
     same-next-requires
     add-q
     mul-vertex-at

@@ -1,7 +1,7 @@
 use Prim.Native.Nat.{ℕ}
 use lib.ListN.{length-replicate}
 use Rattle.basis.specs.Number.{+0}
-use Rattle.candidate_entries.specs.CandidatesLaws.{few-room}
+use Rattle.candidate_entries.proofs.Finding.{few-lists}
 use borrow.Author.Needs.{needs}
 use Rattle.candidate_entries.proofs.slicing.found_few.Statement.{statement}
 use Rattle.candidate_entries.proofs.slicing.found_few.Tie as tie
@@ -12,8 +12,11 @@ slice-aggregate-found-with c = search needs
 slice-aggregate-found-with-2 : tie.Need-slice-aggregate-found-with-2
 slice-aggregate-found-with-2 c = search needs
 
+slice-aggregate-found-with-3 : tie.Need-slice-aggregate-found-with-3
+slice-aggregate-found-with-3 c = search needs
+
 found-with-requires : tie.Need-found-with-requires
-found-with-requires c κs = few-room 64 _ _ (search c) (length-replicate {A = ℕ} 192 0) (length-replicate 128 +0)
+found-with-requires c κs = few-lists _ _ _ _ _ _ 64 (search c) (length-replicate {A = ℕ} 64 0) (length-replicate {A = ℕ} 192 0) (length-replicate 128 +0)
 
 same-length : tie.Need-same-length
 same-length c = search needs
@@ -33,6 +36,7 @@ found-few-spec =
     (tie.spec
     slice-aggregate-found-with
     slice-aggregate-found-with-2
+    slice-aggregate-found-with-3
     found-with-requires
     same-length
     same-length-2

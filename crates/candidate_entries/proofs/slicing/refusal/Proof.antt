@@ -1,5 +1,5 @@
-use Rattle.candidate_entries.specs.CandidatesLaws.{guarded}
-use Rattle.basis.specs.RefuseLaws.{parts}
+use Rattle.cut_entries.specs.CutRowsLaws.{few-listed}
+use Rattle.candidate_entries.proofs.Finding.{parts}
 use borrow.Author.Needs.{needs}
 use Rattle.candidate_entries.proofs.slicing.refusal.Statement.{statement}
 use Rattle.candidate_entries.proofs.slicing.refusal.Tie as tie
@@ -7,32 +7,14 @@ use Rattle.candidate_entries.proofs.slicing.refusal.Tie as tie
 list-refusal-requires : tie.Need-list-refusal-requires
 list-refusal-requires c κs = search needs
 
-split-length-refusal-requires : tie.Need-split-length-refusal-requires
-split-length-refusal-requires c κs = search needs
-
-value-refusal-requires : tie.Need-value-refusal-requires
-value-refusal-requires c κs = search needs
-
-split-refusal-requires : tie.Need-split-refusal-requires
-split-refusal-requires c κs = search needs
-
-index-refusal-requires : tie.Need-index-refusal-requires
-index-refusal-requires c κs = search needs
-
-room-refusal-requires : tie.Need-room-refusal-requires
-room-refusal-requires c κs = search needs
-
 returns : tie.Need-returns
-returns c = guarded _ _ _ _ _ _ _ (c .before .before .before .before .before .before .before .before .before .before .before .before .pre .either) (search parts depth 14)
+returns c = search (needs, parts)
+
+later-refusal-requires : tie.Need-later-refusal-requires
+later-refusal-requires c κs = few-listed _ _ (c .before .list-refusal .ensures) (c .if1 .left)
+
+returns-2 : tie.Need-returns-2
+returns-2 c = search (needs, parts)
 
 pub refusal-spec : {M : Type 1} → statement M
-refusal-spec =
-    tie.close
-    (tie.spec
-    list-refusal-requires
-    split-length-refusal-requires
-    value-refusal-requires
-    split-refusal-requires
-    index-refusal-requires
-    room-refusal-requires
-    returns)
+refusal-spec = tie.close (tie.spec list-refusal-requires returns later-refusal-requires returns-2)

@@ -4,20 +4,20 @@ use borrow.Author.Needs.{needs}
 use Rattle.candidate_entries.proofs.slicing.room_refusal.Statement.{statement}
 use Rattle.candidate_entries.proofs.slicing.room_refusal.Tie as tie
 
-bad-cut-room-requires : tie.Need-bad-cut-room-requires
-bad-cut-room-requires c κs = search needs
+mul-or-else : tie.Need-mul-or-else
+mul-or-else c = search needs
 
 or-else-requires : tie.Need-or-else-requires
 or-else-requires c κs = search needs
 
-bad-cut-room-requires-2 : tie.Need-bad-cut-room-requires-2
-bad-cut-room-requires-2 c κs = search needs
+mul-or-else-2 : tie.Need-mul-or-else-2
+mul-or-else-2 c = search needs
 
 or-else-requires-2 : tie.Need-or-else-requires-2
 or-else-requires-2 c κs = search needs
 
-bad-cut-room-requires-3 : tie.Need-bad-cut-room-requires-3
-bad-cut-room-requires-3 c κs = search needs
+mul-or-else-3 : tie.Need-mul-or-else-3
+mul-or-else-3 c = search needs
 
 or-else-requires-3 : tie.Need-or-else-requires-3
 or-else-requires-3 c κs = search needs
@@ -30,10 +30,10 @@ pub room-refusal-spec : {M : Type 1} → statement M
 room-refusal-spec =
     tie.close
     (tie.spec
-    bad-cut-room-requires
+    mul-or-else
     or-else-requires
-    bad-cut-room-requires-2
+    mul-or-else-2
     or-else-requires-2
-    bad-cut-room-requires-3
+    mul-or-else-3
     or-else-requires-3
     returns)

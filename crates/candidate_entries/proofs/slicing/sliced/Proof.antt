@@ -1,4 +1,4 @@
-use Rattle.candidate_entries.specs.CandidatesLaws.{cand-accepted, cand-refused, cand-given}
+use Rattle.candidate_entries.proofs.Finding.{ways, cand-ready}
 use borrow.Author.Needs.{needs}
 use Rattle.candidate_entries.proofs.slicing.sliced.Statement.{statement}
 use Rattle.candidate_entries.proofs.slicing.sliced.Tie as tie
@@ -10,10 +10,10 @@ count-refused-requires : tie.Need-count-refused-requires
 count-refused-requires c κs = search needs
 
 returns : tie.Need-returns
-returns c = cand-refused _ _ _ _ _ _ (c .before .before .refusal .ensures) (c .before .if1 .taken) (c .count-refused .ensures)
+returns c = search (needs, ways)
 
 found-requires : tie.Need-found-requires
-found-requires c κs = cand-accepted _ _ _ _ _ (c .before .before .before .before .before .before .before .before .before .before .before .before .before .before .pre .either) (c .before .before .before .before .refusal .ensures) (c .before .before .before .if1 .left)
+found-requires c κs = let told = c .before .before .before in cand-ready _ _ _ _ (told .before .refusal .ensures) (told .if1 .left)
 
 counted-as-requires : tie.Need-counted-as-requires
 counted-as-requires c κs = search needs
@@ -28,7 +28,7 @@ same-length-3 : tie.Need-same-length-3
 same-length-3 c = search needs
 
 returns-2 : tie.Need-returns-2
-returns-2 c = cand-given _ _ _ _ _ _ _ _ (c .before .before .before .before .before .before .before .before .before .before .before .before .refusal .ensures) (c .before .before .before .before .before .before .before .before .before .before .before .if1 .left) (c .before .before .before .before .before .before .before .found .ensures) (c .counted-as .ensures)
+returns-2 c = search (needs, ways)
 
 pub sliced-spec : {M : Type 1} → statement M
 sliced-spec =

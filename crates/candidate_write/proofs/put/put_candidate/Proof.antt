@@ -1,4 +1,4 @@
-use Rattle.candidate_write.specs.PutLaws.{putting}
+use Rattle.candidate_write.proofs.Putting.{putting}
 use borrow.Author.Needs.{needs}
 use Rattle.candidate_write.proofs.put.put_candidate.Statement.{statement}
 use Rattle.candidate_write.proofs.put.put_candidate.Tie as tie
@@ -12,14 +12,20 @@ enum-told c = search needs
 returns : tie.Need-returns
 returns c = search (needs, putting)
 
-mul-put-two : tie.Need-mul-put-two
-mul-put-two c = search needs
+mul-put-pair : tie.Need-mul-put-pair
+mul-put-pair c = search needs
 
-put-two-requires : tie.Need-put-two-requires
-put-two-requires c κs = search needs
+put-pair-requires : tie.Need-put-pair-requires
+put-pair-requires c κs = search needs
+
+mul-put-view : tie.Need-mul-put-view
+mul-put-view c = search needs
 
 put-view-requires : tie.Need-put-view-requires
 put-view-requires c κs = search needs
+
+mul-put-probe : tie.Need-mul-put-probe
+mul-put-probe c = search needs
 
 put-probe-requires : tie.Need-put-probe-requires
 put-probe-requires c κs = search needs
@@ -46,9 +52,11 @@ put-candidate-spec =
     enum-known-c
     enum-told
     returns
-    mul-put-two
-    put-two-requires
+    mul-put-pair
+    put-pair-requires
+    mul-put-view
     put-view-requires
+    mul-put-probe
     put-probe-requires
     add-result
     same-length

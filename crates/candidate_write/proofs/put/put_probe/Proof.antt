@@ -1,19 +1,16 @@
-use Rattle.candidate_write.specs.PutLaws.{putting}
+use Rattle.candidate_write.proofs.Putting.{putting}
 use borrow.Author.Needs.{needs}
 use Rattle.candidate_write.proofs.put.put_probe.Statement.{statement}
 use Rattle.candidate_write.proofs.put.put_probe.Tie as tie
 
-mul-i : tie.Need-mul-i
-mul-i c = search needs
+put-vertex-requires : tie.Need-put-vertex-requires
+put-vertex-requires c κs = search needs
 
-put-three-requires : tie.Need-put-three-requires
-put-three-requires c κs = search needs
+add-put-vertex : tie.Need-add-put-vertex
+add-put-vertex c = search needs
 
-add-put-three : tie.Need-add-put-three
-add-put-three c = search needs
-
-put-three-requires-2 : tie.Need-put-three-requires-2
-put-three-requires-2 c κs = search (needs, putting)
+put-vertex-requires-2 : tie.Need-put-vertex-requires-2
+put-vertex-requires-2 c κs = search needs
 
 same-length : tie.Need-same-length
 same-length c = search needs
@@ -24,4 +21,4 @@ returns c = search (needs, putting)
 pub put-probe-spec : {M : Type 1} → statement M
 put-probe-spec =
     tie.close
-    (tie.spec mul-i put-three-requires add-put-three put-three-requires-2 same-length returns)
+    (tie.spec put-vertex-requires add-put-vertex put-vertex-requires-2 same-length returns)

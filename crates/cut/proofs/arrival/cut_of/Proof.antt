@@ -1,6 +1,6 @@
 use Rattle.basis.specs.Choice.{cases}
 use Rattle.cut.specs.Cuts.{cutOf}
-use Rattle.cut.specs.ArrivalLaws.{parts}
+use Rattle.cut.proofs.Arriving.{parts}
 use borrow.Author.Needs.{needs}
 use Rattle.cut.proofs.arrival.cut_of.Statement.{statement}
 use Rattle.cut.proofs.arrival.cut_of.Tie as tie

@@ -1,7 +1,10 @@
-use Rattle.cut.specs.ArrivalLaws.{parts}
+use Rattle.cut.proofs.Arriving.{parts}
 use borrow.Author.Needs.{needs}
 use Rattle.cut.proofs.arrival.lap_cut.Statement.{statement}
 use Rattle.cut.proofs.arrival.lap_cut.Tie as tie
+
+which-of-requires : tie.Need-which-of-requires
+which-of-requires c κs = search needs
 
 mul-point-at : tie.Need-mul-point-at
 mul-point-at c = search needs
@@ -34,7 +37,7 @@ shared-slice-read-i : tie.Need-shared-slice-read-i
 shared-slice-read-i c = search needs
 
 moved-index-requires : tie.Need-moved-index-requires
-moved-index-requires c κs = search needs
+moved-index-requires c κs = search (needs, parts)
 
 mul-marked-end : tie.Need-mul-marked-end
 mul-marked-end c = search needs
@@ -58,6 +61,7 @@ pub lap-cut-spec : {M : Type 1} → statement M
 lap-cut-spec =
     tie.close
     (tie.spec
+    which-of-requires
     mul-point-at
     mul-point-at-2
     add-point-at

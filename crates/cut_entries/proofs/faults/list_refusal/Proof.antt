@@ -1,5 +1,6 @@
 use Rattle.basis.specs.Refuse.{firstFrom}
 use Rattle.basis.specs.RefuseLaws.{rows}
+use Rattle.cut_entries.specs.CutRows.{listRows}
 use borrow.Author.Needs.{needs}
 use Rattle.cut_entries.proofs.faults.list_refusal.Statement.{statement}
 use Rattle.cut_entries.proofs.faults.list_refusal.Tie as tie
@@ -34,14 +35,14 @@ bad-length-requires-5 c κs = search needs
 or-else-requires-5 : tie.Need-or-else-requires-5
 or-else-requires-5 c κs = search needs
 
-too-many-requires : tie.Need-too-many-requires
-too-many-requires c κs = search needs
-
 or-else-requires-6 : tie.Need-or-else-requires-6
 or-else-requires-6 c κs = search needs
 
+or-else-requires-7 : tie.Need-or-else-requires-7
+or-else-requires-7 c κs = search needs
+
 returns : tie.Need-returns
-unfolding firstFrom
+unfolding firstFrom listRows
 returns c = search rows depth 24
 
 pub list-refusal-spec : {M : Type 1} → statement M
@@ -58,6 +59,6 @@ list-refusal-spec =
     or-else-requires-4
     bad-length-requires-5
     or-else-requires-5
-    too-many-requires
     or-else-requires-6
+    or-else-requires-7
     returns)

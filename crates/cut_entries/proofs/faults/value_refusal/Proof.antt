@@ -1,5 +1,6 @@
 use Rattle.basis.specs.Refuse.{firstFrom}
 use Rattle.basis.specs.RefuseLaws.{rows}
+use Rattle.cut_entries.specs.CutRows.{valueRows}
 use borrow.Author.Needs.{needs}
 use Rattle.cut_entries.proofs.faults.value_refusal.Statement.{statement}
 use Rattle.cut_entries.proofs.faults.value_refusal.Tie as tie
@@ -16,8 +17,8 @@ bad-source-requires c κs = search needs
 or-else-requires-2 : tie.Need-or-else-requires-2
 or-else-requires-2 c κs = search needs
 
-all-at-most-requires : tie.Need-all-at-most-requires
-all-at-most-requires c κs = search needs
+choices-known-requires : tie.Need-choices-known-requires
+choices-known-requires c κs = search needs
 
 or-else-requires-3 : tie.Need-or-else-requires-3
 or-else-requires-3 c κs = search needs
@@ -47,7 +48,7 @@ or-else-requires-7 : tie.Need-or-else-requires-7
 or-else-requires-7 c κs = search needs
 
 returns : tie.Need-returns
-unfolding firstFrom
+unfolding firstFrom valueRows
 returns c = search rows depth 24
 
 pub value-refusal-spec : {M : Type 1} → statement M
@@ -58,7 +59,7 @@ value-refusal-spec =
     or-else-requires
     bad-source-requires
     or-else-requires-2
-    all-at-most-requires
+    choices-known-requires
     or-else-requires-3
     in-tolerance-requires
     or-else-requires-4

@@ -1,5 +1,4 @@
-use native.Mathlib.Omega.{arith}
-use Rattle.cut_entries.specs.CutOrder.{order-accepted, order-refused, order-given, order-few}
+use Rattle.cut_entries.proofs.Ordering.{ways}
 use borrow.Author.Needs.{needs}
 use Rattle.cut_entries.proofs.order.ordered.Statement.{statement}
 use Rattle.cut_entries.proofs.order.ordered.Tie as tie
@@ -11,16 +10,10 @@ count-refused-requires : tie.Need-count-refused-requires
 count-refused-requires c κs = search needs
 
 returns : tie.Need-returns
-returns c = order-refused _ _ _ _ _ _ (c .before .before .refusal .ensures) (c .before .if1 .taken) (c .count-refused .ensures)
+returns c = search (needs, ways)
 
-write-order-requires : tie.Need-write-order-requires
-write-order-requires c κs = order-accepted _ _ _ _ _ (c .before .before .before .before .before .before .before .before .before .before .before .pre .either) (c .before .before .before .refusal .ensures) (c .before .before .if1 .left)
-
-mul-counted-as : tie.Need-mul-counted-as
-mul-counted-as c = record { fits = omega (arith, order-few _ _ _ _ _ (c .before .before .before .before .before .before .before .before .refusal .ensures) (c .before .before .before .before .before .before .before .if1 .left)) }
-
-add-counted-as : tie.Need-add-counted-as
-add-counted-as c = record { fits = omega (arith, order-few _ _ _ _ _ (c .before .before .before .before .before .before .before .before .refusal .ensures) (c .before .before .before .before .before .before .before .if1 .left)) }
+order-cuts-requires : tie.Need-order-cuts-requires
+order-cuts-requires c κs = search (needs, ways)
 
 counted-as-requires : tie.Need-counted-as-requires
 counted-as-requires c κs = search needs
@@ -32,7 +25,7 @@ same-length-2 : tie.Need-same-length-2
 same-length-2 c = search needs
 
 returns-2 : tie.Need-returns-2
-returns-2 c = order-given _ _ _ _ _ _ _ _ (c .before .before .before .before .before .before .before .before .before .refusal .ensures) (c .before .before .before .before .before .before .before .before .if1 .left) (c .before .before .before .before .before .write-order .ensures) (c .counted-as .ensures)
+returns-2 c = search (needs, ways)
 
 pub ordered-spec : {M : Type 1} → statement M
 ordered-spec =
@@ -41,9 +34,7 @@ ordered-spec =
     refusal-requires
     count-refused-requires
     returns
-    write-order-requires
-    mul-counted-as
-    add-counted-as
+    order-cuts-requires
     counted-as-requires
     same-length
     same-length-2

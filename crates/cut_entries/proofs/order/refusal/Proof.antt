@@ -1,31 +1,38 @@
-use Rattle.basis.specs.RefuseLaws.{parts}
-use Rattle.cut_entries.specs.CutOrder.{cutOrderRefusal}
+use native.Mathlib.Omega.{arith}
+use Rattle.cut_entries.proofs.Ordering.{input-few, parts}
 use borrow.Author.Needs.{needs}
 use Rattle.cut_entries.proofs.order.refusal.Statement.{statement}
 use Rattle.cut_entries.proofs.order.refusal.Tie as tie
 
-list-refusal-requires : tie.Need-list-refusal-requires
-list-refusal-requires c κs = search needs
-
-value-refusal-requires : tie.Need-value-refusal-requires
-value-refusal-requires c κs = search needs
-
-index-refusal-requires : tie.Need-index-refusal-requires
-index-refusal-requires c κs = search needs
-
-room-refusal-requires : tie.Need-room-refusal-requires
-room-refusal-requires c κs = search needs
+input-refusal-requires : tie.Need-input-refusal-requires
+input-refusal-requires c κs = search needs
 
 returns : tie.Need-returns
-unfolding cutOrderRefusal
-returns c = search parts depth 12
+returns c = search (needs, parts)
+
+mul-room-refusal : tie.Need-mul-room-refusal
+mul-room-refusal c =
+    let first = c .before in
+    record { fits = omega (arith, input-few _ _ (first .before .input-refusal .ensures) (first .if1 .left)) }
+
+add-room-refusal : tie.Need-add-room-refusal
+add-room-refusal c =
+    let first = c .before .before in
+    record { fits = omega (arith, input-few _ _ (first .before .input-refusal .ensures) (first .if1 .left)) }
+
+room-refusal-requires : tie.Need-room-refusal-requires
+room-refusal-requires c κs = let first = c .before .before in input-few _ _ (first .before .input-refusal .ensures) (first .if1 .left)
+
+returns-2 : tie.Need-returns-2
+returns-2 c = search (needs, parts)
 
 pub refusal-spec : {M : Type 1} → statement M
 refusal-spec =
     tie.close
     (tie.spec
-    list-refusal-requires
-    value-refusal-requires
-    index-refusal-requires
+    input-refusal-requires
+    returns
+    mul-room-refusal
+    add-room-refusal
     room-refusal-requires
-    returns)
+    returns-2)

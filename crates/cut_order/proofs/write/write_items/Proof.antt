@@ -1,12 +1,12 @@
 use Prim.Native.Nat.{_-_}
-use Rattle.cut.specs.Cuts.{givenIn}
-use Rattle.cut_order.specs.WriteLaws.{Writing, writing}
+use Rattle.cut.specs.Cuts.{given}
+use Rattle.cut_order.proofs.Writing.{Writing, writing}
 use borrow.Author.Needs.{needs}
 use Rattle.cut_order.proofs.write.write_items.Statement.{statement}
 use Rattle.cut_order.proofs.write.write_items.Tie as tie
 
 abbrev Inv-loop : tie.InvT-loop
-Inv-loop outline hit-at hit lap-at lap s order cut-at₀ cut₀ count i₀ cut-at cut i = Writing (givenIn outline hit-at hit lap-at lap s) cut-at₀ cut₀ cut-at cut i
+Inv-loop outline hit-at hit lap-at lap s order cut-at₀ cut₀ count i₀ cut-at cut i = Writing (given outline hit-at hit lap-at lap s) cut-at₀ cut₀ cut-at cut i
 
 abbrev μ-loop : tie.MeasureT-loop
 μ-loop outline hit-at hit lap-at lap s order cut-at₀ cut₀ count i₀ cut-at cut i = count - i
@@ -29,8 +29,14 @@ shared-slice-read-n c = search needs
 cut-of-requires : tie.Need-cut-of-requires Inv-loop μ-loop
 cut-of-requires c κs = search (needs, writing)
 
+mul-put-numbers : tie.Need-mul-put-numbers Inv-loop μ-loop
+mul-put-numbers c = search needs
+
 put-numbers-requires : tie.Need-put-numbers-requires Inv-loop μ-loop
 put-numbers-requires c κs = search (needs, writing)
+
+mul-put-point : tie.Need-mul-put-point Inv-loop μ-loop
+mul-put-point c = search (needs, writing)
 
 put-point-requires : tie.Need-put-point-requires Inv-loop μ-loop
 put-point-requires c κs = search (needs, writing)
@@ -65,7 +71,9 @@ write-items-spec =
     mul-n
     shared-slice-read-n
     cut-of-requires
+    mul-put-numbers
     put-numbers-requires
+    mul-put-point
     put-point-requires
     add-i
     loop-less

@@ -1,6 +1,6 @@
 use borrow.Author.Needs.{needs}
-use Rattle.basis.specs.Refuse.{firstFrom}
 use Rattle.basis.specs.RefuseLaws.{rows}
+use Rattle.record.proofs.Heading.{then-slices}
 use Rattle.record.proofs.head.room_refusal.Statement.{statement}
 use Rattle.record.proofs.head.room_refusal.Tie as tie
 
@@ -16,21 +16,11 @@ mul-or-else-2 c = search needs
 or-else-requires-2 : tie.Need-or-else-requires-2
 or-else-requires-2 c κs = search needs
 
-mul-or-else-3 : tie.Need-mul-or-else-3
-mul-or-else-3 c = search needs
-
-or-else-requires-3 : tie.Need-or-else-requires-3
-or-else-requires-3 c κs = search needs
-
-mul-or-else-4 : tie.Need-mul-or-else-4
-mul-or-else-4 c = search needs
-
-or-else-requires-4 : tie.Need-or-else-requires-4
-or-else-requires-4 c κs = search needs
+room-refusal-requires : tie.Need-room-refusal-requires
+room-refusal-requires c κs = search needs
 
 returns : tie.Need-returns
-unfolding firstFrom
-returns c = search rows depth 24
+returns c = search (then-slices, rows) depth 24
 
 pub room-refusal-spec : {M : Type 1} → statement M
 room-refusal-spec =
@@ -40,8 +30,5 @@ room-refusal-spec =
     or-else-requires
     mul-or-else-2
     or-else-requires-2
-    mul-or-else-3
-    or-else-requires-3
-    mul-or-else-4
-    or-else-requires-4
+    room-refusal-requires
     returns)

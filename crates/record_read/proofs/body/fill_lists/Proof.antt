@@ -1,5 +1,5 @@
 use borrow.Author.Needs.{needs}
-use Rattle.record.specs.Record.{outline1Of, outline2Of, codesOf, numbersOf}
+use Rattle.record.specs.Record.{outline1From, outline2From, codesFrom, shapesFrom}
 use Rattle.record_read.proofs.body.fill_lists.Statement.{statement}
 use Rattle.record_read.proofs.body.fill_lists.Tie as tie
 
@@ -37,7 +37,7 @@ same-length-4 : tie.Need-same-length-4
 same-length-4 c = search needs
 
 returns : tie.Need-returns
-unfolding outline1Of outline2Of codesOf numbersOf
+unfolding outline1From outline2From codesFrom shapesFrom
 returns c = search needs
 
 pub fill-lists-spec : {M : Type 1} → statement M

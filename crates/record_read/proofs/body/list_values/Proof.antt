@@ -1,17 +1,16 @@
 use borrow.Author.Needs.{needs}
-use Rattle.record_read.proofs.Reading.{vertex-rows, slice-rows, values-listed}
-use Rattle.record_read.proofs.Reading.{room-still}
+use Rattle.record_read.proofs.Reading.{vertex-rows, slice-rows, values-listed, room-still}
 use Rattle.record_read.proofs.body.list_values.Statement.{statement}
 use Rattle.record_read.proofs.body.list_values.Tie as tie
 
 add-vertices : tie.Need-add-vertices
 add-vertices c = search needs
 
-mul-p : tie.Need-mul-p
-mul-p c = search needs
+mul-from : tie.Need-mul-from
+mul-from c = search needs
 
-add-p : tie.Need-add-p
-add-p c = search needs
+add-from : tie.Need-add-from
+add-from c = search needs
 
 mul-q : tie.Need-mul-q
 mul-q c = search needs
@@ -36,8 +35,8 @@ list-values-spec =
     tie.close
     (tie.spec
     add-vertices
-    mul-p
-    add-p
+    mul-from
+    add-from
     mul-q
     slice-aggregate-read-rows
     read-rows-requires

@@ -1,7 +1,7 @@
 use borrow.Author.Needs.{needs}
 use native.Mathlib.Omega.{arith}
-use Rattle.record_read.proofs.Reading.{entries-few}
 use mathlib.Core.Path.{refl}
+use Rattle.record_read.proofs.Reading.{entries-few, values-fit, values-within}
 use Rattle.record_read.proofs.Reading.{lists-fit, lists-filled}
 use Rattle.record_read.proofs.body.read_body.Statement.{statement}
 use Rattle.record_read.proofs.body.read_body.Tie as tie
@@ -16,10 +16,12 @@ add-n : tie.Need-add-n
 add-n c = search needs
 
 mul-n-3 : tie.Need-mul-n-3
-mul-n-3 c = omega (arith, entries-few (c .before .before .before .before .before .before .before .before .before .pre .all))
+mul-n-3 c =
+    let entry = c .before .before .before .before .before .before .before .before .before in
+    omega (arith, entries-few (entry .pre .all))
 
 add-n-2 : tie.Need-add-n-2
-add-n-2 c = let w = c .before .before .before .before .before .before .before .before .before .pre .all in omega (arith, entries-few w, w .few1, w .few2)
+add-n-2 c = search (needs, values-fit)
 
 slice-aggregate-list-values : tie.Need-slice-aggregate-list-values
 slice-aggregate-list-values c = search needs
@@ -34,10 +36,17 @@ part-fill-lists-start : tie.Need-part-fill-lists-start
 part-fill-lists-start c = search needs
 
 part-fill-lists-end : tie.Need-part-fill-lists-end
-part-fill-lists-end c = let w = c .before .before .before .before .before .before .before .before .before .before .before .before .before .pre .all in omega (arith, entries-few w, w .few1, w .few2)
+part-fill-lists-end c =
+    let lent = c .before .before .before .before .before .before in
+    let entry = lent .before .before .before .before .before .before .before in
+    omega (arith, values-within (entry .pre .all))
 
 fill-lists-requires : tie.Need-fill-lists-requires
-fill-lists-requires c κs = lists-fit (c .before .before .before .before .before .before .before .before .before .before .before .before .before .before .before .before .before .before .pre) _ _ _ refl (c .before .before .before .before .before .before .before .list-values .ensures)
+fill-lists-requires c κs =
+    let listed = c .before .before .before .before .before .before .before in
+    let lent = listed .before .before .before .before .before in
+    let entry = lent .before .before .before .before .before .before in
+    lists-fit (entry .pre) _ _ _ refl (listed .list-values .ensures)
 
 same-length : tie.Need-same-length
 same-length c = search needs
@@ -52,7 +61,7 @@ same-length-4 : tie.Need-same-length-4
 same-length-4 c = search needs
 
 returns : tie.Need-returns
-returns c = lists-filled (c .before .before .before .before .before .before .before .before .before .before .before .before .before .before .before .before .before .before .before .before .before .before .before .before .before .before .before .pre) _ _ _ refl (c .before .before .before .before .before .before .before .before .before .before .before .before .before .before .before .before .list-values .ensures) (c .before .before .before .before .before .before .before .before .fill-lists .ensures)
+returns c = search (needs, lists-filled)
 
 pub read-body-spec : {M : Type 1} → statement M
 read-body-spec =

@@ -19,7 +19,11 @@ slice-aggregate-read-form-2 : tie.Need-slice-aggregate-read-form-2
 slice-aggregate-read-form-2 c = search needs
 
 read-form-requires : tie.Need-read-form-requires
-read-form-requires c κs = tables1 (c .before .before .before .before .before .before .before .before .version1 .ensures) (c .before .before .before .before .before .before .before .head1 .ensures) (c .before .before .before .before .before .before .slice1 .ensures)
+read-form-requires c κs =
+    let sliced = c .before .before .before .before .before .before in
+    let headed = sliced .before in
+    let versioned = headed .before in
+    tables1 (versioned .version1 .ensures) (headed .head1 .ensures) (sliced .slice1 .ensures)
 
 same-length : tie.Need-same-length
 same-length c = search needs
@@ -34,7 +38,12 @@ same-length-4 : tie.Need-same-length-4
 same-length-4 c = search needs
 
 returns : tie.Need-returns
-returns c = read1 (c .before .before .before .before .before .before .before .before .before .before .before .before .before .before .before .before .before .version1 .ensures) (c .before .before .before .before .before .before .before .before .before .before .before .before .before .before .before .before .head1 .ensures) (c .before .before .before .before .before .before .before .before .before .before .before .before .before .before .before .slice1 .ensures) (c .before .before .before .before .before .before .before .before .read-form .ensures)
+returns c =
+    let form = c .before .before .before .before .before .before .before .before in
+    let sliced = form .before .before .before .before .before .before .before in
+    let headed = sliced .before in
+    let versioned = headed .before in
+    read1 (versioned .version1 .ensures) (headed .head1 .ensures) (sliced .slice1 .ensures) (form .read-form .ensures)
 
 pub read-spec : {M : Type 1} → statement M
 read-spec =

@@ -10,10 +10,19 @@ seen-refused-requires : tie.Need-seen-refused-requires
 seen-refused-requires c κs = search needs
 
 returns : tie.Need-returns
-returns c = read-refused _ (frame-fault (c .before .before .before .before .before .before .before .before .before .before .pre) _ (c .before .before .frame-refusal .ensures) _ _ _ _ (c .before .if1 .taken)) (c .before .if1 .taken) (c .seen-refused .ensures)
+returns c =
+    let refused = c in
+    let test = refused .before in
+    let framed = test .before in
+    let entry = framed .before .before .before .before .before .before .before .before in
+    read-refused _ (frame-fault (entry .pre) _ (framed .frame-refusal .ensures) _ (test .if1 .taken)) (test .if1 .taken) (refused .seen-refused .ensures)
 
-head-in-requires : tie.Need-head-in-requires
-head-in-requires c κs = head-there (c .before .before .before .before .before .before .before .before .before .pre) _ (c .before .frame-refusal .ensures) (c .if1 .left)
+plan-in-requires : tie.Need-plan-in-requires
+plan-in-requires c κs =
+    let test = c in
+    let framed = test .before in
+    let entry = framed .before .before .before .before .before .before .before .before in
+    head-there (entry .pre) _ (framed .frame-refusal .ensures) (test .if1 .left)
 
 count-refusal-requires : tie.Need-count-refusal-requires
 count-refusal-requires c κs = search needs
@@ -25,10 +34,27 @@ seen-refused-requires-2 : tie.Need-seen-refused-requires-2
 seen-refused-requires-2 c κs = search needs
 
 returns-2 : tie.Need-returns-2
-returns-2 c = read-refused _ (whole-fault (c .before .before .before .before .before .before .before .before .before .before .before .before .before .before .pre) _ (c .before .before .before .before .before .before .frame-refusal .ensures) (c .before .before .before .before .before .if1 .left) (c .before .before .before .before .head-in .ensures) (c .before .before .before .count-refusal .ensures) _ _ _ _ (c .before .before .room-refusal .ensures)) (c .before .if2 .taken) (c .seen-refused2 .ensures)
+returns-2 c =
+    let refused = c in
+    let second = refused .before in
+    let room = second .before in
+    let counted = room .before in
+    let read = counted .before in
+    let test = read .before in
+    let framed = test .before in
+    let entry = framed .before .before .before .before .before .before .before .before in
+    read-refused _ (whole-fault (entry .pre) _ (framed .frame-refusal .ensures) (test .if1 .left) (read .plan-in .ensures) (counted .count-refusal .ensures) _ (room .room-refusal .ensures)) (second .if2 .taken) (refused .seen-refused2 .ensures)
 
 read-body-requires : tie.Need-read-body-requires
-read-body-requires c κs = body-fit (c .before .before .before .before .before .before .before .before .before .before .before .before .before .before .before .before .before .pre) _ (c .before .before .before .before .before .before .before .before .before .frame-refusal .ensures) (c .before .before .before .before .before .before .before .before .if1 .left) (c .before .before .before .before .before .before .before .head-in .ensures) (c .before .before .before .before .before .before .count-refusal .ensures) _ _ _ _ (c .before .before .before .before .before .room-refusal .ensures) (c .before .before .before .before .if2 .left)
+read-body-requires c κs =
+    let second = c .before .before .before .before in
+    let room = second .before in
+    let counted = room .before in
+    let read = counted .before in
+    let test = read .before in
+    let framed = test .before in
+    let entry = framed .before .before .before .before .before .before .before .before in
+    body-fit (entry .pre) _ (framed .frame-refusal .ensures) (test .if1 .left) (read .plan-in .ensures) (counted .count-refusal .ensures) _ (room .room-refusal .ensures) (second .if2 .left)
 
 seen-given-requires : tie.Need-seen-given-requires
 seen-given-requires c κs = search needs
@@ -46,7 +72,17 @@ same-length-4 : tie.Need-same-length-4
 same-length-4 c = search needs
 
 returns-3 : tie.Need-returns-3
-returns-3 c = let ok = c .before .before .before .before .before .before .before .before .before .before .before .before .before .before .before .before .before .before .before .before .before .before .before .before .before .before .before .pre in let e = c .before .before .before .before .before .before .before .before .before .before .before .before .before .before .before .before .before .before .before .frame-refusal .ensures in let z = c .before .before .before .before .before .before .before .before .before .before .before .before .before .before .before .before .before .before .if1 .left in let h = c .before .before .before .before .before .before .before .before .before .before .before .before .before .before .before .before .before .head-in .ensures in let k = c .before .before .before .before .before .before .before .before .before .before .before .before .before .before .before .before .count-refusal .ensures in let l = c .before .before .before .before .before .before .before .before .before .before .before .before .before .before .before .room-refusal .ensures in let y = c .before .before .before .before .before .before .before .before .before .before .before .before .before .before .if2 .left in read-filled _ _ _ _ _ ok (body-fit ok _ e z h k _ _ _ _ l y) (c .before .before .before .before .before .before .before .before .before .read-body .ensures) (same-head ok _ e z h k _ _ _ _ l) (whole-fault ok _ e z h k _ _ _ _ l) y (c .seen-given .ensures)
+returns-3 c =
+    let given = c in
+    let filled = given .before .before .before .before .before .before .before .before .before in
+    let second = filled .before .before .before .before .before in
+    let room = second .before in
+    let counted = room .before in
+    let read = counted .before in
+    let test = read .before in
+    let framed = test .before in
+    let entry = framed .before .before .before .before .before .before .before .before in
+    read-filled _ _ (entry .pre) (body-fit (entry .pre) _ (framed .frame-refusal .ensures) (test .if1 .left) (read .plan-in .ensures) (counted .count-refusal .ensures) _ (room .room-refusal .ensures) (second .if2 .left)) (filled .read-body .ensures) (same-head (entry .pre) _ (framed .frame-refusal .ensures) (test .if1 .left) (read .plan-in .ensures) (counted .count-refusal .ensures) _ (room .room-refusal .ensures)) (whole-fault (entry .pre) _ (framed .frame-refusal .ensures) (test .if1 .left) (read .plan-in .ensures) (counted .count-refusal .ensures) _ (room .room-refusal .ensures)) (second .if2 .left) (given .seen-given .ensures)
 
 pub read-form-spec : {M : Type 1} → statement M
 read-form-spec =
@@ -55,7 +91,7 @@ read-form-spec =
     frame-refusal-requires
     seen-refused-requires
     returns
-    head-in-requires
+    plan-in-requires
     count-refusal-requires
     room-refusal-requires
     seen-refused-requires-2

@@ -23,7 +23,11 @@ replay-refused-requires : tie.Need-replay-refused-requires
 replay-refused-requires c κs = search needs
 
 returns : tie.Need-returns
-returns c = replay-refused _ _ _ _ (seen-form _ _ _ _ _ _ _ _ _ _ (c .before .before .before .before .before .before .before .read .ensures) refl refl refl refl) (c .before .if1 .taken) (c .replay-refused .ensures)
+returns c =
+    let refused = c in
+    let test = refused .before in
+    let seen = test .before .before .before .before .before .before in
+    replay-refused _ _ _ _ (seen-form _ _ _ _ (seen .read .ensures) refl) (test .if1 .taken) (refused .replay-refused .ensures)
 
 slice-aggregate-stitch-held : tie.Need-slice-aggregate-stitch-held
 slice-aggregate-stitch-held c = search needs
@@ -38,7 +42,11 @@ slice-aggregate-stitch-held-4 : tie.Need-slice-aggregate-stitch-held-4
 slice-aggregate-stitch-held-4 c = search needs
 
 stitch-held-requires : tie.Need-stitch-held-requires
-stitch-held-requires c κs = held-fits _ _ _ _ _ _ _ _ _ _ (c .before .before .before .before .before .before .before .before .before .before .before .before .before .before .before .before .read .ensures) refl refl refl refl (c .before .before .before .before .before .before .before .before .before .before .if1 .left)
+stitch-held-requires c κs =
+    let lent = c .before .before .before .before .before in
+    let test = lent .before .before .before .before .before in
+    let seen = test .before .before .before .before .before .before in
+    held-fits _ _ _ _ (seen .read .ensures) refl (test .if1 .left)
 
 replay-of-requires : tie.Need-replay-of-requires
 replay-of-requires c κs = search needs
@@ -59,7 +67,14 @@ same-length-5 : tie.Need-same-length-5
 same-length-5 c = search needs
 
 returns-2 : tie.Need-returns-2
-returns-2 c = replay-stitched _ _ _ _ _ _ _ _ _ _ (c .before .before .before .before .before .before .before .before .before .before .before .before .before .before .before .before .before .before .before .before .before .before .before .before .before .before .before .before .read .ensures) refl refl refl refl (c .before .before .before .before .before .before .before .before .before .before .before .before .before .before .before .before .before .before .before .before .before .before .if1 .left) _ _ _ _ (c .before .before .before .before .before .before .before .before .before .before .before .stitch-held .ensures) (c .replay-of .ensures)
+returns-2 c =
+    let told = c in
+    let lent = told .before .before .before .before .before in
+    let stitched = lent .before .before .before .before .before .before in
+    let lent2 = stitched .before .before .before .before .before in
+    let test = lent2 .before .before .before .before .before .before in
+    let seen = test .before .before .before .before .before .before in
+    replay-stitched _ _ _ _ (seen .read .ensures) refl (test .if1 .left) _ _ _ _ (stitched .stitch-held .ensures) (told .replay-of .ensures)
 
 pub replay-spec : {M : Type 1} → statement M
 replay-spec =

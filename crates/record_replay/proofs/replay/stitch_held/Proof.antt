@@ -1,6 +1,6 @@
 use borrow.Author.Needs.{needs}
 use native.Mathlib.Omega.{arith}
-use Rattle.record_replay.specs.ReplayLaws.{fronts}
+use Rattle.record_replay.specs.ReplayLaws.{fronts-of}
 use Rattle.record_replay.proofs.replay.stitch_held.Statement.{statement}
 use Rattle.record_replay.proofs.replay.stitch_held.Tie as tie
 
@@ -14,46 +14,49 @@ mul-n3 : tie.Need-mul-n3
 mul-n3 c = search needs
 
 mul-n4 : tie.Need-mul-n4
-mul-n4 c = omega (arith, c .before .before .before .before .before .before .before .before .before .before .before .before .before .pre .numbers, c .before .before .before .before .before .before .before .before .before .before .before .before .before .good)
+mul-n4 c =
+    let lent = c .before .before .before .before .before .before in
+    let entry = lent .before .before .before .before .before .before .before in
+    omega (arith, entry .pre .shapes, entry .good)
 
-sub-entry : tie.Need-sub-entry
-sub-entry c = search needs
+sub-stitched : tie.Need-sub-stitched
+sub-stitched c = search needs
 
-part-entry-start : tie.Need-part-entry-start
-part-entry-start c = search needs
+part-stitched-start : tie.Need-part-stitched-start
+part-stitched-start c = search needs
 
-part-entry-end : tie.Need-part-entry-end
-part-entry-end c = search needs
+part-stitched-end : tie.Need-part-stitched-end
+part-stitched-end c = search needs
 
-sub-entry-2 : tie.Need-sub-entry-2
-sub-entry-2 c = search needs
+sub-stitched-2 : tie.Need-sub-stitched-2
+sub-stitched-2 c = search needs
 
-part-entry-start-2 : tie.Need-part-entry-start-2
-part-entry-start-2 c = search needs
+part-stitched-start-2 : tie.Need-part-stitched-start-2
+part-stitched-start-2 c = search needs
 
-part-entry-end-2 : tie.Need-part-entry-end-2
-part-entry-end-2 c = search needs
+part-stitched-end-2 : tie.Need-part-stitched-end-2
+part-stitched-end-2 c = search needs
 
-sub-entry-3 : tie.Need-sub-entry-3
-sub-entry-3 c = search needs
+sub-stitched-3 : tie.Need-sub-stitched-3
+sub-stitched-3 c = search needs
 
-part-entry-start-3 : tie.Need-part-entry-start-3
-part-entry-start-3 c = search needs
+part-stitched-start-3 : tie.Need-part-stitched-start-3
+part-stitched-start-3 c = search needs
 
-part-entry-end-3 : tie.Need-part-entry-end-3
-part-entry-end-3 c = search needs
+part-stitched-end-3 : tie.Need-part-stitched-end-3
+part-stitched-end-3 c = search needs
 
-sub-entry-4 : tie.Need-sub-entry-4
-sub-entry-4 c = search needs
+sub-stitched-4 : tie.Need-sub-stitched-4
+sub-stitched-4 c = search needs
 
-part-entry-start-4 : tie.Need-part-entry-start-4
-part-entry-start-4 c = search needs
+part-stitched-start-4 : tie.Need-part-stitched-start-4
+part-stitched-start-4 c = search needs
 
-part-entry-end-4 : tie.Need-part-entry-end-4
-part-entry-end-4 c = search needs
+part-stitched-end-4 : tie.Need-part-stitched-end-4
+part-stitched-end-4 c = search needs
 
-entry-requires : tie.Need-entry-requires
-entry-requires c κs = search needs
+stitched-requires : tie.Need-stitched-requires
+stitched-requires c κs = search needs
 
 same-length : tie.Need-same-length
 same-length c = search needs
@@ -71,7 +74,7 @@ same-length-5 : tie.Need-same-length-5
 same-length-5 c = search needs
 
 returns : tie.Need-returns
-returns c = search (fronts)
+returns c = search (fronts-of)
 
 pub stitch-held-spec : {M : Type 1} → statement M
 stitch-held-spec =
@@ -81,19 +84,19 @@ stitch-held-spec =
     mul-n2
     mul-n3
     mul-n4
-    sub-entry
-    part-entry-start
-    part-entry-end
-    sub-entry-2
-    part-entry-start-2
-    part-entry-end-2
-    sub-entry-3
-    part-entry-start-3
-    part-entry-end-3
-    sub-entry-4
-    part-entry-start-4
-    part-entry-end-4
-    entry-requires
+    sub-stitched
+    part-stitched-start
+    part-stitched-end
+    sub-stitched-2
+    part-stitched-start-2
+    part-stitched-end-2
+    sub-stitched-3
+    part-stitched-start-3
+    part-stitched-end-3
+    sub-stitched-4
+    part-stitched-start-4
+    part-stitched-end-4
+    stitched-requires
     same-length
     same-length-2
     same-length-3

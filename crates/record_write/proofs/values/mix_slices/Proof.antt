@@ -37,7 +37,12 @@ loop-less : tie.Need-loop-less Inv-loop μ-loop
 loop-less c = search needs
 
 loop-again : tie.Need-loop-again Inv-loop μ-loop
-loop-again c = mixing-more (c .before .before .before .before .before .before .before .before .before .loop .inv) (c .before .before .before .before .before .before .before .before .loop-test .taken) (c .before .before .before .before .before .before .copy .ensures) (c .before .before .copy-bits .ensures)
+loop-again c =
+    let numbers = c .before .before in
+    let codes = numbers .before .before .before .before in
+    let test = codes .before .before in
+    let turn = test .before in
+    mixing-more (turn .loop .inv) (test .loop-test .taken) (codes .copy .ensures) (numbers .copy-bits .ensures)
 
 same-length : tie.Need-same-length Inv-loop μ-loop
 same-length c = search needs

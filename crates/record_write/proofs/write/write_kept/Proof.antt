@@ -1,17 +1,8 @@
 use borrow.Author.Needs.{needs}
 use mathlib.Core.Path.{refl}
-use Rattle.record_write.proofs.Keeping.{pack-fits, kept-written}
+use Rattle.record_write.proofs.Keeping.{kept-packs, kept-written}
 use Rattle.record_write.proofs.write.write_kept.Statement.{statement}
 use Rattle.record_write.proofs.write.write_kept.Tie as tie
-
-version1-requires : tie.Need-version1-requires
-version1-requires c κs = search needs
-
-head1-requires : tie.Need-head1-requires
-head1-requires c κs = search needs
-
-slice1-requires : tie.Need-slice1-requires
-slice1-requires c κs = search needs
 
 mul-n : tie.Need-mul-n
 mul-n c = search needs
@@ -28,67 +19,49 @@ mul-n-3 c = search needs
 add-n-2 : tie.Need-add-n-2
 add-n-2 c = search needs
 
-head-values-requires : tie.Need-head-values-requires
-head-values-requires c κs = search needs
-
 slice-aggregate-list-values : tie.Need-slice-aggregate-list-values
 slice-aggregate-list-values c = search needs
 
 list-values-requires : tie.Need-list-values-requires
 list-values-requires c κs = search needs
 
-slice-aggregate-pack-form : tie.Need-slice-aggregate-pack-form
-slice-aggregate-pack-form c = search needs
+sub-pack-kept : tie.Need-sub-pack-kept
+sub-pack-kept c = search needs
 
-slice-aggregate-pack-form-2 : tie.Need-slice-aggregate-pack-form-2
-slice-aggregate-pack-form-2 c = search needs
+part-pack-kept-start : tie.Need-part-pack-kept-start
+part-pack-kept-start c = search needs
 
-slice-aggregate-pack-form-3 : tie.Need-slice-aggregate-pack-form-3
-slice-aggregate-pack-form-3 c = search needs
+part-pack-kept-end : tie.Need-part-pack-kept-end
+part-pack-kept-end c = search needs
 
-sub-pack-form : tie.Need-sub-pack-form
-sub-pack-form c = search needs
-
-part-pack-form-start : tie.Need-part-pack-form-start
-part-pack-form-start c = search needs
-
-part-pack-form-end : tie.Need-part-pack-form-end
-part-pack-form-end c = search needs
-
-add-pack-form : tie.Need-add-pack-form
-add-pack-form c = search needs
-
-pack-form-requires : tie.Need-pack-form-requires
-pack-form-requires c κs = pack-fits _ (c .before .before .before .before .before .before .before .before .before .before .before .before .before .before .before .before .before .before .pre) _ _ refl (c .before .before .before .before .before .before .before .list-values .ensures) (c .before .before .before .before .before .before .before .before .before .before .before .before .version1 .ensures) (c .before .before .before .before .before .before .before .before .before .before .before .head1 .ensures) (c .before .before .before .before .before .before .before .before .before .before .slice1 .ensures) (c .before .before .before .before .before .before .before .before .before .head-values .ensures)
+pack-kept-requires : tie.Need-pack-kept-requires
+pack-kept-requires c κs = search needs
 
 same-length : tie.Need-same-length
 same-length c = search needs
 
 returns : tie.Need-returns
-returns c = kept-written _ (c .before .before .before .before .before .before .before .before .before .before .before .before .before .before .before .before .before .before .before .before .before .pre) _ _ refl (c .before .before .before .before .before .before .before .before .before .before .list-values .ensures) _ (c .before .before .before .before .before .before .before .before .before .before .before .before .before .before .head1 .ensures) (c .before .before .before .before .before .before .before .before .before .before .before .before .before .slice1 .ensures) (c .before .before .before .before .before .before .before .before .before .before .before .before .head-values .ensures) (c .before .before .pack-form .ensures)
+returns c =
+    let packed = c .before .before in
+    let listed = packed .before .before .before .before .before in
+    let lent = listed .before .before .before .before .before in
+    let entry = lent .before .before .before .before .before in
+    kept-written _ (entry .pre) _ _ refl (listed .list-values .ensures) _ _ (packed .pack-kept .ensures)
 
 pub write-kept-spec : {M : Type 1} → statement M
 write-kept-spec =
     tie.close
     (tie.spec
-    version1-requires
-    head1-requires
-    slice1-requires
     mul-n
     mul-n-2
     add-n
     mul-n-3
     add-n-2
-    head-values-requires
     slice-aggregate-list-values
     list-values-requires
-    slice-aggregate-pack-form
-    slice-aggregate-pack-form-2
-    slice-aggregate-pack-form-3
-    sub-pack-form
-    part-pack-form-start
-    part-pack-form-end
-    add-pack-form
-    pack-form-requires
+    sub-pack-kept
+    part-pack-kept-start
+    part-pack-kept-end
+    pack-kept-requires
     same-length
     returns)

@@ -7,10 +7,10 @@ use mir.Facts.{toZ-ofZ}
 use borrow.Author.Needs.{needs}
 use denote.Ref.{now}
 use Rattle.whole.specs.FitLaws.{got}
-use Rattle.straight.specs.Plane.{one}
+use Rattle.basis.specs.Choice.{codeOf}
 use Rattle.straight.specs.PartLaws.{Part, part-none, part-end}
 use Rattle.straight.specs.Ready.{Probed}
-use Rattle.straight.specs.SumLaws.{winds, one-most, probed-as, seen-on, seen-back, wind-more, wound}
+use Rattle.straight.specs.SumLaws.{winds, code-most, probed-as, seen-on, seen-back, wind-more, wound}
 use Rattle.straight.proofs.sum.winding_of.Statement.{statement}
 use Rattle.straight.proofs.sum.winding_of.Tie as tie
 
@@ -33,25 +33,25 @@ after-requires c κs = c .loop-test .taken
 rises-at-requires : tie.Need-rises-at-requires Inv-loop μ-loop
 rises-at-requires c κs = seen-on (probed (c .before .before .before)) (c .before .loop-test .taken) (c .after .ensures)
 
-one-of-requires : tie.Need-one-of-requires Inv-loop μ-loop
-one-of-requires c κs = search needs
+code-of-requires : tie.Need-code-of-requires Inv-loop μ-loop
+code-of-requires c κs = search needs
 
 add-up : tie.Need-add-up Inv-loop μ-loop
 add-up c =
     let k = c .before .before .before .before in
-    record { fits = omega (arith, k .loop .inv .1 .up-most, k .before .pre .outline .most, c .one-of .ensures, one-most (c .before .rises-at .result)) }
+    record { fits = omega (arith, k .loop .inv .1 .up-most, k .before .pre .outline .most, c .code-of .ensures, code-most (c .before .rises-at .result)) }
 
 rises-at-requires-2 : tie.Need-rises-at-requires-2 Inv-loop μ-loop
 rises-at-requires-2 c κs =
     seen-back (probed (c .before .before .before .before .before)) (c .before .before .before .loop-test .taken) (c .before .before .after .ensures)
 
-one-of-requires-2 : tie.Need-one-of-requires-2 Inv-loop μ-loop
-one-of-requires-2 c κs = search needs
+code-of-requires-2 : tie.Need-code-of-requires-2 Inv-loop μ-loop
+code-of-requires-2 c κs = search needs
 
 add-down : tie.Need-add-down Inv-loop μ-loop
 add-down c =
     let k = c .before .before .before .before .before .before in
-    record { fits = omega (arith, k .loop .inv .1 .down-most, k .before .pre .outline .most, c .one-of2 .ensures, one-most (c .before .rises-at2 .result)) }
+    record { fits = omega (arith, k .loop .inv .1 .down-most, k .before .pre .outline .most, c .code-of2 .ensures, code-most (c .before .rises-at2 .result)) }
 
 add-i : tie.Need-add-i Inv-loop μ-loop
 add-i c = omega arith
@@ -65,8 +65,8 @@ loop-again c =
     let j = c .before .before .before .before .after in (
       omega arith,
       wind-more (probed (c .before .before .before .before .before .before .before)) (c .before .before .before .before .before .loop-test .taken) (j .ensures) (k .inv .1)
-          (c .before .before .one-of .ensures ∙ ap one (c .before .before .before .rises-at .ensures))
-          (c .one-of2 .ensures ∙ ap one (c .before .rises-at2 .ensures)),
+          (c .before .before .code-of .ensures ∙ ap codeOf (c .before .before .before .rises-at .ensures))
+          (c .code-of2 .ensures ∙ ap codeOf (c .before .rises-at2 .ensures)),
     )
 
 balance-requires : tie.Need-balance-requires Inv-loop μ-loop
@@ -90,10 +90,10 @@ winding-of-spec =
     loop-holds
     after-requires
     rises-at-requires
-    one-of-requires
+    code-of-requires
     add-up
     rises-at-requires-2
-    one-of-requires-2
+    code-of-requires-2
     add-down
     add-i
     loop-less

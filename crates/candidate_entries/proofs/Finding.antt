@@ -1,0 +1,111 @@
+-- What the entry `mask_candidates` is proved by: the parts of its table, the two ways out, the cuts in lists of their own.
+use Prim.Native.Nat.{ℕ, zero, suc, _*_, _≤_}
+use mathlib.Core.Bool.{Bool, false}
+use mathlib.Core.Path.{_≡_, refl, sym, ap, subst, _∙_}
+use mathlib.Core.List.{List, _++_}
+use native.Mathlib.Omega.{arith}
+use lib.ListN.{length, take, length-take}
+use lib.Ieee.{Float}
+use Rattle.basis.specs.Sizes.{mostCandidates}
+use Rattle.basis.specs.Number.{+0}
+use Rattle.basis.specs.RoomLaws.{room-front}
+use Rattle.basis.specs.Refuse.{firstFrom, orElse}
+use Rattle.basis.specs.RefuseLaws.{clear-from, stop-rows, go-rows, then-rows, answer-no, answer-yes}
+use Rattle.basis.specs.declared.answer.CountAnswer.{CountAnswer}
+use Rattle.basis.specs.Answers.{countRefused, counted}
+use Rattle.cut.specs.declared.arrival.Case.{Case}
+use Rattle.cut.specs.Cuts.{Given, given, cutCount}
+use Rattle.cut.specs.Order as order
+use Rattle.cut.specs.Order.{cutNumbers, cutPoints}
+use Rattle.cut_order.specs.CutsLaws.{numbers-length, points-length, written-lengths}
+use Rattle.cut_order.specs.Write.{WriteRoom}
+use Rattle.candidate.specs.Candidates as slices
+use Rattle.candidate.specs.Ready.{Rooms, Ready, Written}
+use Rattle.cut_entries.specs.CutRows.{listRows, valueRows, indexRows}
+use Rattle.candidate_entries.specs.declared.slicing.Lengths.{Lengths}
+use Rattle.candidate_entries.specs.Candidates.{alongCuts, laterRows, candidatesRefusal, candNumber, Sliced, Accepted, frontsOf, InFront, FoundRoom, Few}
+use Rattle.candidate_entries.specs.CandidatesLaws.{splits-pass, along, along-sound, cand-accepted}
+
+-- ---- the table in parts
+
+module _ (g : Given) (splits : List Float) (lent : Lengths) (p : ℕ) (found : p ≡ firstFrom 0 (listRows g)) where
+  pub cand-stops : (p ≡ 0 → ⊥) → p ≡ candidatesRefusal g splits lent
+  unfolding candidatesRefusal
+  cand-stops h = stop-rows (listRows g) (laterRows g splits lent) p (unfold listRows in tt) found h
+
+  pub cand-goes : (r : ℕ) → p ≡ 0 → r ≡ firstFrom 0 (laterRows g splits lent) → r ≡ candidatesRefusal g splits lent
+  unfolding candidatesRefusal
+  cand-goes r z e = go-rows (listRows g) (laterRows g splits lent) p r (unfold listRows in tt) (unfold laterRows valueRows indexRows in tt) found z e
+
+pub ruleset parts = (cand-stops, cand-goes)
+
+-- ---- the two ways out
+module _ (g : Given) (splits : List Float) (l : Rooms) (number : ℕ) (is : number ≡ candNumber g splits l) where
+  pub cand-ready : number ≡ 0 → Accepted g splits l
+  cand-ready z = cand-accepted g splits l (sym is ∙ z)
+
+  pub cand-refused : (r : CountAnswer) → (number ≡ 0 → ⊥) → r ≡ countRefused number → Sliced g splits l r l
+  cand-refused r h q =
+      record {
+        answers = answer-no countRefused number _ _ r is h q;
+        at = answer-no (λ _. l .at) number _ _ (l .at) is h refl;
+        cand = answer-no (λ _. l .cand) number _ _ (l .cand) is h refl;
+        probe = answer-no (λ _. l .probe) number _ _ (l .probe) is h refl;
+      }
+
+  pub cand-given : (m : ℕ) (r : CountAnswer) (left : Rooms) → number ≡ 0 → Written (alongCuts g splits) l m left → r ≡ counted m → Sliced g splits l r left
+  cand-given m r left z w q =
+      record {
+        answers = answer-yes countRefused number _ _ r is z (q ∙ ap (λ (n : ℕ). counted n) (w .counted));
+        at = answer-yes (λ _. l .at) number _ _ (left .at) is z (w .at);
+        cand = answer-yes (λ _. l .cand) number _ _ (left .cand) is z (w .cand);
+        probe = answer-yes (λ _. l .probe) number _ _ (left .probe) is z (w .probe);
+      }
+
+pub ruleset ways = (cand-ready, cand-refused, cand-given)
+
+-- ---- the cuts in lists of their own
+module _ (g : Given) (splits : List Float) (l : Rooms) (sorted cutAt : List ℕ) (cut : List Float) where
+  -- lists for so many cuts serve a call that has no more, and lists for the most serve every call
+  pub few-lists : (most : ℕ) → Few most g splits l → length sorted ≡ most → length cutAt ≡ 3 * most → length cut ≡ 2 * most → FoundRoom g splits l sorted cutAt cut
+  few-lists most f c d e = let h = f .few in record { ok = f .ok; sortedLong = omega arith; numberRoom = omega arith; pointRoom = omega arith }
+
+  pub most-lists : Accepted g splits l → length sorted ≡ mostCandidates → length cutAt ≡ 3 * mostCandidates → length cut ≡ 2 * mostCandidates → FoundRoom g splits l sorted cutAt cut
+  most-lists ok =
+      let h = ok .along .accepted .ready .fewHits in
+      let k = ok .along .accepted .ready .fewLaps in
+      few-lists mostCandidates (record { ok = ok; few = omega arith })
+
+  pub sort-room : FoundRoom g splits l sorted cutAt cut → WriteRoom g sorted cutAt cut
+  sort-room r = record { roomy = record { accepted = r .ok .along .accepted; numberRoom = r .numberRoom; pointRoom = r .pointRoom }; long = r .sortedLong }
+
+-- the front of a list is as long as it is said to be
+pub front-length : {A : Type 0} (n : ℕ) (l : List A) → n ≤ length l → n ≡ length (take n l)
+front-length n l h = simp length-take (omega arith)
+
+-- they stand in front, so the call over the fronts is the call over the cuts in their order
+module _ (o : List Float) (ha : List ℕ) (h : List Float) (la : List ℕ) (l : List Float) (s : Case) (splits : List Float) (a a' : List ℕ) (b b' : List Float)
+    (w : order.Written (given o ha h la l s) a b a' b') (lent : Rooms) where
+  abbrev g : Given
+  g = given o ha h la l s
+
+  same : frontsOf o a' b' splits s ≡ alongCuts g splits
+  same =
+      ap (λ (x : List ℕ). slices.given o x (take (2 * cutCount g) b') splits s) (room-front 0 3 (cutCount g) (cutNumbers g) a a' (3 * cutCount g) (w .numbers) (numbers-length g))
+      ∙ ap (λ (y : List Float). slices.given o (cutNumbers g) y splits s) (room-front +0 2 (cutCount g) (cutPoints g) b b' (2 * cutCount g) (w .points) (points-length g))
+
+  pub in-front : Accepted g splits lent → 3 * cutCount g ≤ length a → 2 * cutCount g ≤ length b → InFront o a' b' splits s lent
+  in-front ok m n =
+      let c = ok .along .accepted .ready in
+      let sizes = written-lengths g a a' b b' (record { accepted = ok .along .accepted; numberRoom = m; pointRoom = n }) w in
+      record {
+        few = omega (arith, c .fewHits, c .fewLaps);
+        numbers = omega (arith, sizes .0);
+        points = omega (arith, sizes .1);
+        ready = subst (λ (x : slices.Given). Ready x lent) (sym same) (record { sound = along-sound g splits (ok .along); roomy = ok .roomy });
+      }
+
+  pub along-written : (left : Rooms) (r : ℕ) → Written (frontsOf o a' b' splits s) lent r left → Written (alongCuts g splits) lent r left
+  along-written left r q = subst (λ (x : slices.Given). Written x lent r left) same q
+
+pub ruleset fronts = (sort-room, in-front, along-written)

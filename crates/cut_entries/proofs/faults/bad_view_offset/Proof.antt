@@ -1,0 +1,20 @@
+use Rattle.basis.specs.Choice.{cases}
+use Rattle.basis.specs.RefuseLaws.{not-row}
+use Rattle.cut_entries.specs.CutRows.{viewOffsetFault}
+use borrow.Author.Needs.{needs}
+use Rattle.cut_entries.proofs.faults.bad_view_offset.Statement.{statement}
+use Rattle.cut_entries.proofs.faults.bad_view_offset.Tie as tie
+
+all-at-most-requires : tie.Need-all-at-most-requires
+all-at-most-requires c κs = search needs
+
+returns : tie.Need-returns
+unfolding viewOffsetFault
+returns c = search (needs, cases, not-row)
+
+returns-2 : tie.Need-returns-2
+unfolding viewOffsetFault
+returns-2 c = search (needs, cases)
+
+pub bad-view-offset-spec : {M : Type 1} → statement M
+bad-view-offset-spec = tie.close (tie.spec all-at-most-requires returns returns-2)

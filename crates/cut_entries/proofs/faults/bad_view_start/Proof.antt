@@ -1,0 +1,20 @@
+use Rattle.basis.specs.Choice.{cases}
+use Rattle.basis.specs.RefuseLaws.{not-row}
+use Rattle.cut_entries.specs.CutRows.{viewStartFault}
+use borrow.Author.Needs.{needs}
+use Rattle.cut_entries.proofs.faults.bad_view_start.Statement.{statement}
+use Rattle.cut_entries.proofs.faults.bad_view_start.Tie as tie
+
+all-below-requires : tie.Need-all-below-requires
+all-below-requires c κs = search needs
+
+returns : tie.Need-returns
+unfolding viewStartFault
+returns c = search (needs, cases, not-row)
+
+returns-2 : tie.Need-returns-2
+unfolding viewStartFault
+returns-2 c = search (needs, cases)
+
+pub bad-view-start-spec : {M : Type 1} → statement M
+bad-view-start-spec = tie.close (tie.spec all-below-requires returns returns-2)

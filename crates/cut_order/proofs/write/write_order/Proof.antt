@@ -1,0 +1,38 @@
+use Rattle.cut_order.proofs.Writing.{overwriting, room-known}
+use borrow.Author.Needs.{needs}
+use Rattle.cut_order.proofs.write.write_order.Statement.{statement}
+use Rattle.cut_order.proofs.write.write_order.Tie as tie
+
+order-cuts-requires : tie.Need-order-cuts-requires
+order-cuts-requires c κs = search (needs, overwriting)
+
+write-items-requires : tie.Need-write-items-requires
+write-items-requires c κs =
+    let lent = c .before .before .before in
+    let sorted = lent .before .before .before .before .before .before in
+    let begun = sorted .before .before .before .before in
+    let start = begun .before .before .before .before .before .before .before .before in
+    room-known _ _ _ _ _ _ (sorted .order-cuts .ensures) (start .pre .roomy) (search needs) (search needs)
+
+same-length : tie.Need-same-length
+same-length c = search needs
+
+same-length-2 : tie.Need-same-length-2
+same-length-2 c = search needs
+
+same-length-3 : tie.Need-same-length-3
+same-length-3 c = search needs
+
+returns : tie.Need-returns
+returns c = search (needs, overwriting)
+
+pub write-order-spec : {M : Type 1} → statement M
+write-order-spec =
+    tie.close
+    (tie.spec
+    order-cuts-requires
+    write-items-requires
+    same-length
+    same-length-2
+    same-length-3
+    returns)

@@ -1,0 +1,62 @@
+use Prim.Native.Nat.{_-_}
+use borrow.Author.Needs.{needs}
+use Rattle.view.proofs.Listing.{Listing, list-more, listing}
+use Rattle.view.proofs.list.write_vertices.Statement.{statement}
+use Rattle.view.proofs.list.write_vertices.Tie as tie
+
+abbrev Inv-loop : tie.InvT-loop
+Inv-loop outline vc v room₀ count k₀ room k = Listing outline vc v room₀ room k
+
+abbrev μ-loop : tie.MeasureT-loop
+μ-loop outline vc v room₀ count k₀ room k = count - k
+
+add-count : tie.Need-add-count Inv-loop μ-loop
+add-count c = search needs
+
+loop-holds : tie.Need-loop-holds Inv-loop μ-loop
+loop-holds c = search (needs, listing)
+
+mul-put-vertex : tie.Need-mul-put-vertex Inv-loop μ-loop
+mul-put-vertex c = search needs
+
+vertex-of-requires : tie.Need-vertex-of-requires Inv-loop μ-loop
+vertex-of-requires c κs = search needs
+
+put-vertex-requires : tie.Need-put-vertex-requires Inv-loop μ-loop
+put-vertex-requires c κs = search (needs, listing)
+
+add-k : tie.Need-add-k Inv-loop μ-loop
+add-k c = search needs
+
+loop-less : tie.Need-loop-less Inv-loop μ-loop
+loop-less c = search needs
+
+loop-again : tie.Need-loop-again Inv-loop μ-loop
+loop-again c =
+    let put = c .before .before in
+    let drawn = put .before in
+    let turn = drawn .before .before in
+    list-more _ _ _ _ _ _ _ _ (turn .before .loop .inv) (search needs) (drawn .vertex-of .ensures) (put .put-vertex .ensures)
+
+same-length : tie.Need-same-length Inv-loop μ-loop
+same-length c = search needs
+
+returns : tie.Need-returns Inv-loop μ-loop
+returns c = search (needs, listing)
+
+pub write-vertices-spec : {M : Type 1} → statement M
+write-vertices-spec =
+    tie.close
+    (tie.spec
+    Inv-loop
+    μ-loop
+    add-count
+    loop-holds
+    mul-put-vertex
+    vertex-of-requires
+    put-vertex-requires
+    add-k
+    loop-less
+    loop-again
+    same-length
+    returns)
