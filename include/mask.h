@@ -16,6 +16,10 @@
  * An outline has three numbers to a vertex: x, y, bulge. `vc` is the count of
  * vertices.
  *
+ * Positions are compared with two tolerances, `tolerance_x` for x and `tolerance_y` for y,
+ * each above 0 and at most 1. Two points agree where they differ by less than that, on
+ * each axis. Where one tolerance will do, give it twice.
+ *
  * A list that is not const is room for the answer. Its need is stated beside the
  * entry. Where the call is accepted, the items are written from its start on, then
  * 0 up to the need. What lies beyond the need is left as it was. No two lists of a
@@ -72,7 +76,7 @@ extern "C" {
 #define MASK_MOST_SLICES 1792             /* in a stitch */
 #define MASK_MOST_LOOPS 1792              /* in an area pass */
 #define MASK_MOST_NUMBER 1073741824.0     /* magnitude of a coordinate or a bulge: 2^30 */
-#define MASK_MOST_TOLERANCE 1.0           /* of positions; it is above 0 */
+#define MASK_MOST_TOLERANCE 1.0           /* of positions, on either axis; it is above 0 */
 #define MASK_MOST_WHOLE 400000000         /* magnitude of a whole coordinate */
 #define MASK_MOST_WHOLE_DOUBLED 800000000 /* the same of a point in doubled coordinates */
 #define MASK_MOST_OUTLINES 4096           /* in a report */
@@ -109,7 +113,7 @@ enum mask_refusal {
     MASK_REFUSED_LENGTH = 1,    /* a list's length disagrees with its count, or that is too high */
     MASK_REFUSED_OUTLINE = 2,   /* fewer than 2 or more than 1024 vertices */
     MASK_REFUSED_CODE = 3,      /* an unknown mode, selector, source (1, 2) or yes/no code (0, 1) */
-    MASK_REFUSED_TOLERANCE = 4, /* not finite, or out of range (area limit: below 0) */
+    MASK_REFUSED_TOLERANCE = 4, /* either is not finite or out of range (area limit: below 0) */
     MASK_REFUSED_NUMBER = 5,    /* not finite, or beyond 2^30 (areas: not finite) */
     MASK_REFUSED_RANGE = 18,    /* a whole coordinate is out of range */
     MASK_REFUSED_LOOPS = 19,    /* more than 4096 outlines in a report */
@@ -234,8 +238,8 @@ mask_count_answer mask_view_vertices(const double *outline, size_t outline_len, 
  */
 mask_view_answer mask_create(const double *outline, size_t outline_len, size_t vc,
                              size_t start_index, mask_point end_intersect, size_t intersect_index,
-                             mask_vertex updated_start, size_t traverse_count, double tolerance,
-                             mask_split split);
+                             mask_vertex updated_start, size_t traverse_count,
+                             double tolerance_x, double tolerance_y, mask_split split);
 
 /*
  * The view that starts and ends on one segment. There is none where its two ends
@@ -244,7 +248,8 @@ mask_view_answer mask_create(const double *outline, size_t outline_len, size_t v
 mask_view_answer mask_create_on_single_segment(const double *outline, size_t outline_len,
                                                size_t vc, size_t start_index,
                                                mask_vertex updated_start,
-                                               mask_point end_intersect, double tolerance);
+                                               mask_point end_intersect, double tolerance_x,
+                                               double tolerance_y);
 
 /*
  * The view of the whole outline. `closed` is 1 for a closed outline, 0 for an
@@ -290,8 +295,9 @@ mask_count_answer mask_cut_order(const double *outline, size_t outline_len, size
                                  uint32_t source, const size_t *hit_at, size_t hit_at_len,
                                  const double *hit, size_t hit_len, size_t hits,
                                  const size_t *lap_at, size_t lap_at_len, const double *lap,
-                                 size_t lap_len, size_t laps, double tolerance, size_t *cut_at,
-                                 size_t cut_at_len, double *cut, size_t cut_len);
+                                 size_t lap_len, size_t laps, double tolerance_x,
+                                 double tolerance_y, size_t *cut_at, size_t cut_at_len,
+                                 double *cut, size_t cut_len);
 
 /*
  * The candidates of one outline: the pieces between neighbouring cuts, and the walks
@@ -311,9 +317,9 @@ mask_count_answer mask_candidates(const double *outline, size_t outline_len, siz
                                   const double *hit, size_t hit_len, size_t hits,
                                   const size_t *lap_at, size_t lap_at_len, const double *lap,
                                   size_t lap_len, size_t laps, const double *splits,
-                                  size_t splits_len, double tolerance, size_t *cand_at,
-                                  size_t cand_at_len, double *cand, size_t cand_len,
-                                  double *probe, size_t probe_len);
+                                  size_t splits_len, double tolerance_x, double tolerance_y,
+                                  size_t *cand_at, size_t cand_at_len, double *cand,
+                                  size_t cand_len, double *probe, size_t probe_len);
 
 /*
  * Slices are parts of the two outlines, which the stitch joins end to start:
@@ -375,10 +381,10 @@ mask_stitch_answer mask_stitch(const double *outline1, size_t outline1_len, size
                                const size_t *slice_at, size_t slice_at_len, const double *slice,
                                size_t slice_len, size_t slices, size_t pline2,
                                size_t pline1_overlapping, size_t pline2_overlapping,
-                               uint32_t selector, double tolerance, double *room, size_t room_len,
-                               size_t *ends, size_t ends_len, size_t *chain, size_t chain_len,
-                               size_t *chain_ends, size_t chain_ends_len, size_t *chain_how,
-                               size_t chain_how_len);
+                               uint32_t selector, double tolerance_x, double tolerance_y,
+                               double *room, size_t room_len, size_t *ends, size_t ends_len,
+                               size_t *chain, size_t chain_len, size_t *chain_ends,
+                               size_t chain_ends_len, size_t *chain_how, size_t chain_how_len);
 
 /*
  * The loops whose area, whatever its sign, is not less than `limit`, by number, in

@@ -72,6 +72,7 @@ pub fn cut_order(pair: &Pair, outline: usize, room: &mut CutRoom) {
         &pair.lap,
         pair.laps(),
         pair.tolerance,
+        pair.tolerance,
         &mut room.cut_at,
         &mut room.cut,
     );
@@ -91,6 +92,7 @@ pub fn candidates(pair: &Pair, outline: usize, room: &mut CutRoom) {
         &pair.lap,
         pair.laps(),
         &room.splits,
+        pair.tolerance,
         pair.tolerance,
         &mut room.cand_at,
         &mut room.cand,
@@ -205,6 +207,7 @@ pub fn stitch(
         overlaps1,
         overlaps2,
         selector,
+        tolerance,
         tolerance,
         &mut room.vertices,
         &mut room.ends,

@@ -150,27 +150,27 @@ typedef struct walk {
     size_t intersect_index;
     mask_vertex updated_start;
     size_t traverse_count;
-    double tolerance;
+    axes tolerance;
     mask_split split;
 } walk;
 
 static mask_view_answer create(outline o, walk w)
 {
     return mask_create(o.list, o.len, o.vc, w.start_index, w.end_intersect, w.intersect_index,
-                       w.updated_start, w.traverse_count, w.tolerance, w.split);
+                       w.updated_start, w.traverse_count, w.tolerance.x, w.tolerance.y, w.split);
 }
 
 typedef struct piece {
     size_t start_index;
     mask_vertex updated_start;
     mask_point end_intersect;
-    double tolerance;
+    axes tolerance;
 } piece;
 
 static mask_view_answer single(outline o, piece p)
 {
     return mask_create_on_single_segment(o.list, o.len, o.vc, p.start_index, p.updated_start,
-                                         p.end_intersect, p.tolerance);
+                                         p.end_intersect, p.tolerance.x, p.tolerance.y);
 }
 
 static mask_view_answer entire(outline o, uint32_t closed)
@@ -199,10 +199,10 @@ static int yes_or_no(uint32_t code) { return code == 0 || code == 1; }
 /* "Two numbers agree when abs(a - b) < tolerance, strictly." */
 static int agree(double a, double b, double t) { return fabs(a - b) < t; }
 
-/* "Two points agree when both coordinates do." */
-static int points_agree(mask_point a, mask_point b, double t)
+/* "Two points agree when both coordinates do"; each with the tolerance of its axis. */
+static int points_agree(mask_point a, mask_point b, axes t)
 {
-    return agree(a.x, b.x, t) && agree(a.y, b.y, t);
+    return agree(a.x, b.x, t.x) && agree(a.y, b.y, t.y);
 }
 
 /* "Indexes wrap by the vertex count vc." */
@@ -296,7 +296,7 @@ static mask_view_answer created(outline o, walk w)
         return no_view(1);
     if (o.vc < LEAST_VERTICES || o.vc > MOST_VERTICES)
         return no_view(2);
-    if (!right_tolerance(w.tolerance))
+    if (!right_tolerances(w.tolerance))
         return no_view(4);
     if (!small_list(o.list, o.len) || !small_point(w.end_intersect) ||
         !small_vertex(w.updated_start) || !small_vertex(w.split.updated_start) ||
@@ -324,7 +324,7 @@ static mask_view_answer singled(outline o, piece p)
         return no_view(1);
     if (o.vc < LEAST_VERTICES || o.vc > MOST_VERTICES)
         return no_view(2);
-    if (!right_tolerance(p.tolerance))
+    if (!right_tolerances(p.tolerance))
         return no_view(4);
     if (!small_list(o.list, o.len) || !small_vertex(p.updated_start) ||
         !small_point(p.end_intersect))
@@ -359,7 +359,8 @@ static mask_view_answer entirely(outline o, uint32_t closed)
 /* Near one of the segment's two vertices, or the host's yes. */
 static int on_segment(outline o, size_t i, mask_point p, uint32_t host)
 {
-    return points_agree(p, place(at(o, i)), 1e-3) || points_agree(p, place(at(o, i + 1)), 1e-3) ||
+    return points_agree(p, place(at(o, i)), both(1e-3)) ||
+           points_agree(p, place(at(o, i + 1)), both(1e-3)) ||
            host == 1;
 }
 
@@ -389,7 +390,7 @@ static mask_verdict_answer judged(outline o, mask_view v, uint32_t start_on, uin
     } else if (!on_segment(o, end, v.end_point, end_on)) {
         answer.verdict = 4;
         answer.point = v.end_point;
-    } else if (points_agree(v.end_point, place(at(o, end)), 1e-5)) {
+    } else if (points_agree(v.end_point, place(at(o, end)), both(1e-5))) {
         answer.verdict = 5;
         answer.point = v.end_point;
         answer.vertex = at(o, end);
@@ -508,7 +509,7 @@ static int all_vertices_answers(unsigned set, uint32_t refusal)
 
 static const fault create_faults[] = {
     {1, "the list is one number short"},      {2, "1 vertex"},
-    {2, "1025 vertices"},                     {4, "tolerance 0"},
+    {2, "1025 vertices"},                     {4, "tolerance 0 of x"},
     {5, "a NaN in the outline"},              {5, "an infinity in the split"},
     {6, "start equal to the vertex count"},   {6, "intersect index equal to the vertex count"},
     {7, "traverse count 0"},                  {7, "traverse count one above the vertex count"},
@@ -521,7 +522,7 @@ static walk walk_on_a(void)
                   .intersect_index = 2,
                   .updated_start = {4, 2, 0.5},
                   .traverse_count = 1,
-                  .tolerance = 1.0 / 1024,
+                  .tolerance = {T, T},
                   .split = {{4, 4, 0.25}, {2, 4, 0.125}}};
 }
 
@@ -531,7 +532,7 @@ static int create_answers(unsigned set, uint32_t refusal)
     outline o = faulty(set & 1, vc, set & 16);
     walk w = walk_on_a();
     if (set & 8)
-        w.tolerance = 0;
+        w.tolerance.x = 0;
     if (set & 32)
         w.split.split_vertex.bulge = -INFINITY;
     if (set & 64)
@@ -547,7 +548,7 @@ static int create_answers(unsigned set, uint32_t refusal)
 
 static const fault single_faults[] = {
     {1, "the list is one number short"}, {2, "1 vertex"},
-    {2, "1025 vertices"},                {4, "tolerance above 1"},
+    {2, "1025 vertices"},                {4, "tolerance of y above 1"},
     {5, "a NaN in the outline"},         {5, "an infinity in the start"},
     {6, "start equal to the vertex count"},
 };
@@ -559,13 +560,13 @@ static int single_answers(unsigned set, uint32_t refusal)
     piece p = {.start_index = 1,
                .updated_start = {4, 2, 0.5},
                .end_intersect = {4, 3},
-               .tolerance = 1.0 / 1024};
+               .tolerance = {T, T}};
     mask_view v = {.start_index = 1,
                    .updated_start = {4, 2, 0.5},
                    .updated_end_bulge = 0.5,
                    .end_point = {4, 3}};
     if (set & 8)
-        p.tolerance = nextafter(1, 2);
+        p.tolerance.y = nextafter(1, 2);
     if (set & 32)
         p.updated_start.x = INFINITY;
     if (set & 64)
@@ -654,7 +655,7 @@ static void faults_and_sets(void)
 static int all_refuse(outline o, uint32_t refusal)
 {
     mask_verdict_answer v = validate(o, view_on_a(), 1, 1);
-    piece p = {1, {4, 2, 0.5}, {4, 3}, 0.5};
+    piece p = {1, {4, 2, 0.5}, {4, 3}, {0.5, 0.5}};
     return same_vertex_answer(vertex(o, view_on_a(), 0), no_vertex(refusal)) &&
            all_as_expected(o, view_on_a(), 9) && told.refusal == refusal &&
            same_view_answer(create(o, walk_on_a()), no_view(refusal)) &&
@@ -693,7 +694,7 @@ static void lengths(void)
           "view_vertex: NULL, or any pointer, with length 0 and no vertices: 2");
     check(same_view_answer(create(empty, walk_on_a()), no_view(2)),
           "create: NULL, length 0, no vertices: 2");
-    check(same_view_answer(single(empty, (piece){0, {0, 0, 0}, {1, 1}, 1}), no_view(2)),
+    check(same_view_answer(single(empty, (piece){0, {0, 0, 0}, {1, 1}, {1, 1}}), no_view(2)),
           "create_on_single_segment: NULL, length 0, no vertices: 2");
     check(same_view_answer(entire(empty, 1), no_view(2)) &&
               same_view_answer(entire(empty, 0), no_view(2)),
@@ -727,7 +728,7 @@ static void lengths(void)
         w = walk_on_a();
         w.start_index = huge;
         ok = ok && same_view_answer(create(square_a(), w), no_view(6));
-        ok = ok && same_view_answer(single(square_a(), (piece){huge, {0, 0, 0}, {1, 1}, 1}),
+        ok = ok && same_view_answer(single(square_a(), (piece){huge, {0, 0, 0}, {1, 1}, {1, 1}}),
                                     no_view(6));
     }
     check(ok, "create, create_on_single_segment: huge indexes and counts: 6 and 7");
@@ -763,23 +764,58 @@ static void tolerances(void)
     const double refused[] = {0.0,  -0.0,      -0.5,  nextafter(1, 2), 2,   LIMIT, DBL_MAX,
                               NAN,  -NAN, INFINITY,  -INFINITY, -1};
     const double accepted[] = {5e-324, DBL_MIN, 1e-5, 0.5, nextafter(1, 0), 1};
+    enum { ACCEPTED = sizeof accepted / sizeof *accepted };
     int ok = 1;
-    for (unsigned i = 0; i < sizeof refused / sizeof *refused; i++) {
-        walk w = walk_on_a();
-        w.tolerance = refused[i];
-        ok = ok && same_view_answer(create(square_a(), w), no_view(4));
-        ok = ok && same_view_answer(single(square_a(), (piece){1, {4, 2, 0}, {4, 3}, refused[i]}),
-                                    no_view(4));
-    }
-    check(ok, "tolerances: 0, -0, negative, above 1, infinite and NaN are refused: 4");
+    for (unsigned i = 0; i < sizeof refused / sizeof *refused; i++)
+        for (int which = 0; which < 3; which++) {
+            walk w = walk_on_a();
+            piece p = {1, {4, 2, 0}, {4, 3}, spoiled(both(1), which, refused[i])};
+            w.tolerance = spoiled(w.tolerance, which, refused[i]);
+            ok = ok && same_view_answer(create(square_a(), w), no_view(4));
+            ok = ok && same_view_answer(single(square_a(), p), no_view(4));
+        }
+    check(ok, "tolerances: 0, -0, negative, above 1, infinite and NaN are refused, of x, of y and "
+              "of both: 4");
     ok = 1;
-    for (unsigned i = 0; i < sizeof accepted / sizeof *accepted; i++) {
+    for (unsigned i = 0; i < ACCEPTED * ACCEPTED; i++) {
+        axes t = {accepted[i % ACCEPTED], accepted[i / ACCEPTED]};
         walk w = walk_on_a();
-        w.tolerance = accepted[i];
+        w.tolerance = t;
         ok = ok && same_view_answer(create(square_a(), w), the_view(view_on_a()));
-        ok = ok && single(square_a(), (piece){1, {4, 0, 0}, {4, 3}, accepted[i]}).found == 1;
+        ok = ok && single(square_a(), (piece){1, {4, 0, 0}, {4, 3}, t}).found == 1;
     }
-    check(ok, "tolerances: from the least number above 0 to 1 they are accepted");
+    check(ok, "tolerances: from the least number above 0 to 1 they are accepted, in any pair");
+}
+
+/* Distances at each tolerance, one step nearer and one further, on each axis, where the two differ. */
+static void axes_apart(void)
+{
+    static const double list[] = {T, 0.5, 0.25, 1, 1.0 / 4096};
+    enum { COUNT = sizeof list / sizeof *list };
+    unsigned wrong = 0, cases = 0;
+    for (unsigned i = 0; i < COUNT * COUNT; i++) {
+        const axes t = {list[i % COUNT], list[i / COUNT]};
+        for (int k = 0; k < 9; k++) {
+            const int by_x = k % 3 - 1, by_y = k / 3 - 1; /* -1 a step nearer, 0 at it, 1 further */
+            mask_point end = {0, 4};
+            walk w = {2, {0, 0}, 3, {4, 4, 1}, 1, t, {{0, 4, 3}, {0, 4, 5}}};
+            int agrees = by_x < 0 && by_y < 0;
+            end.x += by_x < 0 ? nextafter(t.x, 0) : by_x > 0 ? nextafter(t.x, 2) : t.x;
+            end.y += t.y;
+            end.y = by_y < 0 ? nextafter(end.y, 0) : by_y > 0 ? nextafter(end.y, 9) : end.y;
+            w.end_intersect = end;
+            wrong += create(arcs(), w).view.end_index_offset != (agrees ? 0u : 1u);
+            wrong += single(arcs(), (piece){3, {0, 4, 1}, end, t}).found != (agrees ? 0u : 1u);
+            cases++;
+        }
+    }
+    check(wrong == 0, "axes: the distance on each at its own tolerance, one step nearer, one "
+                      "further: %u cases, %u wrong", cases, wrong);
+    check(single(arcs(), (piece){3, {0, 3, 1}, {0.25, 3}, {0.5, 0.125}}).found == 0 &&
+              single(arcs(), (piece){3, {0, 3, 1}, {0, 3.25}, {0.5, 0.125}}).found == 1 &&
+              single(arcs(), (piece){3, {0, 3, 1}, {0.25, 3}, {0.125, 0.5}}).found == 1 &&
+              single(arcs(), (piece){3, {0, 3, 1}, {0, 3.25}, {0.125, 0.5}}).found == 0,
+          "axes: x is compared with the first tolerance, y with the second");
 }
 
 /* Puts a number into place `i` of a view, a walk or a piece. */
@@ -865,7 +901,7 @@ static void numbers(void)
     ok = 1;
     for (unsigned i = 0; i < 5; i++)
         for (unsigned j = 0; j < REFUSED; j++) {
-            piece p = {1, {4, 2, 0.5}, {4, 3}, 0.5};
+            piece p = {1, {4, 2, 0.5}, {4, 3}, {0.5, 0.5}};
             put_piece(&p, i, refused[j]);
             ok = ok && same_view_answer(single(square_a(), p), no_view(5));
         }
@@ -895,7 +931,7 @@ static void numbers(void)
             ok = ok && same_view_answer(create(o, w), created(o, w)) && create(o, w).found == 1;
         }
         for (unsigned i = 0; i < 5; i++) {
-            piece p = {1, {4, 2, 0.5}, {4, 3}, 0.5};
+            piece p = {1, {4, 2, 0.5}, {4, 3}, {0.5, 0.5}};
             outline o = square_a();
             put_piece(&p, i, accepted[j]);
             ok = ok && same_view_answer(single(o, p), singled(o, p)) && single(o, p).found == 1;
@@ -1050,39 +1086,39 @@ static void constructors(void)
     mask_view_answer a;
     walk w;
 
-    a = create(square_a(), (walk){1, {2, 4}, 2, {4, 2, 0}, 1, T, straight_a});
+    a = create(square_a(), (walk){1, {2, 4}, 2, {4, 2, 0}, 1, {T, T}, straight_a});
     check(same_view_answer(a, the_view((mask_view){1, 1, {4, 2, 0}, 0, {2, 4}, 0})) &&
               VERTICES(square_a(), a.view, {{4, 2, 0}, {4, 4, 0}, {2, 4, 0}}),
           "create: A's first walk is start 1 offset 1 (T1)");
-    a = create(square_a(), (walk){2, {4, 2}, 1, {2, 4, 0}, 3, T, straight_a});
+    a = create(square_a(), (walk){2, {4, 2}, 1, {2, 4, 0}, 3, {T, T}, straight_a});
     check(same_view_answer(a, the_view((mask_view){2, 3, {2, 4, 0}, 0, {4, 2}, 0})),
           "create: A's second walk is start 2 offset 3 (T1)");
-    a = create(square_b(), (walk){0, {2, 4}, 3, {4, 2, 0}, 3, T, straight_b});
+    a = create(square_b(), (walk){0, {2, 4}, 3, {4, 2, 0}, 3, {T, T}, straight_b});
     check(same_view_answer(a, the_view((mask_view){0, 3, {4, 2, 0}, 0, {2, 4}, 0})) &&
               VERTICES(square_b(), a.view, {{4, 2, 0}, {6, 2, 0}, {6, 6, 0}, {2, 6, 0}, {2, 4, 0}}),
           "create: B's first walk is start 0 offset 3 (T2)");
-    a = create(square_b(), (walk){3, {4, 2}, 0, {2, 4, 0}, 1, T, straight_b});
+    a = create(square_b(), (walk){3, {4, 2}, 0, {2, 4, 0}, 1, {T, T}, straight_b});
     check(same_view_answer(a, the_view((mask_view){3, 1, {2, 4, 0}, 0, {4, 2}, 0})) &&
               VERTICES(square_b(), a.view, {{2, 4, 0}, {2, 2, 0}, {4, 2, 0}}),
           "create: B's second walk is start 3 offset 1 (T2)");
 
-    a = create(triangle(), (walk){0, {0, 0}, 0, {0, 0, 0.125}, 3, T, {{9, 9, 9}, {9, 9, 9}}});
+    a = create(triangle(), (walk){0, {0, 0}, 0, {0, 0, 0.125}, 3, {T, T}, {{9, 9, 9}, {9, 9, 9}}});
     check(same_view_answer(a, the_view((mask_view){0, 2, {0, 0, 0.125}, 0.5, {0, 0}, 0})),
           "create: a triangle cut on vertex 0 has offset 2 and the bulge of vertex 2 (T6)");
-    a = create(triangle(), (walk){0, {1, 0}, 0, {1, 0, 0.75}, 3, T, {{0, 0, -0.0}, {1, 0, 1}}});
+    a = create(triangle(), (walk){0, {1, 0}, 0, {1, 0, 0.75}, 3, {T, T}, {{0, 0, -0.0}, {1, 0, 1}}});
     check(same_view_answer(a, the_view((mask_view){0, 3, {1, 0, 0.75}, -0.0, {1, 0}, 0})) &&
               VERTICES(triangle(), a.view,
                        {{1, 0, 0.75}, {4, 0, 0.25}, {0, 4, 0.5}, {0, 0, -0.0}, {1, 0, 0}}),
           "create: the cut inside segment 0 has offset 3, 5 vertices, the split's bulge (T7)");
 
-    a = create(arcs(), (walk){1, {4, 4}, 2, {4, 2, -0.0}, 1, T, {{9, 9, 9}, {9, 9, 9}}});
+    a = create(arcs(), (walk){1, {4, 4}, 2, {4, 2, -0.0}, 1, {T, T}, {{9, 9, 9}, {9, 9, 9}}});
     check(same_view_answer(a, the_view((mask_view){1, 0, {4, 2, -0.0}, -0.0, {4, 4}, 0})),
           "create: the end on the next vertex has offset 0 and the updated start's bulge");
-    a = create(arcs(), (walk){2, {4, 0}, 1, {4, 4, 1}, 3, T, {{9, 9, 9}, {9, 9, 9}}});
+    a = create(arcs(), (walk){2, {4, 0}, 1, {4, 4, 1}, 3, {T, T}, {{9, 9, 9}, {9, 9, 9}}});
     check(same_view_answer(a, the_view((mask_view){2, 2, {4, 4, 1}, 0.125, {4, 0}, 0})),
           "create: the end on a later vertex has the bulge of the vertex before it");
 
-    w = (walk){1, {4.5, 4}, 2, {4, 2, 1}, 2, 0.5, {{4, 4, 3}, {4, 4, 5}}};
+    w = (walk){1, {4.5, 4}, 2, {4, 2, 1}, 2, {0.5, 0.5}, {{4, 4, 3}, {4, 4, 5}}};
     check(create(arcs(), w).view.end_index_offset == 2,
           "create: with t = 0.5, x = 4 and x = 4.5 do not agree (T10)");
     w.end_intersect.x = nextafter(4.5, 0);
@@ -1096,15 +1132,15 @@ static void constructors(void)
     check(create(arcs(), w).view.end_index_offset == 3 && create(arcs(), w).view.start_index == 3,
           "create: traverse count equal to the vertex count is accepted");
 
-    a = single(arcs(), (piece){3, {0, 3, -0.0}, {0, 1}, T});
+    a = single(arcs(), (piece){3, {0, 3, -0.0}, {0, 1}, {T, T}});
     check(same_view_answer(a, the_view((mask_view){3, 0, {0, 3, -0.0}, -0.0, {0, 1}, 0})),
           "create_on_single_segment: offset 0, end bulge the start's, -0 kept");
-    check(same_view_answer(single(arcs(), (piece){3, {0, 3, 1}, {0, 3}, T}), no_view(0)),
+    check(same_view_answer(single(arcs(), (piece){3, {0, 3, 1}, {0, 3}, {T, T}}), no_view(0)),
           "create_on_single_segment: equal ends: no view");
-    check(same_view_answer(single(arcs(), (piece){3, {0, 3, 1}, {0.25, 3.25}, 0.5}), no_view(0)),
+    check(same_view_answer(single(arcs(), (piece){3, {0, 3, 1}, {0.25, 3.25}, {0.5, 0.5}}), no_view(0)),
           "create_on_single_segment: ends that agree: no view");
-    check(single(arcs(), (piece){3, {1, 3, 1}, {1.5, 3}, 0.5}).found == 1 &&
-              single(arcs(), (piece){3, {1, 3, 1}, {1, 3.5}, 0.5}).found == 1,
+    check(single(arcs(), (piece){3, {1, 3, 1}, {1.5, 3}, {0.5, 0.5}}).found == 1 &&
+              single(arcs(), (piece){3, {1, 3, 1}, {1, 3.5}, {0.5, 0.5}}).found == 1,
           "create_on_single_segment: ends exactly t apart do not agree");
 
     check(same_view_answer(entire(arcs(), 1),
@@ -1279,6 +1315,15 @@ static double drawn_tolerance(void)
     return below(2) ? list[below(sizeof list / sizeof *list)] : ldexp((double)(draw() >> 11) + 1, -53);
 }
 
+/* Two tolerances: half of them alike, now and then one or both out of range. */
+static axes drawn_axes(void)
+{
+    axes t = both(drawn_tolerance());
+    if (below(2))
+        t.y = drawn_tolerance();
+    return rarely(32) ? spoiled(t, (int)below(3), -drawn_tolerance()) : t;
+}
+
 static mask_vertex drawn_vertex(void)
 {
     return (mask_vertex){drawn_number(), drawn_number(), drawn_number()};
@@ -1310,13 +1355,13 @@ static outline drawn_outline(void)
 }
 
 /* A point near a vertex, or anywhere. */
-static mask_point drawn_near(outline o, size_t i, double t)
+static mask_point drawn_near(outline o, size_t i, axes t)
 {
     mask_point p = {drawn_number(), drawn_number()};
     if (o.vc > 0 && right_length(o.len, 3, o.vc) && !rarely(4)) {
         p = place(at(o, i % o.vc));
-        p.x = near(p.x, t);
-        p.y = near(p.y, t);
+        p.x = near(p.x, t.x);
+        p.y = near(p.y, t.y);
     }
     if (rarely(64))
         p.y = bad_number();
@@ -1414,7 +1459,7 @@ static void drawn_walks(void)
                   .intersect_index = drawn_index(most, rarely(64)),
                   .updated_start = drawn_vertex(),
                   .traverse_count = rarely(4) ? 1 : drawn_index(o.vc, rarely(64)),
-                  .tolerance = rarely(32) ? -drawn_tolerance() : drawn_tolerance(),
+                  .tolerance = drawn_axes(),
                   .split = {drawn_vertex(), drawn_vertex()}};
         mask_view_answer a;
         w.end_intersect = drawn_near(o, w.intersect_index, w.tolerance);
@@ -1443,10 +1488,10 @@ static void drawn_pieces(void)
         outline o = drawn_outline();
         piece p = {.start_index = drawn_index(o.vc > 0 ? o.vc - 1 : 0, rarely(64)),
                    .updated_start = drawn_vertex(),
-                   .tolerance = rarely(32) ? -drawn_tolerance() : drawn_tolerance()};
+                   .tolerance = drawn_axes()};
         mask_view_answer a;
-        p.end_intersect = (mask_point){near(p.updated_start.x, p.tolerance),
-                                       near(p.updated_start.y, p.tolerance)};
+        p.end_intersect = (mask_point){near(p.updated_start.x, p.tolerance.x),
+                                       near(p.updated_start.y, p.tolerance.y)};
         if (rarely(32))
             put_piece(&p, (unsigned)below(5), bad_number());
         a = single(o, p);
@@ -1491,12 +1536,14 @@ static void drawn_verdicts(void)
         uint32_t start_on = (uint32_t)(rarely(64) ? draw() : below(2));
         uint32_t end_on = (uint32_t)(rarely(64) ? draw() : below(2));
         mask_verdict_answer a;
-        mask_point start = drawn_near(o, v.start_index + below(2), below(2) ? 1e-3 : 1e-5);
+        mask_point start =
+            drawn_near(o, v.start_index + below(2), both(below(2) ? 1e-3 : 1e-5));
         if (!rarely(4) && v.end_index_offset <= MOST_VERTICES) {
             v.updated_start.x = start.x;
             v.updated_start.y = start.y;
             v.end_point =
-                drawn_near(o, v.start_index + v.end_index_offset + below(2), below(2) ? 1e-3 : 1e-5);
+                drawn_near(o, v.start_index + v.end_index_offset + below(2),
+                           both(below(2) ? 1e-3 : 1e-5));
             if (below(2))
                 v.updated_end_bulge = near(v.updated_start.bulge, 1e-5);
         }
@@ -1522,6 +1569,7 @@ int main(void)
     lengths();
     codes();
     tolerances();
+    axes_apart();
     numbers();
     vertices();
     every_vertex();

@@ -108,14 +108,15 @@ static void view_vertices(void)
 static void create(void)
 {
     refusal =
-        mask_create(ALL(outline), VC, VC - 1, VIEW.end_point, 5, VIEW.updated_start, VC, T, SPLIT)
+        mask_create(ALL(outline), VC, VC - 1, VIEW.end_point, 5, VIEW.updated_start, VC, T, T,
+                    SPLIT)
             .refusal;
 }
 
 static void create_on_single_segment(void)
 {
     refusal = mask_create_on_single_segment(ALL(outline), VC, VC - 1, VIEW.updated_start,
-                                            VIEW.end_point, T)
+                                            VIEW.end_point, T, T)
                   .refusal;
 }
 
@@ -132,14 +133,15 @@ static void validate_for_source(void)
 static void cut_order(void)
 {
     refusal = mask_cut_order(ALL(outline), VC, 1, ALL(hit_at), ALL(hit), HITS, ALL(lap_at),
-                             ALL(lap), LAPS, T, ALL(cut_at), ALL(cut))
+                             ALL(lap), LAPS, T, T, ALL(cut_at), ALL(cut))
                   .refusal;
 }
 
 static void candidates(void)
 {
     refusal = mask_candidates(ALL(outline), VC, 1, ALL(hit_at), ALL(hit), HITS, ALL(lap_at),
-                              ALL(lap), LAPS, ALL(splits), T, ALL(cand_at), ALL(cand), ALL(probe))
+                              ALL(lap), LAPS, ALL(splits), T, T, ALL(cand_at), ALL(cand),
+                              ALL(probe))
                   .refusal;
 }
 
@@ -154,8 +156,8 @@ static void prune(void)
 static void stitch(void)
 {
     refusal = mask_stitch(ALL(outline), VC, ALL(outline), VC, ALL(slice_at), ALL(slice), SLICES, 0,
-                          SLICES, SLICES, MASK_SELECTOR_OR_AND, 1, ALL(room), ALL(ends), ALL(chain),
-                          ALL(chain_ends), ALL(chain_how))
+                          SLICES, SLICES, MASK_SELECTOR_OR_AND, 1, 1, ALL(room), ALL(ends),
+                          ALL(chain), ALL(chain_ends), ALL(chain_how))
                   .refusal;
 }
 

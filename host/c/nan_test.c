@@ -67,7 +67,7 @@ static struct {
     mask_view view;
     size_t vc1, vc2, pline2;
     uint32_t source, mode, selector;
-    double tolerance, limit;
+    double tolerance_x, tolerance_y, limit;
     size_t len[LISTS], need[LISTS];
 } c;
 
@@ -109,7 +109,7 @@ static void begin(void)
     c.vc1 = c.vc2 = 4;
     c.pline2 = 1;
     c.source = 1;
-    c.tolerance = T;
+    c.tolerance_x = c.tolerance_y = T;
     c.limit = 2;
     memcpy(c.len, lengths, sizeof lengths);
     memcpy(c.need, needs, sizeof needs);
@@ -129,8 +129,8 @@ static uint32_t view_vertices(void)
 static uint32_t cut_order(void)
 {
     return mask_cut_order(READ(OUTLINE1, outline1), c.vc1, c.source, READ(HIT_AT, hit_at),
-                          READ(HIT, hit), 2, READ(LAP_AT, lap_at), READ(LAP, lap), 1, c.tolerance,
-                          WRITTEN(CUT_AT), WRITTEN(CUT))
+                          READ(HIT, hit), 2, READ(LAP_AT, lap_at), READ(LAP, lap), 1,
+                          c.tolerance_x, c.tolerance_y, WRITTEN(CUT_AT), WRITTEN(CUT))
         .refusal;
 }
 
@@ -138,8 +138,8 @@ static uint32_t candidates(void)
 {
     return mask_candidates(READ(OUTLINE1, outline1), c.vc1, c.source, READ(HIT_AT, hit_at),
                            READ(HIT, hit), 2, READ(LAP_AT, lap_at), READ(LAP, lap), 1,
-                           READ(SPLITS, splits), c.tolerance, WRITTEN(CAND_AT), WRITTEN(CAND),
-                           WRITTEN(PROBE))
+                           READ(SPLITS, splits), c.tolerance_x, c.tolerance_y, WRITTEN(CAND_AT),
+                           WRITTEN(CAND), WRITTEN(PROBE))
         .refusal;
 }
 
@@ -156,7 +156,7 @@ static uint32_t stitch(void)
 {
     return mask_stitch(READ(OUTLINE1, outline1), c.vc1, READ(OUTLINE2, outline2), c.vc2,
                        READ(SLICE_AT, slice_at), READ(SLICE, slice), 2, c.pline2, 2, 2, c.selector,
-                       c.tolerance, WRITTEN(ROOM), WRITTEN(ENDS), WRITTEN(CHAIN),
+                       c.tolerance_x, c.tolerance_y, WRITTEN(ROOM), WRITTEN(ENDS), WRITTEN(CHAIN),
                        WRITTEN(CHAIN_ENDS), WRITTEN(CHAIN_HOW))
         .refusal;
 }
@@ -263,7 +263,7 @@ static int spoil(int e, uint32_t number)
         c.selector = 2;
         return ENTRIES[e].call != area_pass;
     case 4:
-        c.tolerance = 0;
+        c.tolerance_y = 0;
         c.limit = -1;
         return has_tolerance(e);
     case 6:
@@ -329,8 +329,8 @@ static double *numbers_of(int list)
     }
 }
 
-/* A NaN among the numbers handed in is 5, at the first and at the last place of each list; as the
- * tolerance or the limit it is 4. */
+/* A NaN among the numbers handed in is 5, at the first and at the last place of each list; as
+ * either tolerance or the limit it is 4. */
 static int handed_in(int e, uint64_t bits)
 {
     for (int list = 0; list < FIRST_ROOM; list++) {
@@ -351,10 +351,14 @@ static int handed_in(int e, uint64_t bits)
     }
     if (!has_tolerance(e))
         return 1;
-    begin();
-    memcpy(&c.tolerance, &bits, sizeof bits);
-    memcpy(&c.limit, &bits, sizeof bits);
-    return is_refused(e, MASK_REFUSED_TOLERANCE);
+    for (int i = 0; i < 2; i++) {
+        begin();
+        memcpy(i ? &c.tolerance_y : &c.tolerance_x, &bits, sizeof bits);
+        memcpy(&c.limit, &bits, sizeof bits);
+        if (!is_refused(e, MASK_REFUSED_TOLERANCE))
+            return 0;
+    }
+    return 1;
 }
 
 int main(void)

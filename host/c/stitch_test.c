@@ -95,7 +95,7 @@ typedef struct call {
     size_t vc[2], slices;
     mask_starts starts;
     uint32_t selector;
-    double tolerance;
+    axes tolerance;
     size_t room_len, ends_len, chain_len, chain_ends_len, chain_how_len;
 } call;
 
@@ -110,7 +110,7 @@ static void begin(const double *outline1, size_t vc1, const double *outline2, si
     c.vc[1] = vc2;
     c.slices = 0;
     c.selector = selector;
-    c.tolerance = tolerance;
+    c.tolerance = both(tolerance);
 }
 
 /* A slice: its start with a bulge, the end bulge, its end. */
@@ -156,7 +156,7 @@ static mask_stitch_answer stitch(void)
                        lend(SLICE_AT, c.slice_at, c.slice_at_len), c.slice_at_len,
                        lend(SLICE, c.slice, c.slice_len), c.slice_len, c.slices, c.starts.pline2,
                        c.starts.pline1_overlapping, c.starts.pline2_overlapping, c.selector,
-                       c.tolerance, lend_room(VERTEX_ROOM, c.room_len), c.room_len,
+                       c.tolerance.x, c.tolerance.y, lend_room(VERTEX_ROOM, c.room_len), c.room_len,
                        lend_room(ENDS, c.ends_len), c.ends_len, lend_room(CHAIN, c.chain_len),
                        c.chain_len, lend_room(CHAIN_ENDS, c.chain_ends_len), c.chain_ends_len,
                        lend_room(CHAIN_HOW, c.chain_how_len), c.chain_how_len);
@@ -227,7 +227,7 @@ static uint32_t refused(void)
     for (size_t i = 0; i < c.slices; i++)
         if (c.slice_at[4 * i] < 1 || c.slice_at[4 * i] > 2 || c.slice_at[4 * i + 1] > 1)
             return 3;
-    if (!right_tolerance(c.tolerance))
+    if (!right_tolerances(c.tolerance))
         return 4;
     if (!small_list(c.outline[0], c.outline_len[0]) ||
         !small_list(c.outline[1], c.outline_len[1]) || !small_list(c.slice, c.slice_len))
@@ -272,13 +272,13 @@ static mask_vertex ref_vertex(size_t i, size_t k)
 
 static int agree(mask_vertex a, mask_vertex b)
 {
-    return fabs(a.x - b.x) < c.tolerance && fabs(a.y - b.y) < c.tolerance;
+    return fabs(a.x - b.x) < c.tolerance.x && fabs(a.y - b.y) < c.tolerance.y;
 }
 
 static int in_box(mask_vertex end, mask_vertex p)
 {
-    double low_x = end.x - c.tolerance, high_x = end.x + c.tolerance;
-    double low_y = end.y - c.tolerance, high_y = end.y + c.tolerance;
+    double low_x = end.x - c.tolerance.x, high_x = end.x + c.tolerance.x;
+    double low_y = end.y - c.tolerance.y, high_y = end.y + c.tolerance.y;
     return low_x <= p.x && p.x <= high_x && low_y <= p.y && p.y <= high_y;
 }
 
@@ -478,8 +478,8 @@ static size_t how(size_t chain) { return left(CHAIN_HOW, c.chain_how_len)[chain]
 
 static void show(const call *call)
 {
-    printf("     selector %u tolerance %.17g starts %zu %zu %zu slices %zu\n", call->selector,
-           call->tolerance, call->starts.pline2, call->starts.pline1_overlapping,
+    printf("     selector %u tolerances %.17g %.17g starts %zu %zu %zu slices %zu\n", call->selector,
+           call->tolerance.x, call->tolerance.y, call->starts.pline2, call->starts.pline1_overlapping,
            call->starts.pline2_overlapping, call->slices);
     for (int o = 0; o < 2; o++)
         for (size_t v = 0; v < call->vc[o] && v < 8; v++)
@@ -696,6 +696,8 @@ static void sides(void)
                 if (e == side && i == 0)
                     continue;
                 bare(0, t);
+                /* the other axis has another tolerance, which makes no difference */
+                c.tolerance = spoiled(c.tolerance, place < 2, cases % 2 ? t : t < 0.25 ? 1 : 1e-9);
                 line(-7, 2000, x, y);
                 line(place < 2 ? starts[i] : 3, place < 2 ? 3 : starts[i], -50, 77);
                 classes(1, 2, 2);
@@ -718,6 +720,17 @@ static void sides(void)
     classes(3, 3, 3);
     check_stitch(1, "T10 a join at exactly t");
     check(got.chains == 1 && got.loops == 1, "stitch: T10 joined");
+    for (int k = 0; k < 4; k++) {
+        bare(0, 0.5);
+        c.tolerance = (axes){0.5, 0.25};
+        line(0, 0, 1, 0);
+        line(k == 1 ? nextafter(1.5, 2) : 1.5, k == 2 ? nextafter(0.25, 1) : 0.25, 9, 9);
+        classes(2, 2, 2);
+        if (k == 3)
+            c.tolerance = (axes){0.25, 0.5};
+        check_stitch(1, "a join at exactly both tolerances, or not");
+        check(got.chains == (k == 0 ? 1u : 2u), "stitch: x by the first, y by the second: %d", k);
+    }
     bare(0, 0.5);
     add(1, 0, 0, 1, 0, 0, 0.5, -0.25, 0, 0);
     c.outline[0][3] = 0.5;
@@ -899,13 +912,13 @@ static const fault FAULTS[] = {
     {3, F_INVERTED, "inverted 2"},
     {3, F_INVERTED, "inverted 2^32"},
     {3, F_INVERTED, "inverted SIZE_MAX"},
-    {4, F_TOL, "tolerance 0"},
-    {4, F_TOL, "tolerance -0"},
-    {4, F_TOL, "tolerance -T"},
-    {4, F_TOL, "tolerance above 1"},
-    {4, F_TOL, "tolerance NaN"},
-    {4, F_TOL, "tolerance inf"},
-    {4, F_TOL, "tolerance -inf"},
+    {4, F_TOL, "tolerance 0 of x"},
+    {4, F_TOL, "tolerance -0 of y"},
+    {4, F_TOL, "tolerance -T of x"},
+    {4, F_TOL, "tolerance above 1 of y"},
+    {4, F_TOL, "tolerance NaN of x"},
+    {4, F_TOL, "tolerance inf of y"},
+    {4, F_TOL, "tolerance -inf of x"},
     {5, F_N1, "outline 1 x NaN"},
     {5, F_N1, "outline 1 y above 2^30"},
     {5, F_N1, "outline 1 bulge -inf"},
@@ -976,13 +989,13 @@ static void spoil(int f)
     case 27: c.slice_at[5] = 2; break;
     case 28: c.slice_at[1] = (size_t)1 << 32; break;
     case 29: c.slice_at[5] = SIZE_MAX; break;
-    case 30: c.tolerance = 0; break;
-    case 31: c.tolerance = -0.0; break;
-    case 32: c.tolerance = -T; break;
-    case 33: c.tolerance = nextafter(1, 2); break;
-    case 34: c.tolerance = NAN; break;
-    case 35: c.tolerance = INFINITY; break;
-    case 36: c.tolerance = -INFINITY; break;
+    case 30: c.tolerance.x = 0; break;
+    case 31: c.tolerance.y = -0.0; break;
+    case 32: c.tolerance.x = -T; break;
+    case 33: c.tolerance.y = nextafter(1, 2); break;
+    case 34: c.tolerance.x = NAN; break;
+    case 35: c.tolerance.y = INFINITY; break;
+    case 36: c.tolerance.x = -INFINITY; break;
     case 37: c.outline[0][0] = NAN; break;
     case 38: c.outline[0][1] = above; break;
     case 39: c.outline[0][2] = -INFINITY; break;
@@ -1049,11 +1062,20 @@ static void refusals(void)
 
     /* Just within. */
     union_of_squares();
-    c.tolerance = 1;
-    check(stitched() && got.refusal == 0, "stitch: tolerance 1 is accepted");
-    c.tolerance = 0x1p-1074;
-    check(stitched() && got.refusal == 0, "stitch: the least tolerance is accepted");
-    c.tolerance = T;
+    for (int which = 0; which < 3; which++) {
+        static const char *const axis[] = {"of x", "of y", "of both"};
+        c.tolerance = spoiled(both(T), which, 1);
+        check(stitched() && got.refusal == 0, "stitch: tolerance 1 %s is accepted", axis[which]);
+        c.tolerance = spoiled(both(T), which, 0x1p-1074);
+        check(stitched() && got.refusal == 0, "stitch: the least tolerance %s is accepted",
+              axis[which]);
+        c.tolerance = spoiled(both(T), which, nextafter(1, 2));
+        check(stitched() && got.refusal == 4, "stitch: a tolerance %s above 1 is refused: 4",
+              axis[which]);
+        c.tolerance = spoiled(both(T), which, 0);
+        check(stitched() && got.refusal == 4, "stitch: tolerance 0 %s is refused: 4", axis[which]);
+    }
+    c.tolerance = both(T);
     c.outline[0][0] = LIMIT, c.outline[0][1] = -LIMIT, c.slice[2] = LIMIT, c.slice[11] = -LIMIT;
     check(stitched() && got.refusal == 0, "stitch: 2^30 and -2^30 are accepted");
     union_of_squares();
@@ -1100,7 +1122,9 @@ static void drawn_call(void)
     size_t places = 2 + pick(4), n = pick(13), pool = 1 + pick(6), s[3];
     double step = pick(3) ? 0.5 : 1, px[8], py[8];
     c.selector = (uint32_t)pick(2);
-    c.tolerance = tolerances[pick(6)];
+    c.tolerance = both(tolerances[pick(6)]);
+    if (pick(2))
+        c.tolerance.y = tolerances[pick(6)];
     for (int o = 0; o < 2; o++) {
         c.vc[o] = 2 + pick(4);
         for (size_t i = 0; i < 3 * c.vc[o]; i++)
@@ -1149,7 +1173,7 @@ static void drawn_call(void)
             else if (pick(4) == 0 && n > 0)
                 c.slice[pick(6 * n)] = pick(2) ? NAN : 0x1p31;
             else if (pick(8) == 0)
-                c.tolerance = pick(2) ? 0 : 2;
+                c.tolerance = spoiled(c.tolerance, (int)pick(3), pick(2) ? 0 : 2);
             else
                 *length = pick(2) || *length == 0 ? *length + 1 : *length - 1;
         }
@@ -1749,7 +1773,7 @@ static void prune_drawn(unsigned cases)
                 for (size_t i = 0; i < 3 * c.vc[o]; i++)
                     c.outline[o][i] = i % 3 == 2 ? drawn_bulge() : drawn_number(0.5, 4);
             }
-            c.tolerance = k % 2 ? T : 0.5;
+            c.tolerance = both(k % 2 ? T : 0.5);
             if (pruned.slices <= prune_need()) {
                 stitches++;
                 bad += !stitch_pruned(q.mode > 1);

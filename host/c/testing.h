@@ -89,8 +89,27 @@ static inline int right_length(size_t len, size_t width, size_t count)
     return len % width == 0 && len / width == count;
 }
 
-/* "position tolerance: above 0, at most 1". */
+/* The two tolerances of request K6: of x and of y. */
+typedef struct axes {
+    double x, y;
+} axes;
+
+static inline axes both(double t) { return (axes){t, t}; }
+
+/* "position tolerance: above 0, at most 1"; "number 4 covers either". */
 static inline int right_tolerance(double t) { return isfinite(t) && t > 0 && t <= 1; }
+
+static inline int right_tolerances(axes t) { return right_tolerance(t.x) && right_tolerance(t.y); }
+
+/* Which of the two, x or y or both, gets another value. */
+static inline axes spoiled(axes t, int which, double value)
+{
+    if (which != 1)
+        t.x = value;
+    if (which != 0)
+        t.y = value;
+    return t;
+}
 
 /* ---- Memory lent ---- */
 

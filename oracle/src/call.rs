@@ -92,7 +92,8 @@ const CREATE: Shape = &[
     ("updated_start.y", Number),
     ("updated_start.bulge", Number),
     ("traverse_count", Count),
-    ("tolerance", Number),
+    ("tolerance_x", Number),
+    ("tolerance_y", Number),
     ("split.updated_start.x", Number),
     ("split.updated_start.y", Number),
     ("split.updated_start.bulge", Number),
@@ -110,7 +111,8 @@ const CREATE_ON_SINGLE_SEGMENT: Shape = &[
     ("updated_start.bulge", Number),
     ("end_intersect.x", Number),
     ("end_intersect.y", Number),
-    ("tolerance", Number),
+    ("tolerance_x", Number),
+    ("tolerance_y", Number),
 ];
 
 const FROM_ENTIRE_PLINE: Shape = &[("outline", Numbers), ("vc", Count), ("closed", Code)];
@@ -141,7 +143,8 @@ const CUT_ORDER: Shape = &[
     ("lap_at", Counts),
     ("lap", Numbers),
     ("laps", Count),
-    ("tolerance", Number),
+    ("tolerance_x", Number),
+    ("tolerance_y", Number),
 ];
 
 const CANDIDATES: Shape = &[
@@ -155,7 +158,8 @@ const CANDIDATES: Shape = &[
     ("lap", Numbers),
     ("laps", Count),
     ("splits", Numbers),
-    ("tolerance", Number),
+    ("tolerance_x", Number),
+    ("tolerance_y", Number),
 ];
 
 const PRUNE: Shape = &[
@@ -188,7 +192,8 @@ const STITCH: Shape = &[
     ("pline1_overlapping", Count),
     ("pline2_overlapping", Count),
     ("selector", Code),
-    ("tolerance", Number),
+    ("tolerance_x", Number),
+    ("tolerance_y", Number),
 ];
 
 const AREA_PASS: Shape = &[("areas", Numbers), ("loops", Count), ("limit", Number)];
@@ -206,7 +211,30 @@ const STITCH_ROOM: Shape = &[
 ];
 const AREA_ROOM: Shape = &[("kept", Counts)];
 
+/// The two position tolerances.
+#[derive(Debug, Clone, Copy, PartialEq)]
+pub struct Axes {
+    pub x: f64,
+    pub y: f64,
+}
+
+impl From<f64> for Axes {
+    /// The same on both axes.
+    fn from(tolerance: f64) -> Axes {
+        Axes {
+            x: tolerance,
+            y: tolerance,
+        }
+    }
+}
+
 impl Entry {
+    /// Where the tolerance of x stands; that of y is the next parameter.
+    pub fn tolerance_at(self) -> Option<usize> {
+        let mut names = self.shape().iter();
+        names.position(|(name, _)| *name == "tolerance_x")
+    }
+
     pub fn number(self) -> usize {
         self as usize
     }
@@ -344,6 +372,24 @@ impl Call {
         numbers.iter().fold(self, |call, n| call.number(*n))
     }
 
+    pub fn axes(self, tolerance: Axes) -> Call {
+        self.number(tolerance.x).number(tolerance.y)
+    }
+
+    /// The two tolerances, where the entry has them.
+    pub fn tolerances(&self) -> Option<Axes> {
+        let at = self.entry.tolerance_at()?;
+        let mut r = self.read();
+        r.at = at;
+        Some(r.axes())
+    }
+
+    /// Whether the original, which has one tolerance, can be asked.
+    pub fn has_one_tolerance(&self) -> bool {
+        self.tolerances()
+            .is_none_or(|t| t.x.to_bits() == t.y.to_bits())
+    }
+
     pub fn list(mut self, words: &[u64]) -> Call {
         self.inputs.push(Param::List(words.to_vec()));
         self
@@ -395,6 +441,18 @@ impl<'a> Reader<'a> {
 
     pub fn number(&mut self) -> f64 {
         f64::from_bits(self.word())
+    }
+
+    pub fn axes(&mut self) -> Axes {
+        let [x, y] = self.some();
+        Axes { x, y }
+    }
+
+    /// Two tolerances that are one.
+    pub fn tolerance(&mut self) -> f64 {
+        let t = self.axes();
+        assert!(t.x == t.y, "the original has one tolerance");
+        t.x
     }
 
     pub fn some<const N: usize>(&mut self) -> [f64; N] {

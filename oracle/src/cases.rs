@@ -1,6 +1,6 @@
 //! Calls put together from plain values. Lent lists get at least the need, and canaries in them.
 
-use crate::call::{Call, Entry, words_of};
+use crate::call::{Axes, Call, Entry, words_of};
 use crate::random::Random;
 use crate::refusal::stitch_vertices;
 
@@ -83,7 +83,7 @@ pub struct CreateCase {
     pub intersect_index: usize,
     pub updated_start: [f64; 3],
     pub traverse_count: usize,
-    pub tolerance: f64,
+    pub tolerance: Axes,
     pub split: [f64; 6],
 }
 
@@ -94,7 +94,7 @@ pub fn create(outline: &[f64], case: &CreateCase) -> Call {
         .count(case.intersect_index)
         .numbers(&case.updated_start)
         .count(case.traverse_count)
-        .number(case.tolerance)
+        .axes(case.tolerance)
         .numbers(&case.split)
 }
 
@@ -103,13 +103,13 @@ pub fn create_on_single_segment(
     start: usize,
     updated_start: &[f64],
     end: &[f64],
-    tolerance: f64,
+    tolerance: impl Into<Axes>,
 ) -> Call {
     with_outline(Call::new(Entry::CreateOnSingleSegment), outline)
         .count(start)
         .numbers(updated_start)
         .numbers(end)
-        .number(tolerance)
+        .axes(tolerance.into())
 }
 
 pub fn from_entire_pline(outline: &[f64], closed: bool) -> Call {
@@ -130,12 +130,12 @@ pub fn cut_order(
     outline: &[f64],
     source: u64,
     shared: &Shared,
-    tolerance: f64,
+    tolerance: impl Into<Axes>,
 ) -> Call {
     let cuts = shared.cuts();
     let call = with_outline(Call::new(Entry::CutOrder), outline).word(source);
     with_shared(call, shared)
-        .number(tolerance)
+        .axes(tolerance.into())
         .lend(rng.canaries(3 * cuts))
         .lend(rng.canaries(2 * cuts))
 }
@@ -146,13 +146,13 @@ pub fn candidates(
     source: u64,
     shared: &Shared,
     splits: &[f64],
-    tolerance: f64,
+    tolerance: impl Into<Axes>,
 ) -> Call {
     let cuts = shared.cuts();
     let call = with_outline(Call::new(Entry::Candidates), outline).word(source);
     with_shared(call, shared)
         .list(&words_of(splits))
-        .number(tolerance)
+        .axes(tolerance.into())
         .lend(rng.canaries(2 * cuts))
         .lend(rng.canaries(6 * cuts))
         .lend(rng.canaries(6 * cuts))
@@ -196,7 +196,7 @@ pub fn stitch(
     slice: &[u64],
     starts: [u64; 3],
     selector: u64,
-    tolerance: f64,
+    tolerance: impl Into<Axes>,
 ) -> Call {
     let slices = slice_at.len() / 4;
     let call = with_outline(Call::new(Entry::Stitch), outlines[0]);
@@ -208,7 +208,7 @@ pub fn stitch(
         .word(starts[1])
         .word(starts[2])
         .word(selector)
-        .number(tolerance)
+        .axes(tolerance.into())
         .lend(rng.canaries(3 * stitch_vertices(slice_at) as usize));
     (0..4).fold(call, |call, _| call.lend(rng.canaries(slices)))
 }

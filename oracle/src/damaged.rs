@@ -3,7 +3,7 @@
 //! original like any other call.
 
 use crate::call::{Call, ENTRIES, Entry, Kind, Param, RECORDED};
-use crate::hostile::any_call;
+use crate::hostile::{any_call, axes, call_with};
 use crate::random::Random;
 use crate::refusal;
 use crate::tally::{Family, Tally};
@@ -17,6 +17,8 @@ const ITEMS_OF_A_LIST: usize = 8;
 #[derive(Debug, Clone)]
 enum Fault {
     Word(usize, u64),
+    /// Both tolerances.
+    Tolerances(usize, u64),
     Item(usize, usize, u64),
     Shorter(usize),
     Longer(usize),
@@ -127,11 +129,18 @@ fn replacements(kind: Kind, old: u64) -> Vec<u64> {
 /// Every single fault of a call. Of a long list some items are taken.
 fn faults(rng: &mut Random, call: &Call) -> Vec<Fault> {
     let mut faults = Vec::new();
-    for (at, (_, kind)) in call.entry.shape().iter().enumerate() {
+    for (at, (name, kind)) in call.entry.shape().iter().enumerate() {
         match &call.inputs[at] {
+            // With that of x.
+            Param::Word(_) if *name == "tolerance_y" => {}
             Param::Word(word) => {
+                let fault = if *name == "tolerance_x" {
+                    Fault::Tolerances
+                } else {
+                    Fault::Word
+                };
                 let values = replacements(*kind, *word);
-                faults.extend(values.into_iter().map(|value| Fault::Word(at, value)));
+                faults.extend(values.into_iter().map(|value| fault(at, value)));
             }
             Param::List(words) => {
                 faults.extend([Fault::Shorter(at), Fault::Longer(at), Fault::Emptied(at)]);
@@ -171,6 +180,10 @@ fn list(call: &mut Call, at: usize) -> &mut Vec<u64> {
 fn apply(call: &mut Call, fault: &Fault) {
     match fault {
         Fault::Word(at, value) => call.inputs[*at] = Param::Word(*value),
+        Fault::Tolerances(at, value) => {
+            call.inputs[*at] = Param::Word(*value);
+            call.inputs[*at + 1] = Param::Word(*value);
+        }
         Fault::Item(at, item, value) => {
             if let Some(word) = list(call, *at).get_mut(*item) {
                 *word = *value;
@@ -220,11 +233,32 @@ pub fn scenario(tally: &mut Tally, rng: &mut Random) {
     damage(tally, rng, entry);
 }
 
-/// The same for the entries that no record holds.
+/// The same for what no record holds: later entries, and damage to the tolerance of one axis.
 pub fn later_scenario(tally: &mut Tally, rng: &mut Random) {
+    damage_axes(tally, rng);
     if rng.once_in(4) {
         let entry = rng.pick(&ENTRIES[RECORDED..]);
         damage(tally, rng, entry);
+    }
+}
+
+/// An accepted call of an entry with tolerances: each of the two damaged, alone and with one more fault.
+fn damage_axes(tally: &mut Tally, rng: &mut Random) {
+    let entry = rng.pick(&ENTRIES);
+    let Some(at) = entry.tolerance_at() else {
+        return;
+    };
+    let t = axes(rng);
+    let base = call_with(rng, entry, t);
+    let others = faults(rng, &base);
+    for at in [at, at + 1] {
+        for value in replacements(Kind::Number, 0) {
+            let mut call = base.clone();
+            apply(&mut call, &Fault::Word(at, value));
+            tally.compare(Family::Axes, &call);
+            apply(&mut call, &others[rng.below(others.len())]);
+            tally.compare(Family::Axes, &call);
+        }
     }
 }
 

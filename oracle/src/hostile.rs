@@ -3,7 +3,7 @@
 //! count; many slices at one point; cuts at equal distances; splits, inside answers and areas that no
 //! geometry gives.
 
-use crate::call::{Call, ENTRIES, Entry, Outcome, RECORDED, words_of};
+use crate::call::{Axes, Call, ENTRIES, Entry, Outcome, RECORDED, words_of};
 use crate::cases::{self, CandidateLists, CreateCase, Shared, ViewCase};
 use crate::random::Random;
 use crate::tally::{Family, Tally};
@@ -47,19 +47,46 @@ pub fn later_scenario(tally: &mut Tally, rng: &mut Random) {
 pub fn any_call(rng: &mut Random, entry: Entry) -> Call {
     match entry {
         Entry::ViewVertex => view_vertex(rng),
-        Entry::Create => create(rng),
-        Entry::CreateOnSingleSegment => create_on_single_segment(rng),
         Entry::FromEntirePline => {
-            let t = tolerance(rng);
+            let t = tolerance(rng).into();
             cases::from_entire_pline(&outline(rng, t, 2), rng.once_in(2))
         }
         Entry::ValidateForSource => validate(rng),
-        Entry::CutOrder => cut_order(rng),
-        Entry::Candidates => candidates(rng),
         Entry::Prune => prune(rng),
-        Entry::Stitch => stitch(rng),
         Entry::AreaPass => area_pass(rng),
         Entry::ViewVertices => view_vertices(rng),
+        _ => {
+            let t = tolerance(rng).into();
+            call_with(rng, entry, t)
+        }
+    }
+}
+
+/// Tolerances of the two axes, mostly not alike: at a ratio that is a power of two, or at any.
+pub fn axes(rng: &mut Random) -> Axes {
+    let x = rng.pick(&[1.0 / 1024.0, 0.5, 1.0, 1e-5, 0.1, 1.0 / LARGEST]);
+    let y = match rng.below(8) {
+        0 => x,
+        1 | 2 => tolerance(rng),
+        3 => rng.part().max(1e-12),
+        _ => x * rng.pick(&[0.5, 0.25, 0.125, 1.0 / 1024.0, 1.0 / 1_048_576.0]),
+    };
+    if rng.once_in(2) {
+        Axes { x, y }
+    } else {
+        Axes { x: y, y: x }
+    }
+}
+
+/// An accepted call of an entry that takes tolerances, with these.
+pub fn call_with(rng: &mut Random, entry: Entry, t: Axes) -> Call {
+    match entry {
+        Entry::Create => create(rng, t),
+        Entry::CreateOnSingleSegment => create_on_single_segment(rng, t),
+        Entry::CutOrder => cut_order(rng, t),
+        Entry::Candidates => candidates(rng, t),
+        Entry::Stitch => stitch(rng, t),
+        _ => panic!("{} takes no tolerances", entry.name()),
     }
 }
 
@@ -102,12 +129,13 @@ fn near(rng: &mut Random, x: f64, distance: f64) -> f64 {
     in_range(off)
 }
 
-fn near_point(rng: &mut Random, p: &[f64], distance: f64) -> [f64; 2] {
+/// A point at the distance of each axis, on one of them or on both.
+fn near_point(rng: &mut Random, p: &[f64], distance: Axes) -> [f64; 2] {
     match rng.below(4) {
         0 => [p[0], p[1]],
-        1 => [near(rng, p[0], distance), p[1]],
-        2 => [p[0], near(rng, p[1], distance)],
-        _ => [near(rng, p[0], distance), near(rng, p[1], distance)],
+        1 => [near(rng, p[0], distance.x), p[1]],
+        2 => [p[0], near(rng, p[1], distance.y)],
+        _ => [near(rng, p[0], distance.x), near(rng, p[1], distance.y)],
     }
 }
 
@@ -120,7 +148,7 @@ fn bulge(rng: &mut Random) -> f64 {
 }
 
 /// An outline of `least` to 8 vertices. Some repeat the one before, or nearly.
-fn outline(rng: &mut Random, t: f64, least: usize) -> Vec<f64> {
+fn outline(rng: &mut Random, t: Axes, least: usize) -> Vec<f64> {
     let count = rng.from(least, 8);
     let mut outline: Vec<f64> = Vec::new();
     for i in 0..count {
@@ -146,7 +174,7 @@ fn position(outline: &[f64], index: usize) -> [f64; 2] {
 
 /// An outline and any view of it that is accepted.
 fn outline_and_view(rng: &mut Random) -> (Vec<f64>, ViewCase) {
-    let t = tolerance(rng);
+    let t = tolerance(rng).into();
     let outline = outline(rng, t, 2);
     let vc = outline.len() / 3;
     let view = ViewCase {
@@ -175,8 +203,7 @@ fn view_vertex(rng: &mut Random) -> Call {
     cases::view_vertex(&outline, &view, index)
 }
 
-fn create(rng: &mut Random) -> Call {
-    let t = tolerance(rng);
+fn create(rng: &mut Random, t: Axes) -> Call {
     let outline = outline(rng, t, 2);
     let vc = outline.len() / 3;
     let intersect_index = rng.below(vc);
@@ -196,8 +223,7 @@ fn create(rng: &mut Random) -> Call {
     cases::create(&outline, &case)
 }
 
-fn create_on_single_segment(rng: &mut Random) -> Call {
-    let t = tolerance(rng);
+fn create_on_single_segment(rng: &mut Random, t: Axes) -> Call {
     let outline = outline(rng, t, 2);
     let updated_start = vertex(rng);
     let end = near_point(rng, &updated_start, t);
@@ -210,12 +236,12 @@ fn near_or_away(rng: &mut Random, p: [f64; 2], distance: f64) -> [f64; 2] {
     if rng.once_in(3) {
         [number(rng), number(rng)]
     } else {
-        near_point(rng, &p, distance)
+        near_point(rng, &p, distance.into())
     }
 }
 
 fn validate(rng: &mut Random) -> Call {
-    let outline = outline(rng, 1e-3, 0);
+    let outline = outline(rng, 1e-3.into(), 0);
     let vc = outline.len() / 3;
     let mut view = ViewCase {
         start: rng.word() as usize,
@@ -271,7 +297,7 @@ fn cut_count(rng: &mut Random) -> usize {
 }
 
 /// Hits and laps of two outlines. Many lie at the vertices, at the tolerance, or at equal distances.
-fn shared(rng: &mut Random, outlines: [&[f64]; 2], t: f64) -> Shared {
+fn shared(rng: &mut Random, outlines: [&[f64]; 2], t: Axes) -> Shared {
     let total = cut_count(rng);
     let laps = if total == 0 {
         0
@@ -317,7 +343,7 @@ fn shared(rng: &mut Random, outlines: [&[f64]; 2], t: f64) -> Shared {
 }
 
 /// Splits of no geometry: the two positions of a split are often near each other.
-fn splits(rng: &mut Random, cuts: usize, t: f64) -> Vec<f64> {
+fn splits(rng: &mut Random, cuts: usize, t: Axes) -> Vec<f64> {
     let mut splits = Vec::new();
     for _ in 0..cuts {
         let start = vertex(rng);
@@ -352,8 +378,7 @@ fn spoil_the_other(rng: &mut Random, shared: &mut Shared, source: u64) {
 }
 
 /// An outline, which it is, and what it shares with another.
-fn one_outline(rng: &mut Random) -> (Vec<f64>, u64, Shared, f64) {
-    let t = tolerance(rng);
+fn one_outline(rng: &mut Random, t: Axes) -> (Vec<f64>, u64, Shared) {
     let (own, other) = (outline(rng, t, 2), outline(rng, t, 2));
     let source = rng.from(1, 2) as u64;
     let outlines: [&[f64]; 2] = if source == 1 {
@@ -365,16 +390,16 @@ fn one_outline(rng: &mut Random) -> (Vec<f64>, u64, Shared, f64) {
     if rng.once_in(3) {
         spoil_the_other(rng, &mut shared, source);
     }
-    (own, source, shared, t)
+    (own, source, shared)
 }
 
-fn cut_order(rng: &mut Random) -> Call {
-    let (outline, source, shared, t) = one_outline(rng);
+fn cut_order(rng: &mut Random, t: Axes) -> Call {
+    let (outline, source, shared) = one_outline(rng, t);
     cases::cut_order(rng, &outline, source, &shared, t)
 }
 
-fn candidates(rng: &mut Random) -> Call {
-    let (outline, source, shared, t) = one_outline(rng);
+fn candidates(rng: &mut Random, t: Axes) -> Call {
+    let (outline, source, shared) = one_outline(rng, t);
     let splits = splits(rng, shared.cuts(), t);
     cases::candidates(rng, &outline, source, &shared, &splits, t)
 }
@@ -393,7 +418,7 @@ fn any_candidates(rng: &mut Random, vc: usize) -> CandidateLists {
 }
 
 fn prune(rng: &mut Random) -> Call {
-    let t = tolerance(rng);
+    let t = tolerance(rng).into();
     let outlines = [outline(rng, t, 2), outline(rng, t, 2)];
     let vc = outlines.each_ref().map(|o| o.len() / 3);
     let shared = shared(rng, [&outlines[0], &outlines[1]], t);
@@ -417,9 +442,10 @@ impl Prunable {
     /// The candidates are the archive's. The caller compares them.
     fn new(rng: &mut Random) -> Prunable {
         let t = tolerance(rng);
-        let outlines = [outline(rng, t, 2), outline(rng, t, 2)];
-        let shared = shared(rng, [&outlines[0], &outlines[1]], t);
-        let splits = [splits(rng, shared.cuts(), t), splits(rng, shared.cuts(), t)];
+        let near = t.into();
+        let outlines = [outline(rng, near, 2), outline(rng, near, 2)];
+        let shared = shared(rng, [&outlines[0], &outlines[1]], near);
+        let splits = [0; 2].map(|_| splits(rng, shared.cuts(), near));
         let mut slicing = Vec::new();
         let mut lists = Vec::new();
         for which in 0..2 {
@@ -516,8 +542,7 @@ fn pair(tally: &mut Tally, rng: &mut Random) {
 }
 
 /// Slices between few points, so that many start where one ends.
-fn stitch(rng: &mut Random) -> Call {
-    let t = tolerance(rng);
+fn stitch(rng: &mut Random, t: Axes) -> Call {
     let outlines = [outline(rng, t, 2), outline(rng, t, 2)];
     let anchors: Vec<[f64; 2]> = (0..rng.from(1, 4))
         .map(|_| [number(rng), number(rng)])
@@ -535,7 +560,7 @@ fn stitch(rng: &mut Random) -> Call {
             _ => rng.from(0, vc),
         };
         slice_at.extend([source, rng.below(2), rng.below(vc), offset].map(|n| n as u64));
-        let distance = if exact { 0.0 } else { t };
+        let distance = if exact { 0.0.into() } else { t };
         let begin = rng.pick(&anchors);
         let begin = near_point(rng, &begin, distance);
         let end = rng.pick(&anchors);

@@ -1,8 +1,10 @@
 //! The original Rust beside the proved archive: the stages of both, in one form.
 //!
 //! `stages` runs each stage of the original on plain values; `theirs` gives the original's outcome of
-//! a call, by watching what it does; the others are the cases of the comparison.
+//! a call, by watching what it does; `second` is a second implementation of what takes two tolerances,
+//! which the original has not; the others are the cases of the comparison.
 
+pub mod axes;
 pub mod call;
 pub mod cases;
 pub mod damaged;
@@ -15,6 +17,8 @@ pub mod random;
 pub mod realistic;
 pub mod record;
 pub mod refusal;
+pub mod scaled;
+pub mod second;
 pub mod shapes;
 pub mod stages;
 pub mod straight;

@@ -70,7 +70,7 @@ fn views(tally: &mut Tally, rng: &mut Random, outline: &[f64]) {
         intersect_index: start,
         updated_start: [0.0, 0.0, 0.5],
         traverse_count: VERTICES,
-        tolerance: TOLERANCE,
+        tolerance: TOLERANCE.into(),
         split: [0.25; 6],
     };
     tally.compare(FAMILY, &cases::create(outline, &case));

@@ -4,13 +4,17 @@ use oracle::call::Outcome;
 use oracle::random::Random;
 use oracle::record::Record;
 use oracle::tally::{Tally, quiet_caught_panics};
-use oracle::{damaged, findings, hostile, limits, ours, print, realistic, refusal, theirs};
+use oracle::{
+    axes, damaged, findings, hostile, limits, ours, print, realistic, refusal, second, theirs,
+};
 use std::process::ExitCode;
 
 const USAGE: &str = "usage:
   compare N SEED                    N generated scenarios, each of many entry calls
   compare --record FILE COUNT SEED  writes about COUNT of the compared calls to FILE (RECORD.md)
   compare --scenario NUMBER SEED    one scenario alone
+  compare --axes N SEED             N calls of each entry that takes tolerances, with two that differ
+  compare --judges N SEED           the same, only the judges beside each other
   compare --paste 'WORDS'           one call, as a difference prints it, answered both ways
   compare --findings                the known differences, each at its smallest input";
 
@@ -21,6 +25,8 @@ fn main() -> ExitCode {
     let done = match arguments[..] {
         ["--record", file, count, seed] => record(file, count, seed),
         ["--scenario", number, seed] => one_scenario(number, seed),
+        ["--axes", count, seed] => with_axes(count, seed, axes::scenario),
+        ["--judges", count, seed] => with_axes(count, seed, axes::judges),
         ["--paste", words] => paste(words),
         ["--findings"] => {
             findings::show();
@@ -35,10 +41,14 @@ fn main() -> ExitCode {
     })
 }
 
+fn scenario_numbers(seed: u64, number: u64) -> Random {
+    Random::new(seed.wrapping_mul(0x0100_0000_01b3).wrapping_add(number))
+}
+
 /// One scenario. Its family follows from its number, its content from seed and number.
 fn scenario(tally: &mut Tally, seed: u64, number: u64) {
     tally.scenario = number;
-    let mut rng = Random::new(seed.wrapping_mul(0x0100_0000_01b3).wrapping_add(number));
+    let mut rng = scenario_numbers(seed, number);
     // What no record holds is drawn apart, so that a record stays as it is.
     let mut later = rng.apart();
     match number % 10 {
@@ -46,6 +56,7 @@ fn scenario(tally: &mut Tally, seed: u64, number: u64) {
         5..=8 => {
             hostile::scenario(tally, &mut rng);
             hostile::later_scenario(tally, &mut later);
+            axes::scenario(tally, &mut later);
         }
         _ => {
             damaged::scenario(tally, &mut rng);
@@ -65,6 +76,19 @@ fn compare(count: &str, seed: &str) -> Option<ExitCode> {
         scenario(&mut tally, seed, number);
     }
     println!("{count} scenarios, seed {seed}\n");
+    Some(report(&tally))
+}
+
+/// Calls with two tolerances.
+fn with_axes(count: &str, seed: &str, make: fn(&mut Tally, &mut Random)) -> Option<ExitCode> {
+    let count: u64 = count.parse().ok()?;
+    let seed: u64 = seed.parse().ok()?;
+    let mut tally = Tally::default();
+    for number in 0..count {
+        tally.scenario = number;
+        make(&mut tally, &mut scenario_numbers(seed, number).apart());
+    }
+    println!("{count} calls of each entry that takes tolerances, seed {seed}\n");
     Some(report(&tally))
 }
 
@@ -126,6 +150,7 @@ fn paste(words: &str) -> Option<ExitCode> {
         }
     };
     let expected = match refusal::expected(&call) {
+        0 if !call.has_one_tolerance() => second::answer(&call),
         0 => theirs::answer(&call),
         number => Outcome::refused(&call, number),
     };

@@ -195,6 +195,7 @@ fn enter(call: &Call, inputs: &mut [Guarded], lent: &mut [Guarded]) -> Vec<u64> 
                     vertex(r),
                     r.count(),
                     r.number(),
+                    r.number(),
                     Split {
                         updated_start: vertex(r),
                         split_vertex: vertex(r),
@@ -210,6 +211,7 @@ fn enter(call: &Call, inputs: &mut [Guarded], lent: &mut [Guarded]) -> Vec<u64> 
                     r.count(),
                     vertex(r),
                     point(r),
+                    r.number(),
                     r.number(),
                 ))
             }
@@ -241,7 +243,7 @@ fn enter(call: &Call, inputs: &mut [Guarded], lent: &mut [Guarded]) -> Vec<u64> 
                 let hits = r.count();
                 let (lap_at, lap_at_len) = list!();
                 let (lap, lap_len) = list!();
-                let (laps, tolerance) = (r.count(), r.number());
+                let (laps, tolerance) = (r.count(), r.axes());
                 let (cut_at, cut_at_len) = room!();
                 let (cut, cut_len) = room!();
                 count_words(&mask_cut_order(
@@ -259,7 +261,8 @@ fn enter(call: &Call, inputs: &mut [Guarded], lent: &mut [Guarded]) -> Vec<u64> 
                     lap,
                     lap_len,
                     laps,
-                    tolerance,
+                    tolerance.x,
+                    tolerance.y,
                     cut_at,
                     cut_at_len,
                     cut,
@@ -276,7 +279,7 @@ fn enter(call: &Call, inputs: &mut [Guarded], lent: &mut [Guarded]) -> Vec<u64> 
                 let (lap, lap_len) = list!();
                 let laps = r.count();
                 let (splits, splits_len) = list!();
-                let tolerance = r.number();
+                let tolerance = r.axes();
                 let (cand_at, cand_at_len) = room!();
                 let (cand, cand_len) = room!();
                 let (probe, probe_len) = room!();
@@ -297,7 +300,8 @@ fn enter(call: &Call, inputs: &mut [Guarded], lent: &mut [Guarded]) -> Vec<u64> 
                     laps,
                     splits,
                     splits_len,
-                    tolerance,
+                    tolerance.x,
+                    tolerance.y,
                     cand_at,
                     cand_at_len,
                     cand,
@@ -369,7 +373,7 @@ fn enter(call: &Call, inputs: &mut [Guarded], lent: &mut [Guarded]) -> Vec<u64> 
                 let slices = r.count();
                 let (pline2, pline1_overlapping, pline2_overlapping) =
                     (r.count(), r.count(), r.count());
-                let (selector, tolerance) = (r.code(), r.number());
+                let (selector, tolerance) = (r.code(), r.axes());
                 let (room, room_len) = room!();
                 let (ends, ends_len) = room!();
                 let (chain, chain_len) = room!();
@@ -391,7 +395,8 @@ fn enter(call: &Call, inputs: &mut [Guarded], lent: &mut [Guarded]) -> Vec<u64> 
                     pline1_overlapping,
                     pline2_overlapping,
                     selector,
-                    tolerance,
+                    tolerance.x,
+                    tolerance.y,
                     room,
                     room_len,
                     ends,

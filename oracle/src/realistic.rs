@@ -205,7 +205,7 @@ impl Pair {
                 intersect_index,
                 updated_start: [updated_start.x, updated_start.y, updated_start.bulge],
                 traverse_count,
-                tolerance: self.tolerance,
+                tolerance: self.tolerance.into(),
                 split: [u.x, u.y, u.bulge, v.x, v.y, v.bulge],
             };
             let call = cases::create(outline, &case);

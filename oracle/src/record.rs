@@ -57,7 +57,7 @@ impl Record {
 
     pub fn offer(&mut self, family: Family, call: &Call, expected: &Outcome, origin: Origin) {
         let number = call.entry.number();
-        if number >= RECORDED {
+        if number >= RECORDED || family == Family::Axes || !call.has_one_tolerance() {
             return;
         }
         let left = &mut self.wanted[number][family as usize][expected.answer[0] as usize];
@@ -94,11 +94,20 @@ impl Record {
     }
 }
 
+/// The call with its two tolerances, which are alike, as one: so a record holds them.
+fn with_one_tolerance(call: &Call) -> Call {
+    let mut call = call.clone();
+    if let Some(at) = call.entry.tolerance_at() {
+        call.inputs.remove(at + 1);
+    }
+    call
+}
+
 /// One case: entry, length of the rest, origin, inputs and lent lists at entry, the expected answer,
 /// the lent lists at exit.
 fn case_words(call: &Call, expected: &Outcome, origin: Origin) -> Vec<u64> {
     let mut rest = vec![origin as u64];
-    rest.extend(input_words(call));
+    rest.extend(input_words(&with_one_tolerance(call)));
     rest.extend(&expected.answer);
     for content in &expected.lent {
         rest.extend(content);

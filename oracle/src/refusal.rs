@@ -1,8 +1,8 @@
-//! The refusal table of document 01, written down a second time and without the archive: for any
+//! The refusal table of document 01, with what the requests change of it, written down a second time and without the archive: for any
 //! call, the number it must be refused with, or 0. The numbers are looked at in ascending order, and
 //! where number 1 does not apply every list has the length that its count says.
 
-use crate::call::{Call, Entry, Reader};
+use crate::call::{Axes, Call, Entry, Reader};
 
 const MOST_VERTICES: u64 = 1024;
 const MOST_HITS: u64 = 512;
@@ -48,6 +48,12 @@ impl Faults {
 
     fn tolerance(&mut self, t: f64) {
         self.note(4, !(t.is_finite() && t > 0.0 && t <= 1.0));
+    }
+
+    /// Number 4 covers either.
+    fn tolerances(&mut self, t: Axes) {
+        self.tolerance(t.x);
+        self.tolerance(t.y);
     }
 
     fn number(&mut self, n: f64) {
@@ -133,7 +139,7 @@ fn create(faults: &mut Faults, r: &mut Reader) {
     }
     let traverse_count = r.word();
     faults.note(7, traverse_count == 0 || traverse_count > vc);
-    faults.tolerance(r.number());
+    faults.tolerances(r.axes());
     for n in r.some::<6>() {
         faults.number(n);
     }
@@ -146,7 +152,7 @@ fn create_on_single_segment(faults: &mut Faults, r: &mut Reader) {
     for n in r.some::<5>() {
         faults.number(n);
     }
-    faults.tolerance(r.number());
+    faults.tolerances(r.axes());
 }
 
 fn from_entire_pline(faults: &mut Faults, r: &mut Reader) {
@@ -200,7 +206,7 @@ fn cut_order(faults: &mut Faults, r: &mut Reader, lent: &[Vec<u64>]) {
     faults.outline(outline, vc);
     faults.note(3, source != 1 && source != 2);
     let cuts = shared(faults, r, vc, source);
-    faults.tolerance(r.number());
+    faults.tolerances(r.axes());
     faults.room(&lent[0], 3, cuts);
     faults.room(&lent[1], 2, cuts);
 }
@@ -213,7 +219,7 @@ fn candidates(faults: &mut Faults, r: &mut Reader, lent: &[Vec<u64>]) {
     let splits = r.list();
     faults.length(splits, 9, cuts);
     faults.numbers(splits);
-    faults.tolerance(r.number());
+    faults.tolerances(r.axes());
     faults.room(&lent[0], 2, cuts);
     faults.room(&lent[1], 6, cuts);
     faults.room(&lent[2], 6, cuts);
@@ -286,7 +292,7 @@ fn stitch(faults: &mut Faults, r: &mut Reader, lent: &[Vec<u64>]) {
     let starts = [r.word(), r.word(), r.word(), slices];
     faults.note(8, starts.windows(2).any(|pair| pair[0] > pair[1]));
     faults.note(3, r.word() > 1);
-    faults.tolerance(r.number());
+    faults.tolerances(r.axes());
     faults.room(&lent[0], 3, stitch_vertices(slice_at));
     for list in &lent[1..] {
         faults.room(list, 1, slices);

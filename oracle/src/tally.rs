@@ -2,7 +2,7 @@
 
 use crate::call::{COUNT, Call, ENTRIES, Entry, Outcome, Param};
 use crate::record::{Origin, Record};
-use crate::{ours, print, refusal, theirs};
+use crate::{ours, print, refusal, scaled, second, theirs};
 use std::collections::BTreeMap;
 use std::panic::{AssertUnwindSafe, catch_unwind};
 use std::sync::atomic::{AtomicBool, Ordering};
@@ -13,13 +13,15 @@ pub enum Family {
     Hostile,
     Damaged,
     Limits,
+    Axes,
 }
 
-pub const FAMILIES: [Family; 4] = [
+pub const FAMILIES: [Family; 5] = [
     Family::Realistic,
     Family::Hostile,
     Family::Damaged,
     Family::Limits,
+    Family::Axes,
 ];
 
 /// Differences that are written out. The others are only counted.
@@ -40,7 +42,7 @@ pub fn quiet_caught_panics() {
 
 #[derive(Default)]
 pub struct Tally {
-    compared: [[u64; COUNT]; 4],
+    compared: [[u64; COUNT]; 5],
     refused: [[u64; 10]; COUNT],
     ended: [u64; 4],
     extra: BTreeMap<&'static str, u64>,
@@ -52,8 +54,8 @@ pub struct Tally {
 }
 
 impl Tally {
-    /// Compares a call with the refusal table, or where that accepts it with the original. Gives our
-    /// outcome back.
+    /// Compares a call with the refusal table, or where that accepts it with the original; with the
+    /// second implementation where the two tolerances differ. Gives our outcome back.
     pub fn compare(&mut self, family: Family, call: &Call) -> Outcome {
         self.compare_with(family, call, || theirs::answer(call))
     }
@@ -67,7 +69,7 @@ impl Tally {
     ) -> Outcome {
         let number = refusal::expected(call);
         let (expected, origin) = match number {
-            0 => (self.run(call, original), Origin::Original),
+            0 => (self.judged(call, original), Origin::Original),
             _ => (Some(Outcome::refused(call, number)), Origin::Table),
         };
         self.compared[family as usize][call.entry.number()] += 1;
@@ -85,6 +87,47 @@ impl Tally {
             }
         }
         ours
+    }
+
+    /// Compares the judges of an accepted call with each other, and not with the archive.
+    pub fn compare_judges(&mut self, family: Family, call: &Call) {
+        assert!(refusal::expected(call) == 0, "the call must be accepted");
+        self.compared[family as usize][call.entry.number()] += 1;
+        self.refused[call.entry.number()][0] += 1;
+        self.judged(call, || theirs::answer(call));
+    }
+
+    /// The outcome that an accepted call must have: the original's, or where the two tolerances differ
+    /// the second implementation's. Where there are two judges they are compared.
+    fn judged(&mut self, call: &Call, original: impl FnOnce() -> Outcome) -> Option<Outcome> {
+        if !second::covers(call.entry) {
+            return self.run(call, original);
+        }
+        let second = second::answer(call);
+        if call.has_one_tolerance() {
+            let expected = self.run(call, original)?;
+            self.count("the second implementation beside the original");
+            if second != expected && explanation(call, &expected, &second).is_none() {
+                self.tell_difference("the second implementation", call, &expected, &second);
+            }
+            return Some(expected);
+        }
+        self.count("two tolerances that differ: the second implementation is the judge");
+        match self.run(call, || scaled::answer(call)) {
+            None | Some(None) => {}
+            Some(Some(scaled)) if scaled == second => self.count(SCALED),
+            Some(Some(scaled)) if order_is_not_scaled(call, &scaled, &second) => {
+                self.count(SCALED_ORDER);
+            }
+            Some(Some(scaled)) => {
+                self.tell_difference("the original on scaled axes", call, &scaled, &second);
+            }
+        }
+        Some(second)
+    }
+
+    fn count(&mut self, name: &'static str) {
+        *self.extra.entry(name).or_default() += 1;
     }
 
     /// One more check of a call already compared: the same outcome by another road.
@@ -121,8 +164,8 @@ impl Tally {
         })
     }
 
-    /// The original's outcome, or none where it panicked. A panic is a difference.
-    fn run(&mut self, call: &Call, original: impl FnOnce() -> Outcome) -> Option<Outcome> {
+    /// What the original gives, or none where it panicked. A panic is a difference.
+    fn run<A>(&mut self, call: &Call, original: impl FnOnce() -> A) -> Option<A> {
         CATCHING.store(true, Ordering::Relaxed);
         let outcome = catch_unwind(AssertUnwindSafe(original)).ok();
         CATCHING.store(false, Ordering::Relaxed);
@@ -141,9 +184,13 @@ impl Tally {
             *self.explained.entry(name).or_default() += 1;
             return false;
         }
-        let text = print::call(call) + "\n" + &print::difference(call, expected, ours);
-        self.complain("another outcome", &text);
+        self.tell_difference("another outcome", call, expected, ours);
         false
+    }
+
+    fn tell_difference(&mut self, what: &str, call: &Call, expected: &Outcome, other: &Outcome) {
+        let text = print::call(call) + "\n" + &print::difference(call, expected, other);
+        self.complain(what, &text);
     }
 
     fn complain(&mut self, what: &str, text: &str) {
@@ -163,8 +210,8 @@ impl Tally {
     /// Prints the counts. Gives the number of unexplained differences.
     pub fn report(&self) -> u64 {
         println!(
-            "{:30} {:>10} {:>10} {:>10} {:>10} {:>10}",
-            "entry calls compared", "realistic", "hostile", "damaged", "limits", "all"
+            "{:30} {:>10} {:>10} {:>10} {:>10} {:>10} {:>10}",
+            "entry calls compared", "realistic", "hostile", "damaged", "limits", "axes", "all"
         );
         for entry in ENTRIES {
             self.report_row(entry.name(), |family| {
@@ -208,12 +255,16 @@ impl Tally {
     }
 }
 
+const SCALED: &str = "the original on scaled axes beside the second implementation";
+const SCALED_ORDER: &str =
+    "the same with another order of the cuts on a segment: distances are not scaled";
+
 pub const TIES: &str = "ties: 33 or more cuts on one segment, equal distances";
 
 /// The name of a known difference, where it accounts for all that differs: with that one thing done as
 /// document 01 says, the original's outcome is ours.
 fn explanation(call: &Call, expected: &Outcome, ours: &Outcome) -> Option<&'static str> {
-    if expected.answer[0] != 0 {
+    if expected.answer[0] != 0 || !call.has_one_tolerance() {
         return None;
     }
     match call.entry {
@@ -253,19 +304,36 @@ fn in_order_of_arrival(call: &Call, expected: &Outcome) -> Outcome {
     outcome
 }
 
-/// Whether the order of the same cuts already differs by ties. Then the splits are of other cuts, and
-/// the original has no answer to compare with.
-fn order_is_tied(call: &Call) -> bool {
+/// The call that asks for the order of the cuts of a call of the candidates.
+fn order_of(call: &Call) -> Call {
     let mut order = Call::new(Entry::CutOrder);
     order.inputs = call.inputs.clone();
     order.inputs.remove(9);
     let room = 3 * call.lent[0].len();
     order.lent = vec![vec![1; room], vec![1; room]];
-    let Ok(ours) = ours::answer(&order) else {
-        return false;
-    };
-    let expected = theirs::answer(&order);
-    expected != ours && in_order_of_arrival(&order, &expected) == ours
+    order
+}
+
+/// Whether the order of the same cuts already differs by ties. Then the splits are of other cuts, and
+/// the original has no answer to compare with.
+fn order_is_tied(call: &Call) -> bool {
+    let order = order_of(call);
+    let (expected, by_arrival) = (theirs::answer(&order), second::answer(&order));
+    expected != by_arrival && in_order_of_arrival(&order, &expected) == by_arrival
+}
+
+/// Whether the original on scaled axes differs because the cuts of a segment come in another order.
+fn order_is_not_scaled(call: &Call, scaled: &Outcome, second: &Outcome) -> bool {
+    match call.entry {
+        Entry::CutOrder => scaled::same_but_for_order(scaled, second),
+        Entry::Candidates => {
+            let order = order_of(call);
+            let scaled = scaled::answer(&order).expect("the same tolerances");
+            let second = second::answer(&order);
+            scaled != second && scaled::same_but_for_order(&scaled, &second)
+        }
+        _ => false,
+    }
 }
 
 /// Whether candidates are accepted, at most one per cut, with 0 up to the need and nothing beyond.

@@ -106,7 +106,7 @@ fn view_answer(view: Option<PlineViewData>) -> Outcome {
 }
 
 /// A lent list at exit: the items, 0 up to the need, and beyond it what was there.
-fn written(at_entry: &[u64], items: &[u64], need: usize) -> Vec<u64> {
+pub fn written(at_entry: &[u64], items: &[u64], need: usize) -> Vec<u64> {
     let mut list = items.to_vec();
     assert!(list.len() <= need, "more items than the need");
     list.resize(need, 0);
@@ -161,7 +161,7 @@ fn create(r: &mut Reader) -> Outcome {
     let end_intersect = point(r);
     let intersect_index = r.count();
     let updated_start = vertex(r);
-    let (traverse_count, tolerance) = (r.count(), r.number());
+    let (traverse_count, tolerance) = (r.count(), r.tolerance());
     let split = SplitResult {
         updated_start: vertex(r),
         split_vertex: vertex(r),
@@ -191,7 +191,7 @@ fn create_on_single_segment(r: &mut Reader) -> Outcome {
         start_index,
         updated_start,
         end_intersect,
-        r.number(),
+        r.tolerance(),
     ))
 }
 
@@ -455,7 +455,7 @@ pub fn cuts(pline: &Polyline, info: &Info, second: bool, tolerance: f64) -> Vec<
 
 fn cut_order(r: &mut Reader, lent: &[Vec<u64>]) -> Outcome {
     let one = OneOutline::read(r);
-    let cuts = cuts(&one.pline, &one.info(), one.second, r.number());
+    let cuts = cuts(&one.pline, &one.info(), one.second, r.tolerance());
     let mut cut_at = Vec::new();
     let mut cut = Vec::new();
     for c in &cuts {
@@ -566,7 +566,7 @@ impl Host for Splitter {
 fn candidates(r: &mut Reader, lent: &[Vec<u64>], from_list: bool) -> Outcome {
     let one = OneOutline::read(r);
     let splits = numbers_of(r.list());
-    let tolerance = r.number();
+    let tolerance = r.tolerance();
     let info = one.info();
     let cuts = cuts(&one.pline, &info, one.second, tolerance);
     let probes = Rc::new(RefCell::new(Vec::new()));
@@ -1057,7 +1057,7 @@ fn stitch(r: &mut Reader, lent: &[Vec<u64>]) -> Outcome {
         pline2_overlapping: r.count(),
     };
     let selector = Selector::new(r.word(), starts);
-    let stitched = stitch_watched(&slices, &pline1, &pline2, &selector, r.number());
+    let stitched = stitch_watched(&slices, &pline1, &pline2, &selector, r.tolerance());
 
     let mut room = Vec::new();
     let mut ends = Vec::new();

@@ -5,7 +5,7 @@ use mathlib.Core.Path.{_≡_, refl}
 use mathlib.Core.List.{List, [], _∷_, map, flatMap}
 use lib.IntN.{pos, negsuc}
 use lib.Ieee.{Float, fin, binary64, ofInt, sub, lt}
-use Rattle.basis.specs.Number.{absF, agree, toleranceOf}
+use Rattle.basis.specs.Number.{absF, agree, alike}
 use Rattle.basis.specs.declared.number.Tolerance.{Tolerance}
 use Rattle.outline.specs.Points.{pointsAgree}
 use Rattle.outline.specs.Outline.{vertexAt, wrap, outlineAt, pointAt}
@@ -21,7 +21,7 @@ abbrev pub floats : List ℕ → List Float
 floats l = map (λ n. ofInt binary64 (pos n)) l
 
 abbrev pub t : Tolerance
-t = toleranceOf (fin false 1 (negsuc 9))
+t = alike (fin false 1 (negsuc 9))
 
 -- ---- the sheet of two squares: intersections (4,2) and (2,4)
 

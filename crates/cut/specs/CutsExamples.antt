@@ -3,7 +3,7 @@ use Prim.Native.Nat.{ℕ}
 use mathlib.Core.Path.{_≡_, refl}
 use mathlib.Core.List.{List, [], _∷_, flatMap}
 use lib.Ieee.{Float, binary64, ofBits, lt, add, sub, mul}
-use Rattle.basis.specs.Number.{+0, one, agree, absF, toleranceOf}
+use Rattle.basis.specs.Number.{+0, one, agree, absF, alike}
 use Rattle.basis.specs.declared.number.Tolerance.{Tolerance}
 use Rattle.outline.specs.Points.{pointsAgree}
 use Rattle.outline.specs.Outline.{vertexAt, outlineAt, wrap, pointAt}
@@ -25,7 +25,7 @@ six = ofBits binary64 0x4018_0000_0000_0000
 
 -- 1/1024
 abbrev t : Tolerance
-t = toleranceOf (ofBits binary64 0x3f50_0000_0000_0000)
+t = alike (ofBits binary64 0x3f50_0000_0000_0000)
 
 abbrev square : Float → Float → List Float
 square a b = a ∷ a ∷ +0 ∷ b ∷ a ∷ +0 ∷ b ∷ b ∷ +0 ∷ a ∷ b ∷ +0 ∷ []

@@ -18,11 +18,12 @@ pub extern "C" fn mask_cut_order(
     lap_at: &[usize],
     lap: &[f64],
     laps: usize,
-    tolerance: f64,
+    tolerance_x: f64,
+    tolerance_y: f64,
     cut_at: &mut [usize],
     cut: &mut [f64],
 ) -> CountAnswer
-    ensures { λ r. ⌜ CutOrdered (given (now (outline .entry)) (now («hit_at» .entry)) (now (hit .entry)) (now («lap_at» .entry)) (now (lap .entry)) (caseOf vc source hits laps (toleranceOf tolerance))) (now («cut_at» .entry)) (now (cut .entry)) r (now («cut_at» .exit)) (now (cut .exit)) ⌝ }
+    ensures { λ r. ⌜ CutOrdered (given (now (outline .entry)) (now («hit_at» .entry)) (now (hit .entry)) (now («lap_at» .entry)) (now (lap .entry)) (caseOf vc source hits laps (toleranceOf «tolerance_x» «tolerance_y»))) (now («cut_at» .entry)) (now (cut .entry)) r (now («cut_at» .exit)) (now (cut .exit)) ⌝ }
 {
     cut_entries::order::entry(
         outline,
@@ -34,7 +35,8 @@ pub extern "C" fn mask_cut_order(
         lap_at,
         lap,
         laps,
-        tolerance,
+        tolerance_x,
+        tolerance_y,
         cut_at,
         cut,
     )
@@ -53,12 +55,13 @@ pub extern "C" fn mask_candidates(
     lap: &[f64],
     laps: usize,
     splits: &[f64],
-    tolerance: f64,
+    tolerance_x: f64,
+    tolerance_y: f64,
     cand_at: &mut [usize],
     cand: &mut [f64],
     probe: &mut [f64],
 ) -> CountAnswer
-    ensures { λ r. ⌜ Sliced (given (now (outline .entry)) (now («hit_at» .entry)) (now (hit .entry)) (now («lap_at» .entry)) (now (lap .entry)) (caseOf vc source hits laps (toleranceOf tolerance))) (now (splits .entry)) (rooms (now («cand_at» .entry)) (now (cand .entry)) (now (probe .entry))) r (rooms (now («cand_at» .exit)) (now (cand .exit)) (now (probe .exit))) ⌝ }
+    ensures { λ r. ⌜ Sliced (given (now (outline .entry)) (now («hit_at» .entry)) (now (hit .entry)) (now («lap_at» .entry)) (now (lap .entry)) (caseOf vc source hits laps (toleranceOf «tolerance_x» «tolerance_y»))) (now (splits .entry)) (rooms (now («cand_at» .entry)) (now (cand .entry)) (now (probe .entry))) r (rooms (now («cand_at» .exit)) (now (cand .exit)) (now (probe .exit))) ⌝ }
 {
     candidate_entries::slicing::entry(
         outline,
@@ -71,7 +74,8 @@ pub extern "C" fn mask_candidates(
         lap,
         laps,
         splits,
-        tolerance,
+        tolerance_x,
+        tolerance_y,
         cand_at,
         cand,
         probe,

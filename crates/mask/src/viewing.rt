@@ -53,10 +53,11 @@ pub extern "C" fn mask_create(
     intersect_index: usize,
     updated_start: Vertex,
     traverse_count: usize,
-    tolerance: f64,
+    tolerance_x: f64,
+    tolerance_y: f64,
     split: Split,
 ) -> ViewAnswer
-    ensures { λ r. ⌜ r ≡ createAnswer (now (outline .entry)) vc (walkOf «start_index» «end_intersect» «intersect_index» «updated_start» «traverse_count» split) (toleranceOf tolerance) split ⌝ }
+    ensures { λ r. ⌜ r ≡ createAnswer (now (outline .entry)) vc (walkOf «start_index» «end_intersect» «intersect_index» «updated_start» «traverse_count» split) (toleranceOf «tolerance_x» «tolerance_y») split ⌝ }
 {
     view_entries::create::entry(
         outline,
@@ -66,7 +67,8 @@ pub extern "C" fn mask_create(
         intersect_index,
         updated_start,
         traverse_count,
-        tolerance,
+        tolerance_x,
+        tolerance_y,
         split,
     )
 }
@@ -79,9 +81,10 @@ pub extern "C" fn mask_create_on_single_segment(
     start_index: usize,
     updated_start: Vertex,
     end_intersect: Point,
-    tolerance: f64,
+    tolerance_x: f64,
+    tolerance_y: f64,
 ) -> ViewAnswer
-    ensures { λ r. ⌜ r ≡ singleAnswer (now (outline .entry)) vc «start_index» «updated_start» «end_intersect» (toleranceOf tolerance) ⌝ }
+    ensures { λ r. ⌜ r ≡ singleAnswer (now (outline .entry)) vc «start_index» «updated_start» «end_intersect» (toleranceOf «tolerance_x» «tolerance_y») ⌝ }
 {
     view_entries::single::entry(
         outline,
@@ -89,7 +92,8 @@ pub extern "C" fn mask_create_on_single_segment(
         start_index,
         updated_start,
         end_intersect,
-        tolerance,
+        tolerance_x,
+        tolerance_y,
     )
 }
 

@@ -3,7 +3,7 @@ use mathlib.Core.Bool.{true, false}
 use mathlib.Core.Path.{_≡_, refl}
 use lib.Ieee.{Float, nan, inf, fin, binary64, ofBits, add, sub, lt, le}
 use lib.IntN.{negsuc}
-use Rattle.basis.specs.Number.{+0, one, limit, absF, agree, inSpan, within, toleranceOf, tolerable}
+use Rattle.basis.specs.Number.{+0, one, limit, absF, agree, inSpan, within, alike, tolerableOn, tolerable}
 use Rattle.outline.specs.declared.point.Point.{Point}
 use Rattle.outline.specs.Points.{pointsAgree, inBox}
 
@@ -31,11 +31,11 @@ a = record { x = one; y = one }
 abbrev b : Point
 b = record { x = oneHalf; y = one }
 
-pub t10-points-apart : (pointsAgree (toleranceOf half) a b ≡ false) × (pointsAgree (toleranceOf half) b a ≡ false)
+pub t10-points-apart : (pointsAgree (alike half) a b ≡ false) × (pointsAgree (alike half) b a ≡ false)
 unfolding pointsAgree agree absF ofBits sub lt
 t10-points-apart = (refl, refl)
 
-pub t10-in-box : (inBox (toleranceOf half) a b ≡ true) × (inBox (toleranceOf half) b a ≡ true)
+pub t10-in-box : (inBox (alike half) a b ≡ true) × (inBox (alike half) b a ≡ true)
 unfolding inBox inSpan ofBits sub add le
 t10-in-box = (refl, refl)
 
@@ -59,11 +59,11 @@ only-finite = (refl, refl, refl)
 -- ---- "position tolerance: above 0, at most 1"
 
 -- The smallest double above 0 is a tolerance, and so is 1.
-pub tolerances : (tolerable (toleranceOf (ofBits binary64 1)) ≡ true) × (tolerable (toleranceOf one) ≡ true)
-unfolding tolerable ofBits lt le
+pub tolerances : (tolerable (alike (ofBits binary64 1)) ≡ true) × (tolerable (alike one) ≡ true)
+unfolding tolerable tolerableOn ofBits lt le
 tolerances = (refl, refl)
 
 -- Neither 0, nor the next double above 1, nor a NaN is.
-pub not-tolerances : (tolerable (toleranceOf +0) ≡ false) × (tolerable (toleranceOf (ofBits binary64 0x3ff0_0000_0000_0001)) ≡ false) × (tolerable (toleranceOf nan) ≡ false)
-unfolding tolerable ofBits lt le
+pub not-tolerances : (tolerable (alike +0) ≡ false) × (tolerable (alike (ofBits binary64 0x3ff0_0000_0000_0001)) ≡ false) × (tolerable (alike nan) ≡ false)
+unfolding tolerable tolerableOn ofBits lt le
 not-tolerances = (refl, refl, refl)

@@ -26,10 +26,10 @@ pointNumbers p = p .x ∷ p .y ∷ []
 abbrev pub vertexNumbers : Vertex → List Float
 vertexNumbers v = v .x ∷ v .y ∷ v .bulge ∷ []
 
--- "Two points agree when both coordinates do."
+-- "Two points agree when both coordinates do", x by the first tolerance and y by the second (K6)
 unfoldable pub pointsAgree : Tolerance → Point → Point → Bool
-pointsAgree t a b = agree (t .position) (a .x) (b .x) && agree (t .position) (a .y) (b .y)
+pointsAgree t a b = agree (t .x) (a .x) (b .x) && agree (t .y) (a .y) (b .y)
 
 -- "ex − t ≤ px ≤ ex + t, and likewise in y, the box closed and its sides rounded": p in the box around e
 unfoldable pub inBox : Tolerance → Point → Point → Bool
-inBox t e p = inSpan (t .position) (e .x) (p .x) && inSpan (t .position) (e .y) (p .y)
+inBox t e p = inSpan (t .x) (e .x) (p .x) && inSpan (t .y) (e .y) (p .y)

@@ -44,16 +44,16 @@ pub fn vertex_of(p: Point, bulge: f64) -> Vertex
     }
 }
 
-// Both coordinates agree. Beside the test of its range, this function and the next alone look into a position tolerance.
+// Both coordinates agree, each by the tolerance of its axis. Beside the test of its range, this function and the next alone look into a position tolerance.
 pub fn points_agree(a: Point, b: Point, t: Tolerance) -> bool
     ensures { λ r. ⌜ r ≡ pointsAgree t a b ⌝ }
 {
-    number::agrees(a.x, b.x, t.position) && number::agrees(a.y, b.y, t.position)
+    number::agrees(a.x, b.x, t.x) && number::agrees(a.y, b.y, t.y)
 }
 
 // The point p is in the closed box around the end e.
 pub fn in_box(p: Point, e: Point, t: Tolerance) -> bool
     ensures { λ r. ⌜ r ≡ inBox t e p ⌝ }
 {
-    number::in_span(p.x, e.x, t.position) && number::in_span(p.y, e.y, t.position)
+    number::in_span(p.x, e.x, t.x) && number::in_span(p.y, e.y, t.y)
 }

@@ -7,7 +7,7 @@ use mathlib.Core.List.{List, [], _∷_, _++_, map}
 use lib.ListN.{length, take}
 use lib.IntN.{pos, negsuc}
 use lib.Ieee.{Float, fin, binary64, ofInt, ofBits}
-use Rattle.basis.specs.Number.{+0, toleranceOf}
+use Rattle.basis.specs.Number.{+0, alike}
 use Rattle.basis.specs.declared.number.Tolerance.{Tolerance}
 use Rattle.outline.specs.declared.point.Vertex.{Vertex}
 use Rattle.outline.specs.Points.{posOf, pointsAgree, inBox}
@@ -130,7 +130,7 @@ abbrev pub floats : List ℕ → List Float
 floats l = map (λ n. ofInt binary64 (pos n)) l
 
 abbrev pub t : Tolerance
-t = toleranceOf (fin false 1 (negsuc 9))
+t = alike (fin false 1 (negsuc 9))
 
 abbrev pub a : List Float
 a = floats (0 ∷ 0 ∷ 0 ∷ 4 ∷ 0 ∷ 0 ∷ 4 ∷ 4 ∷ 0 ∷ 0 ∷ 4 ∷ 0 ∷ [])
@@ -201,7 +201,7 @@ roundFrom x offset =
 -- ---- "with t = 0.5, x = 1 and x = 1.5": on segment 0 of A, and a slice of A from 1.5 round to 1, as one chain
 
 abbrev half : Tolerance
-half = toleranceOf (fin false 1 (negsuc 0))
+half = alike (fin false 1 (negsuc 0))
 
 abbrev oneHalf : Float
 oneHalf = fin false 3 (negsuc 0)

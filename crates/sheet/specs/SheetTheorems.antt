@@ -7,7 +7,7 @@ use lib.ListN.{length, take}
 use lib.Ieee.{Float, ofInt, ofBits, neg, add, sub, mul, lt, le}
 use Rattle.basis.specs.Room.{roomOf}
 use Rattle.basis.specs.RoomLaws.{room-front}
-use Rattle.basis.specs.Number.{+0, absF, agree, inSpan, within, tolerable}
+use Rattle.basis.specs.Number.{+0, absF, agree, inSpan, within, tolerableOn, tolerable}
 use Rattle.basis.specs.declared.number.Tolerance.{Tolerance}
 use Rattle.basis.specs.All.{allOf, All, all-imp}
 use Rattle.basis.specs.Each.{eachTo, placesBelow, placesAtMost}
@@ -64,7 +64,7 @@ use Rattle.sheet.specs.Sheet.{Said, candidatesAre, verticesAre, slicesAr
 -- ---- what the computation opens, under one name each
 
 numbers : Unit {0}
-unfolding ofInt ofBits neg add sub mul lt le absF agree inSpan within tolerable allOf pointsAgree inBox eachTo placesBelow placesAtMost
+unfolding ofInt ofBits neg add sub mul lt le absF agree inSpan within tolerable tolerableOn allOf pointsAgree inBox eachTo placesBelow placesAtMost
 numbers = tt
 
 views : Unit {0}

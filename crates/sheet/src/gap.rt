@@ -13,7 +13,7 @@ pub(crate) fn apart(a: &[f64]) {
         bulge: 0.0,
     };
     let to = Point { x: 1.5, y: 0.0 };
-    let made = mask::viewing::mask_create_on_single_segment(a, 4, 0, from, to, 0.5);
+    let made = mask::viewing::mask_create_on_single_segment(a, 4, 0, from, to, 0.5, 0.5);
     print::word(b"T10 tolerance 0.5, x = 1 and x = 1.5: ");
     if made.found == 1 {
         print::word(b"they do not agree; ");

@@ -47,6 +47,7 @@ fn candidates(
         0,
         splits,
         TOLERANCE,
+        TOLERANCE,
         at,
         shape,
         &mut probe,

@@ -81,6 +81,7 @@ pub(crate) fn stitch(
         starts.pline2_overlapping,
         selector,
         tolerance,
+        tolerance,
         room,
         &mut ends,
         &mut chain,

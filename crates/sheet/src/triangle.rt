@@ -52,6 +52,7 @@ fn cut_at(x: f64) {
         0,
         &splits,
         squares::TOLERANCE,
+        squares::TOLERANCE,
         &mut at,
         &mut shape,
         &mut probe,

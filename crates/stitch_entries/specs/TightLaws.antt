@@ -7,7 +7,7 @@ use native.Mathlib.Omega.{arith}
 use borrow.Author.Tests.{le-ltb}
 use lib.ListN.{length, length-append}
 use lib.Ieee.{Float, ofBits, lt, le}
-use Rattle.basis.specs.Number.{+0, absF, within, allWithin, tolerable}
+use Rattle.basis.specs.Number.{+0, absF, within, allWithin, tolerableOn, tolerable}
 use Rattle.basis.specs.All.{allOf, all-append}
 use Rattle.basis.specs.Sizes.{mostSlices}
 use Rattle.basis.specs.Refuse.{firstOf, lengthFault, sizeFault, sourceFault}
@@ -41,7 +41,7 @@ module _ (n : ℕ) (few : n ≤ mostSlices) where
   codes-whole = copies-length codes codeWidth n refl
 
   pub tight-shape : firstOf (shapeRows (toAndFro n)) ≡ 0
-  unfolding lengthFault sizeFault sourceFault sourceKnown startsFault tolerable allOf within absF ofBits lt le
+  unfolding lengthFault sizeFault sourceFault sourceKnown startsFault tolerable tolerableOn allOf within absF ofBits lt le
   tight-shape =
       none-clear (shapeRows (toAndFro n)) (
         refl,

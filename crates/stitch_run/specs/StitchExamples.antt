@@ -5,7 +5,7 @@ use mathlib.Core.Path.{_≡_, refl}
 use mathlib.Core.List.{List, [], _∷_, _++_, flatMap}
 use lib.Ieee.{Float, fin, binary64, ofBits, neg, add, sub, lt, le}
 use lib.IntN.{pos, negsuc}
-use Rattle.basis.specs.Number.{+0, absF, agree, inSpan, toleranceOf}
+use Rattle.basis.specs.Number.{+0, absF, agree, inSpan, alike}
 use Rattle.basis.specs.declared.number.Tolerance.{Tolerance}
 use Rattle.outline.specs.Points.{pointsAgree, inBox}
 use Rattle.outline.specs.Outline.{vertexAt, wrap, outlineAt}
@@ -65,7 +65,7 @@ abbrev n6 : Float
 n6 = fin false 3 (pos 1)
 
 abbrev pub t : Tolerance
-t = toleranceOf (fin false 1 (negsuc 9))
+t = alike (fin false 1 (negsuc 9))
 
 abbrev -0 : Float
 -0 = ofBits binary64 0x8000_0000_0000_0000

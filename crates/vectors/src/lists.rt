@@ -30,6 +30,7 @@ pub(crate) fn cut_order(w: &[usize], x: &[f64], c1: &mut [usize], x1: &mut [f64]
         words::numbers(w, x, lap),
         words::at(w, laps),
         words::float_after(x, laps, 1),
+        words::float_after(x, laps, 1),
         words::lent_counts(w, c1, at),
         words::lent_numbers(w, x1, cut),
     );
@@ -70,6 +71,7 @@ pub(crate) fn candidates(
         words::numbers(w, x, lap),
         words::at(w, laps),
         words::numbers(w, x, splits),
+        words::float_at(x, tolerance),
         words::float_at(x, tolerance),
         words::lent_counts(w, c1, at),
         words::lent_numbers(w, x1, cand),
@@ -198,6 +200,7 @@ pub(crate) fn stitch(
         words::at(r, 2),
         words::at(r, 3),
         words::code_at(r, 4),
+        words::float_after(x, slices, 5),
         words::float_after(x, slices, 5),
         words::lent_numbers(w, x1, room),
         words::lent_counts(w, c1, ends),

@@ -104,6 +104,7 @@ pub(crate) fn create(w: &[usize], x: &[f64]) -> bool {
         vertex(words::floats_from(y, 5)),
         words::at(r, 8),
         words::float_at(y, 9),
+        words::float_at(y, 9),
         split,
     );
     is_view_answer(words::from(r, 16), answer)
@@ -120,6 +121,7 @@ pub(crate) fn create_on_single_segment(w: &[usize], x: &[f64]) -> bool {
         words::at(r, 1),
         vertex(words::floats_from(y, 2)),
         point(words::floats_from(y, 5)),
+        words::float_at(y, 7),
         words::float_at(y, 7),
     );
     is_view_answer(words::from(r, 8), answer)

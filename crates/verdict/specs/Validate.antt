@@ -7,7 +7,7 @@ use mathlib.Core.List.{List}
 use lib.ListN.{length}
 use lib.Dec.{ltb, eqb}
 use lib.Ieee.{Float, binary64, ofBits}
-use Rattle.basis.specs.Number.{agree, toleranceOf}
+use Rattle.basis.specs.Number.{agree, alike}
 use Rattle.outline.specs.declared.point.Point.{Point}
 use Rattle.outline.specs.Points.{posOf}
 use Rattle.outline.specs.Outline.{wrap, outlineAt}
@@ -25,7 +25,7 @@ onSegmentEps = ofBits binary64 0x3f50_624d_d2f1_a9fc
 
 -- near one of the segment's two vertices: segment i goes from vertex i to the next
 unfoldable pub nearSegment : List Float → ℕ → ℕ → Point → Bool
-nearSegment o vc i p = nearVertex o vc i p (toleranceOf onSegmentEps) || nearVertex o vc (i + 1) p (toleranceOf onSegmentEps)
+nearSegment o vc i p = nearVertex o vc i p (alike onSegmentEps) || nearVertex o vc (i + 1) p (alike onSegmentEps)
 
 -- "The near-vertex test is ours; beyond it the host's yes or no decides."
 unfoldable pub onSegment : List Float → ℕ → ℕ → Point → Bool → Bool
@@ -42,7 +42,7 @@ bulgeVerdict v =
 -- end on final vertex: the one that the view's last segment starts with
 unfoldable pub finalVerdict : List Float → ℕ → ViewData → ℕ → ViewDataValidation
 finalVerdict o vc v end =
-    cond (nearVertex o vc end (v .«end_point») (toleranceOf validationEps))
+    cond (nearVertex o vc end (v .«end_point») (alike validationEps))
     (verdict.EndPointOnFinalOffsetVertex (v .«end_point») (outlineAt o vc end))
     (bulgeVerdict v)
 

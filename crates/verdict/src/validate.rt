@@ -45,7 +45,8 @@ fn near_segment(outline: &[f64], vc: usize, i: usize, p: Point) -> bool
     ensures { λ r. ⌜ r ≡ nearSegment (now (outline .entry)) vc i p ⌝ }
 {
     let t = Tolerance {
-        position: VALIDATION_POINT_ON_SEG_EPS,
+        x: VALIDATION_POINT_ON_SEG_EPS,
+        y: VALIDATION_POINT_ON_SEG_EPS,
     };
     create::near_vertex(outline, vc, i, p, t) || create::near_vertex(outline, vc, i + 1, p, t)
 }
@@ -82,7 +83,8 @@ fn final_verdict(outline: &[f64], vc: usize, v: ViewData, end_index: usize) -> V
 {
     let end = v.end_point;
     let t = Tolerance {
-        position: VALIDATION_EPS,
+        x: VALIDATION_EPS,
+        y: VALIDATION_EPS,
     };
     if create::near_vertex(outline, vc, end_index, end, t) {
         let last = read::outline_at(outline, vc, end_index);

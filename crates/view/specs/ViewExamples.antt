@@ -5,7 +5,7 @@ use mathlib.Core.Path.{_≡_, refl}
 use mathlib.Core.List.{List, [], _∷_}
 use lib.Ieee.{Float, fin, ofBits, neg, sub, lt}
 use lib.IntN.{pos, negsuc}
-use Rattle.basis.specs.Number.{+0, one, absF, agree, toleranceOf}
+use Rattle.basis.specs.Number.{+0, one, absF, agree, alike}
 use Rattle.basis.specs.declared.number.Tolerance.{Tolerance}
 use Rattle.outline.specs.declared.point.Point.{Point}
 use Rattle.outline.specs.declared.point.Vertex.{Vertex}
@@ -42,7 +42,7 @@ two = fin false 1 (pos 1)
 
 -- t = 1/1024
 abbrev t : Tolerance
-t = toleranceOf (fin false 1 (negsuc 9))
+t = alike (fin false 1 (negsuc 9))
 
 abbrev pub at : Float → Float → Point
 at px py = record { x = px; y = py }

@@ -53,10 +53,11 @@ pub fn entry(
     intersect_index: usize,
     updated_start: Vertex,
     traverse_count: usize,
-    tolerance: f64,
+    tolerance_x: f64,
+    tolerance_y: f64,
     split: Split,
 ) -> ViewAnswer
-    ensures { λ r. ⌜ r ≡ createAnswer (now (outline .entry)) vc (walkOf «start_index» «end_intersect» «intersect_index» «updated_start» «traverse_count» split) (toleranceOf tolerance) split ⌝ }
+    ensures { λ r. ⌜ r ≡ createAnswer (now (outline .entry)) vc (walkOf «start_index» «end_intersect» «intersect_index» «updated_start» «traverse_count» split) (toleranceOf «tolerance_x» «tolerance_y») split ⌝ }
 {
     let part = split.updated_start;
     let w = Walk {
@@ -68,7 +69,8 @@ pub fn entry(
         split_bulge: part.bulge,
     };
     let t = Tolerance {
-        position: tolerance,
+        x: tolerance_x,
+        y: tolerance_y,
     };
     made(outline, vc, w, t, split)
 }

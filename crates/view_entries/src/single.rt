@@ -29,12 +29,14 @@ pub fn entry(
     start_index: usize,
     updated_start: Vertex,
     end_intersect: Point,
-    tolerance: f64,
+    tolerance_x: f64,
+    tolerance_y: f64,
 ) -> ViewAnswer
-    ensures { λ r. ⌜ r ≡ singleAnswer (now (outline .entry)) vc «start_index» «updated_start» «end_intersect» (toleranceOf tolerance) ⌝ }
+    ensures { λ r. ⌜ r ≡ singleAnswer (now (outline .entry)) vc «start_index» «updated_start» «end_intersect» (toleranceOf «tolerance_x» «tolerance_y») ⌝ }
 {
     let t = Tolerance {
-        position: tolerance,
+        x: tolerance_x,
+        y: tolerance_y,
     };
     let number = refusal(outline, vc, start_index, updated_start, end_intersect, t);
     if number != 0 {

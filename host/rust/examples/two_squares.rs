@@ -18,7 +18,11 @@ fn main() -> Result<(), Refusal> {
         pline2: &b,
         intersections: &Intersections::from([crossing(1, 0, 4.0, 2.0), crossing(2, 3, 2.0, 4.0)]),
         overlaps: &Overlaps::new(),
-        tolerance: Tolerance::new(1.0 / 1024.0),
+        // Finer in elevation. `Tolerance::new(t)` is the same on both axes.
+        tolerance: Tolerance {
+            x: 1.0 / 1024.0,
+            y: 1.0 / 4096.0,
+        },
         area_limit: Some(0.001),
     };
     for mode in Mode::ALL {

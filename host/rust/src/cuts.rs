@@ -381,7 +381,7 @@ mod tests {
     use crate::ffi::standin::{told, Lent, Reply};
     use crate::ffi::CountAnswer;
 
-    const T: Tolerance = Tolerance::new(0.25);
+    const T: Tolerance = Tolerance { x: 0.25, y: 0.125 };
 
     fn outline() -> Outline {
         Outline::straight(&[(0.0, 0.0), (1.0, 0.0), (1.0, 1.0)])
@@ -479,7 +479,8 @@ mod tests {
         let lap = vec![1.0, 2.0, 3.0, 4.0, 5.0, 6.0];
         assert_eq!(call.lent("lap"), Lent::Numbers(lap));
         assert_eq!(call.lent("laps"), Lent::Count(1));
-        assert_eq!(call.lent("tolerance"), Lent::Number(0.25));
+        assert_eq!(call.lent("tolerance_x"), Lent::Number(0.25));
+        assert_eq!(call.lent("tolerance_y"), Lent::Number(0.125));
         assert_eq!(call.lent("cut_at"), Lent::Room(3 * 3));
         assert_eq!(call.lent("cut"), Lent::Room(3 * 2));
     }
@@ -517,6 +518,8 @@ mod tests {
         assert_eq!(call.entry, "candidates");
         assert_eq!(call.lent("source"), Lent::Code(1));
         assert_eq!(call.lent("splits"), Lent::Numbers(vec![0.0; 18]));
+        assert_eq!(call.lent("tolerance_x"), Lent::Number(0.25));
+        assert_eq!(call.lent("tolerance_y"), Lent::Number(0.125));
         assert_eq!(call.lent("cand_at"), Lent::Room(2 * 2));
         assert_eq!(call.lent("cand"), Lent::Room(2 * 6));
         assert_eq!(call.lent("probe"), Lent::Room(2 * 6));

@@ -46,6 +46,9 @@
 //! # }
 //! ```
 //!
+//! `Tolerance::new` gives both axes the same tolerance. Where the encoders of one are finer, each has
+//! its own: `Tolerance { x: 1.0 / 1024.0, y: 1.0 / 4096.0 }`.
+//!
 //! # Step by step
 //!
 //! [`Masks::combine`] makes these calls. Each can be made alone:

@@ -16,7 +16,7 @@ pub struct Masks<'a> {
     pub intersections: &'a Intersections,
     /// Where they run on each other.
     pub overlaps: &'a Overlaps,
-    /// How near two points lie that count as one.
+    /// How near two points lie that count as one, on each axis.
     pub tolerance: Tolerance,
     /// Loops whose area is less than this, in magnitude, are left out. None keeps all loops.
     pub area_limit: Option<f64>,
@@ -221,7 +221,7 @@ mod tests {
             pline2: &Outline::straight(&[(2.0, 2.0), (6.0, 2.0), (6.0, 6.0)]),
             intersections: &Intersections::from([Intersection::default()]),
             overlaps: &Overlaps::new(),
-            tolerance: Tolerance::new(0.5),
+            tolerance: Tolerance { x: 0.5, y: 0.25 },
             area_limit,
         };
         told(replies, || masks.combine(Mode::FirstMinusSecond, host))
@@ -272,7 +272,8 @@ mod tests {
         let stitch = &calls[5];
         assert_eq!(stitch.lent("slice_at"), Lent::Counts(vec![2, 0, 1, 2]));
         assert_eq!(stitch.lent("selector"), Lent::Code(1));
-        assert_eq!(stitch.lent("tolerance"), Lent::Number(0.5));
+        assert_eq!(stitch.lent("tolerance_x"), Lent::Number(0.5));
+        assert_eq!(stitch.lent("tolerance_y"), Lent::Number(0.25));
 
         let combined = combined.unwrap();
         assert_eq!(combined.kept, [0]);

@@ -48,21 +48,34 @@ impl Source {
     }
 }
 
-/// How near two points lie that count as one: closer than this in both coordinates.
+/// How near two points lie that count as one: closer than this on each axis.
 ///
-/// It is above 0 and at most 1; else the library refuses with [`Tolerance`](crate::Refusal).
+/// Both numbers are above 0 and at most 1; else the library refuses with
+/// [`Tolerance`](crate::Refusal).
+///
+/// ```
+/// use mask_tools::Tolerance;
+///
+/// // Encoders that are finer in elevation.
+/// let finer = Tolerance { x: 1.0 / 1024.0, y: 1.0 / 4096.0 };
+/// assert_ne!(finer, Tolerance::new(1.0 / 1024.0));
+/// assert_eq!(Tolerance::new(0.5), Tolerance { x: 0.5, y: 0.5 });
+/// ```
 #[derive(Debug, Clone, Copy, PartialEq)]
-pub struct Tolerance(f64);
+pub struct Tolerance {
+    /// Of x: azimuth, or what the host takes for it.
+    pub x: f64,
+    /// Of y: elevation, or what the host takes for it.
+    pub y: f64,
+}
 
 impl Tolerance {
     /// The same tolerance on both axes.
     pub const fn new(tolerance: f64) -> Self {
-        Tolerance(tolerance)
-    }
-
-    /// The number that it was made of.
-    pub const fn get(self) -> f64 {
-        self.0
+        Tolerance {
+            x: tolerance,
+            y: tolerance,
+        }
     }
 }
 

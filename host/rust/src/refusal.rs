@@ -26,8 +26,8 @@ pub enum Refusal {
     /// 3: a mode, selector, source or yes/no code is unknown. The types of this crate leave no
     /// way to write such a code.
     Code,
-    /// 4: a tolerance is not finite, not above 0 or above 1; or an area limit is not finite or
-    /// below 0.
+    /// 4: a tolerance, of x or of y, is not finite, not above 0 or above 1; or an area limit is not
+    /// finite or below 0.
     Tolerance,
     /// 5: a number is not finite or beyond 2^30 in magnitude; of areas: not finite.
     Number,

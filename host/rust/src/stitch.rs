@@ -189,7 +189,7 @@ mod tests {
     use crate::ffi::{CountAnswer, StitchAnswer};
     use crate::{Source, Starts, View};
 
-    const T: Tolerance = Tolerance::new(0.25);
+    const T: Tolerance = Tolerance { x: 0.25, y: 0.125 };
 
     fn outline() -> Outline {
         Outline::straight(&[(0.0, 0.0), (1.0, 0.0), (1.0, 1.0)])

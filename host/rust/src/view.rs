@@ -104,7 +104,8 @@ impl View {
             walk.intersect_index,
             walk.updated_start,
             walk.traverse_count,
-            tolerance.get(),
+            tolerance.x,
+            tolerance.y,
             walk.split,
         );
         Refusal::check(answer.refusal, answer.view.into())
@@ -126,7 +127,8 @@ impl View {
             start_index,
             updated_start,
             end_intersect,
-            tolerance.get(),
+            tolerance.x,
+            tolerance.y,
         );
         let view = (answer.found != 0).then(|| answer.view.into());
         Refusal::check(answer.refusal, view)
@@ -348,7 +350,7 @@ mod tests {
     use crate::ffi::standin::{told, Lent, Reply};
     use crate::ffi::{CountAnswer, VerdictAnswer, VertexAnswer, ViewAnswer};
 
-    const T: Tolerance = Tolerance::new(0.25);
+    const T: Tolerance = Tolerance { x: 0.25, y: 0.125 };
 
     fn outline() -> Outline {
         [Vertex::new(1.0, 2.0, 0.5), Vertex::new(3.0, 4.0, 0.0)].into()
@@ -409,7 +411,8 @@ mod tests {
         assert_eq!(call.lent("intersect_index"), Lent::Count(6));
         assert_eq!(call.lent("updated_start"), Lent::Vertex(walk.updated_start));
         assert_eq!(call.lent("traverse_count"), Lent::Count(7));
-        assert_eq!(call.lent("tolerance"), Lent::Number(0.25));
+        assert_eq!(call.lent("tolerance_x"), Lent::Number(0.25));
+        assert_eq!(call.lent("tolerance_y"), Lent::Number(0.125));
         assert_eq!(call.lent("split"), Lent::Split(walk.split));
     }
 

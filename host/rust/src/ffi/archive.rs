@@ -193,7 +193,8 @@ mod entries {
             intersect_index: usize,
             updated_start: Vertex,
             traverse_count: usize,
-            tolerance: f64,
+            tolerance_x: f64,
+            tolerance_y: f64,
             split: Split,
         ) -> ViewAnswer;
 
@@ -204,7 +205,8 @@ mod entries {
             start_index: usize,
             updated_start: Vertex,
             end_intersect: Point,
-            tolerance: f64,
+            tolerance_x: f64,
+            tolerance_y: f64,
         ) -> ViewAnswer;
 
         pub fn mask_from_entire_pline(
@@ -238,7 +240,8 @@ mod entries {
             lap: *const f64,
             lap_len: usize,
             laps: usize,
-            tolerance: f64,
+            tolerance_x: f64,
+            tolerance_y: f64,
             cut_at: *mut usize,
             cut_at_len: usize,
             cut: *mut f64,
@@ -262,7 +265,8 @@ mod entries {
             laps: usize,
             splits: *const f64,
             splits_len: usize,
-            tolerance: f64,
+            tolerance_x: f64,
+            tolerance_y: f64,
             cand_at: *mut usize,
             cand_at_len: usize,
             cand: *mut f64,
@@ -317,7 +321,8 @@ mod entries {
             pline1_overlapping: usize,
             pline2_overlapping: usize,
             selector: u32,
-            tolerance: f64,
+            tolerance_x: f64,
+            tolerance_y: f64,
             room: *mut f64,
             room_len: usize,
             ends: *mut usize,
@@ -396,7 +401,8 @@ mod entries {
         intersect_index: usize,
         updated_start: Vertex,
         traverse_count: usize,
-        tolerance: f64,
+        tolerance_x: f64,
+        tolerance_y: f64,
         split: Split,
     ) -> ViewAnswer {
         // SAFETY: pointer and length are those of one slice, which is only read.
@@ -410,20 +416,23 @@ mod entries {
                 intersect_index,
                 updated_start,
                 traverse_count,
-                tolerance,
+                tolerance_x,
+                tolerance_y,
                 split,
             )
         }
     }
 
     #[inline]
+    #[allow(clippy::too_many_arguments)] // those of the header
     pub fn create_on_single_segment(
         outline: &[f64],
         vc: usize,
         start_index: usize,
         updated_start: Vertex,
         end_intersect: Point,
-        tolerance: f64,
+        tolerance_x: f64,
+        tolerance_y: f64,
     ) -> ViewAnswer {
         // SAFETY: pointer and length are those of one slice, which is only read.
         unsafe {
@@ -434,7 +443,8 @@ mod entries {
                 start_index,
                 updated_start,
                 end_intersect,
-                tolerance,
+                tolerance_x,
+                tolerance_y,
             )
         }
     }
@@ -478,7 +488,8 @@ mod entries {
         lap_at: &[usize],
         lap: &[f64],
         laps: usize,
-        tolerance: f64,
+        tolerance_x: f64,
+        tolerance_y: f64,
         cut_at: &mut [usize],
         cut: &mut [f64],
     ) -> CountAnswer {
@@ -500,7 +511,8 @@ mod entries {
                 lap.as_ptr(),
                 lap.len(),
                 laps,
-                tolerance,
+                tolerance_x,
+                tolerance_y,
                 cut_at.as_mut_ptr(),
                 cut_at.len(),
                 cut.as_mut_ptr(),
@@ -522,7 +534,8 @@ mod entries {
         lap: &[f64],
         laps: usize,
         splits: &[f64],
-        tolerance: f64,
+        tolerance_x: f64,
+        tolerance_y: f64,
         cand_at: &mut [usize],
         cand: &mut [f64],
         probe: &mut [f64],
@@ -547,7 +560,8 @@ mod entries {
                 laps,
                 splits.as_ptr(),
                 splits.len(),
-                tolerance,
+                tolerance_x,
+                tolerance_y,
                 cand_at.as_mut_ptr(),
                 cand_at.len(),
                 cand.as_mut_ptr(),
@@ -628,7 +642,8 @@ mod entries {
         pline1_overlapping: usize,
         pline2_overlapping: usize,
         selector: u32,
-        tolerance: f64,
+        tolerance_x: f64,
+        tolerance_y: f64,
         room: &mut [f64],
         ends: &mut [usize],
         chain: &mut [usize],
@@ -654,7 +669,8 @@ mod entries {
                 pline1_overlapping,
                 pline2_overlapping,
                 selector,
-                tolerance,
+                tolerance_x,
+                tolerance_y,
                 room.as_mut_ptr(),
                 room.len(),
                 ends.as_mut_ptr(),

@@ -200,19 +200,19 @@ pub(crate) mod entries {
 
     pub(crate) fn create(
         outline: &[f64], vc: usize, start_index: usize, end_intersect: Point, intersect_index: usize,
-        updated_start: Vertex, traverse_count: usize, tolerance: f64, split: Split,
+        updated_start: Vertex, traverse_count: usize, tolerance_x: f64, tolerance_y: f64, split: Split,
     ) -> ViewAnswer {
         let call = call!(create: outline, vc, start_index, end_intersect, intersect_index,
-            updated_start, traverse_count, tolerance, split;);
+            updated_start, traverse_count, tolerance_x, tolerance_y, split;);
         play(call, &mut [], &mut []).into()
     }
 
     pub(crate) fn create_on_single_segment(
         outline: &[f64], vc: usize, start_index: usize, updated_start: Vertex, end_intersect: Point,
-        tolerance: f64,
+        tolerance_x: f64, tolerance_y: f64,
     ) -> ViewAnswer {
         let call = call!(create_on_single_segment: outline, vc, start_index, updated_start,
-            end_intersect, tolerance;);
+            end_intersect, tolerance_x, tolerance_y;);
         play(call, &mut [], &mut []).into()
     }
 
@@ -229,21 +229,21 @@ pub(crate) mod entries {
 
     pub(crate) fn cut_order(
         outline: &[f64], vc: usize, source: u32, hit_at: &[usize], hit: &[f64], hits: usize,
-        lap_at: &[usize], lap: &[f64], laps: usize, tolerance: f64,
+        lap_at: &[usize], lap: &[f64], laps: usize, tolerance_x: f64, tolerance_y: f64,
         cut_at: &mut [usize], cut: &mut [f64],
     ) -> CountAnswer {
         let call = call!(cut_order: outline, vc, source, hit_at, hit, hits, lap_at, lap, laps,
-            tolerance; cut_at, cut);
+            tolerance_x, tolerance_y; cut_at, cut);
         play(call, &mut [cut_at], &mut [cut]).into()
     }
 
     pub(crate) fn candidates(
         outline: &[f64], vc: usize, source: u32, hit_at: &[usize], hit: &[f64], hits: usize,
-        lap_at: &[usize], lap: &[f64], laps: usize, splits: &[f64], tolerance: f64,
+        lap_at: &[usize], lap: &[f64], laps: usize, splits: &[f64], tolerance_x: f64, tolerance_y: f64,
         cand_at: &mut [usize], cand: &mut [f64], probe: &mut [f64],
     ) -> CountAnswer {
         let call = call!(candidates: outline, vc, source, hit_at, hit, hits, lap_at, lap, laps,
-            splits, tolerance; cand_at, cand, probe);
+            splits, tolerance_x, tolerance_y; cand_at, cand, probe);
         play(call, &mut [cand_at], &mut [cand, probe]).into()
     }
 
@@ -263,12 +263,12 @@ pub(crate) mod entries {
         outline1: &[f64], vc1: usize, outline2: &[f64], vc2: usize,
         slice_at: &[usize], slice: &[f64], slices: usize,
         pline2: usize, pline1_overlapping: usize, pline2_overlapping: usize,
-        selector: u32, tolerance: f64,
+        selector: u32, tolerance_x: f64, tolerance_y: f64,
         room: &mut [f64], ends: &mut [usize], chain: &mut [usize], chain_ends: &mut [usize],
         chain_how: &mut [usize],
     ) -> StitchAnswer {
         let call = call!(stitch: outline1, vc1, outline2, vc2, slice_at, slice, slices, pline2,
-            pline1_overlapping, pline2_overlapping, selector, tolerance;
+            pline1_overlapping, pline2_overlapping, selector, tolerance_x, tolerance_y;
             room, ends, chain, chain_ends, chain_how);
         play(call, &mut [ends, chain, chain_ends, chain_how], &mut [room]).into()
     }

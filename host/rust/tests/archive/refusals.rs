@@ -13,6 +13,17 @@ const TOO_LARGE: f64 = (1u64 << 30) as f64 + 1.0;
 const BAD_NUMBERS: [f64; 4] = [f64::NAN, f64::INFINITY, f64::NEG_INFINITY, TOO_LARGE];
 const BAD_TOLERANCES: [f64; 6] = [0.0, -0.5, 1.5, f64::NAN, f64::INFINITY, -0.0];
 
+/// Each of them on x, on y, and on both.
+fn bad_tolerances() -> impl Iterator<Item = Tolerance> {
+    BAD_TOLERANCES.into_iter().flat_map(|t| {
+        [
+            Tolerance { x: t, ..T },
+            Tolerance { y: t, ..T },
+            Tolerance::new(t),
+        ]
+    })
+}
+
 fn line_of(vertices: usize) -> Outline {
     (0..vertices)
         .map(|i| Vertex::new(i as f64, 0.0, 0.0))
@@ -87,8 +98,8 @@ fn of_create() {
     for (outline, refusal) in bad_outlines() {
         assert_eq!(create(&outline, walk(), T), Err(refusal));
     }
-    for t in BAD_TOLERANCES {
-        let found = create(&a(), walk(), Tolerance::new(t));
+    for t in bad_tolerances() {
+        let found = create(&a(), walk(), t);
         assert_eq!(found, Err(Refusal::Tolerance));
     }
     for x in BAD_NUMBERS {
@@ -133,8 +144,8 @@ fn of_create_on_single_segment() {
     for (outline, refusal) in bad_outlines() {
         assert_eq!(create(&outline, 0, 1.0, T), Err(refusal));
     }
-    for t in BAD_TOLERANCES {
-        let found = create(&a(), 0, 1.0, Tolerance::new(t));
+    for t in bad_tolerances() {
+        let found = create(&a(), 0, 1.0, t);
         assert_eq!(found, Err(Refusal::Tolerance));
     }
     for x in BAD_NUMBERS {
@@ -183,7 +194,7 @@ struct Meeting {
     outline: Outline,
     hits: Intersections,
     laps: Overlaps,
-    tolerance: f64,
+    tolerance: Tolerance,
 }
 
 impl Meeting {
@@ -192,12 +203,12 @@ impl Meeting {
             outline: a(),
             hits: hits(),
             laps: Overlaps::new(),
-            tolerance: T.get(),
+            tolerance: T,
         }
     }
 
     fn answers(&self, source: Source) -> [Result<usize, Refusal>; 2] {
-        let t = Tolerance::new(self.tolerance);
+        let t = self.tolerance;
         let cuts = cut_order(&self.outline, source, &self.hits, &self.laps, t);
         let count = lent::cuts_needed(&self.hits, &self.laps);
         let splits: Splits = (0..count).map(|_| CutSplit::default()).collect();
@@ -234,7 +245,7 @@ fn of_cut_order_and_candidates() {
             };
             assert_eq!(bad.refused(source), Some(refusal));
         }
-        for tolerance in BAD_TOLERANCES {
+        for tolerance in bad_tolerances() {
             let bad = Meeting {
                 tolerance,
                 ..Meeting::of_a()
@@ -413,10 +424,10 @@ fn slices(view: View, count: usize) -> Slices {
 
 #[test]
 fn of_stitch() {
-    let stitched = |pline1: &Outline, pline2: &Outline, slices: &Slices, t: f64| {
-        stitch(pline1, pline2, slices, Selector::OrAnd, Tolerance::new(t)).map(|_| ())
+    let stitched = |pline1: &Outline, pline2: &Outline, slices: &Slices, t| {
+        stitch(pline1, pline2, slices, Selector::OrAnd, t).map(|_| ())
     };
-    let (a, b, t) = (a(), b(), T.get());
+    let (a, b, t) = (a(), b(), T);
     assert_eq!(stitched(&a, &b, &slices(view(), 1792), t), Ok(()));
     let found = stitched(&a, &b, &slices(view(), 1793), t);
     assert_eq!(found, Err(Refusal::Length));
@@ -424,7 +435,7 @@ fn of_stitch() {
         assert_eq!(stitched(&outline, &b, &slices(view(), 1), t), Err(refusal));
         assert_eq!(stitched(&a, &outline, &slices(view(), 1), t), Err(refusal));
     }
-    for t in BAD_TOLERANCES {
+    for t in bad_tolerances() {
         let found = stitched(&a, &b, &slices(view(), 1), t);
         assert_eq!(found, Err(Refusal::Tolerance));
     }
@@ -569,7 +580,7 @@ fn a_whole_run_gives_the_refusal_of_its_first_call() {
         let host: &mut dyn Host = &mut StraightHost;
         masks.combine(Mode::Union, host).err()
     };
-    let t = T.get();
+    let t = T.x;
     assert_eq!(run(&a(), &hits(), t, None), None);
     assert_eq!(run(&line_of(1), &hits(), t, None), Some(Refusal::Outline));
     assert_eq!(run(&a(), &hits(), 2.0, None), Some(Refusal::Tolerance));

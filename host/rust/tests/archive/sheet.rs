@@ -210,3 +210,32 @@ fn t10_in_the_box_at_exactly_t() {
     );
     assert!(view.unwrap().is_some());
 }
+
+#[test]
+fn each_axis_has_its_own_tolerance() {
+    let t = Tolerance { x: 0.5, y: 0.25 };
+    let end = Point::new(2.0, 2.0);
+    let found = |dx, dy| {
+        let start = Vertex::new(end.x + dx, end.y + dy, 0.0);
+        let view = View::create_on_single_segment(&a(), 0, start, end, t);
+        view.unwrap().is_some()
+    };
+    assert!(!found(0.375, 0.125));
+    assert!(found(0.5, 0.0) && found(0.0, 0.25) && found(0.125, 0.375));
+
+    // A slice that starts off the end of another by exactly t on both axes.
+    let chains = |x, y| {
+        let slices = Slices {
+            list: [line((0.0, 0.0), (1.0, 1.0)), line((x, y), (9.0, 9.0))].into(),
+            starts: Starts {
+                pline2: 2,
+                pline1_overlapping: 2,
+                pline2_overlapping: 2,
+            },
+        };
+        let found = stitch(&a(), &b(), &slices, Selector::OrAnd, t);
+        found.unwrap().chain_count()
+    };
+    assert_eq!(chains(1.5, 1.25), 1);
+    assert_eq!((chains(1.5, 1.375), chains(1.625, 1.25)), (2, 2));
+}
