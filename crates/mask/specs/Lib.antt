@@ -3,4 +3,5 @@ pub mod Pipeline
 pub mod OneAnswer
 pub mod First
 pub mod NoGuards
+pub mod OneTolerance
 pub mod Joins
