@@ -81,7 +81,7 @@ pub tight-apart : (natAbs (whole px -ℤ whole ex) ≡ natAbs (whole tx) + twoTo
 unfolding scaled ofBits
 tight-apart = (refl, refl)
 
-tight-start : posOf (vertex px py) ≡ startPoint tight 0
+pub tight-start : posOf (vertex px py) ≡ startPoint tight 0
 unfolding slices
 tight-start = refl
 
