@@ -5,12 +5,12 @@ use mathlib.Core.Path.{_≡_, refl, ap, _∙_}
 use mathlib.Core.List.{List, [], _∷_, _++_, map}
 use native.Mathlib.Nat.{pow-le-pow-right}
 use native.Mathlib.Omega.{arith}
-use lib.Dec.{T}
 use lib.ListN.{length, getD, take, drop}
-use lib.Ieee.{Float, binary64, fits, nanBits, ofBits, lt, le, eq}
+use lib.Ieee.{Float, binary64, nanBits, ofBits, lt, le, eq}
 use Rattle.basis.specs.All.{allOf}
 use Rattle.basis.specs.Choice.{by-test, clash, and-left, and-right}
 use Rattle.basis.specs.Number.{absF, within, allWithin, tolerableOn}
+use Rattle.stitch_run.specs.Doubles.{AllDouble}
 use Rattle.fields.specs.Fields.{rows, infinity, numOf, bitsOf}
 use Rattle.fields.specs.FieldLaws.{thin-narrow, narrow-append, narrow-rows}
 use Rattle.fields.specs.NumberLaws.{AllPlain, plain-none, plain-one, bits-below, bits-num, nan-read}
@@ -20,16 +20,11 @@ use Rattle.slice.specs.Slice.{codeWidth, shapeWidth, codesAt}
 use Rattle.record.specs.Form.{form1, vertexShape, bodyOf, column, mix}
 use Rattle.record_write.specs.KeepLaws.{within-no-nan}
 
--- what every list of f64 in memory is: numbers that the format holds
-pub data Held : List Float → Type 0 where
-  held-none : Held []
-  held-one : {x : Float} {xs : List Float} → T (fits binary64 x) → Held xs → Held (x ∷ xs)
-
-pub all-plain : {l : List Float} → Held l → allWithin l ≡ true → AllPlain l
+pub all-plain : (l : List Float) → AllDouble l → allWithin l ≡ true → AllPlain l
 unfolding allOf
-all-plain held-none e = plain-none
-all-plain (held-one {x} {xs} h r) e =
-    plain-one (record { held = h; number = within-no-nan x (and-left (within x) (allOf within xs) e) }) (all-plain r (and-right (within x) (allOf within xs) e))
+all-plain [] h e = plain-none
+all-plain (x ∷ xs) h e =
+    plain-one (record { held = h .0; number = within-no-nan x (and-left (within x) (allOf within xs) e) }) (all-plain xs (h .1) (and-right (within x) (allOf within xs) e))
 
 -- every value is below 2^64
 pub data Below : List ℕ → Type 0 where

@@ -5,10 +5,10 @@ use mathlib.Core.Path.{_≡_, refl, sym, ap, _∙_}
 use mathlib.Core.List.{List, [], _∷_, _++_, map, append-assoc, append-nil}
 use native.Mathlib.Omega.{arith}
 use borrow.Author.Tests.{ltb-false, le-ltb, le-leb, eq-eqb, eqb-true, not-false}
-use lib.Dec.{T, ltb, eqb}
+use lib.Dec.{ltb, eqb}
 use lib.ListN.{length, take, drop, length-append, length-map}
 use lib.Seq.{take-at, drop-at, drop-drop}
-use lib.Ieee.{Float, binary64, fits}
+use lib.Ieee.{Float}
 use Rattle.basis.specs.Choice.{by-test, or-left, or-right}
 use Rattle.basis.specs.Number.{allWithin, toleranceOf, alike}
 use Rattle.basis.specs.Refuse.{row, firstOf, sourceFault}
@@ -16,6 +16,7 @@ use Rattle.basis.specs.RefuseLaws.{Clear, clear, clear-left, clear-both, none-c
 use Rattle.slice.specs.Slice.{codeWidth, shapeWidth, codesAt}
 use Rattle.slice.specs.Faults.{sourceKnown}
 use Rattle.slice.specs.SliceLaws.{slice-at, turned-at, start-at, offset-at}
+use Rattle.stitch_run.specs.Doubles.{Doubles}
 use Rattle.stitch_run.specs.Stitch.{Given, planOf}
 use Rattle.stitch_entries.specs.StitchRows.{startsFault}
 use Rattle.fields.specs.Fields.{size, bytesOf, valueOf, pack, unpack, numOf, bitsOf}
@@ -30,15 +31,7 @@ use Rattle.record_write.specs.Writer.{keepRows, lengthGiven, writeRows, 
 use Rattle.record_write.specs.Ready.{Keeps}
 use Rattle.record_write.specs.KeepLaws.{tolerable-no-nan, taken-clear, codes-clear, numbers-clear, indexes-clear, y-tolerable, one-pattern, keeps, record-long}
 use Rattle.record_write.specs.Columns.{codes-back, numbers-back}
-use Rattle.record_write.specs.Fits.{Held, all-plain, bits-all-below, below-append, CodesFit, vertices-fitted, slices-fitted}
-
--- every f64 of a stitch is one that the format holds, as all in memory are
-pub record HeldGiven (g : Given) : Type 0 where
-  pub toleranceX : T (fits binary64 (g .tolerance .x))
-  pub toleranceY : T (fits binary64 (g .tolerance .y))
-  pub first : Held (g .outline1)
-  pub second : Held (g .outline2)
-  pub numbers : Held (g .slice)
+use Rattle.record_write.specs.Fits.{all-plain, bits-all-below, below-append, CodesFit, vertices-fitted, slices-fitted}
 
 -- lists with room for what is read back
 pub record RoomFor (g : Given) (l : Lengths) : Type 0 where
@@ -47,18 +40,18 @@ pub record RoomFor (g : Given) (l : Lengths) : Type 0 where
   pub codes : codeWidth * g .slices ≤ l .«slice_at»
   pub shapes : shapeWidth * g .slices ≤ l .slice
 
-module _ (g : Given) (ok : Clear (keepRows g)) (held : HeldGiven g) where
+module _ (g : Given) (ok : Clear (keepRows g)) (held : Doubles g) where
   kept : Keeps g (lengthGiven form1 g)
   kept = keeps g ok (lengthGiven form1 g) (omega arith)
 
   plain1 : AllPlain (g .outline1)
-  plain1 = all-plain (held .first) (not-false (allWithin (g .outline1)) (numbers-clear g ok .1 .0))
+  plain1 = all-plain (g .outline1) (held .first) (not-false (allWithin (g .outline1)) (numbers-clear g ok .1 .0))
 
   plain2 : AllPlain (g .outline2)
-  plain2 = all-plain (held .second) (not-false (allWithin (g .outline2)) (numbers-clear g ok .1 .1 .0))
+  plain2 = all-plain (g .outline2) (held .second) (not-false (allWithin (g .outline2)) (numbers-clear g ok .1 .1 .0))
 
   plain3 : AllPlain (g .slice)
-  plain3 = all-plain (held .numbers) (not-false (allWithin (g .slice)) (numbers-clear g ok .1 .1 .1 .0))
+  plain3 = all-plain (g .slice) (held .numbers) (not-false (allWithin (g .slice)) (numbers-clear g ok .1 .1 .1 .0))
 
   plain-x : Plain (g .tolerance .x)
   plain-x = record { held = held .toleranceX; number = kept .tolerance }
@@ -259,7 +252,7 @@ pub record ReadsBack (g : Given) : Type 0 where
   pub same : stitchIn form1 (recordOf form1 g) ≡ g
   pub accepted : (l : Lengths) → RoomFor g l → readRefusal form1 (recordOf form1 g) l ≡ 0
 
-pub write-then-read : (g : Given) (room : ℕ) → writeRefusal form1 g room ≡ 0 → HeldGiven g → ReadsBack g
+pub write-then-read : (g : Given) (room : ℕ) → writeRefusal form1 g room ≡ 0 → Doubles g → ReadsBack g
 unfolding writeRefusal
 write-then-read g room z held =
     let ok = clear-left (keepRows g) (row (ltb room (lengthGiven form1 g)) 9 ∷ []) (clear (writeRows form1 g room) tt z) in

@@ -1,5 +1,6 @@
 pub mod Run
 pub mod Stitch
+pub mod Doubles
 pub mod Demand3
 pub mod SumLaws
 pub mod TallyLaws

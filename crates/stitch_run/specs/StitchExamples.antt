@@ -41,7 +41,7 @@ rounds : Unit {0}
 unfolding passing free candidate candidatesOf taken answered asked nextOf roundOf opened onward ended walk chainFrom added begun turn turns run
 rounds = tt
 
-runs : Unit {0}
+unfoldable pub runs : Unit {0}
 unfolding slices selectors rounds rulesOf runOf
 runs = tt
 

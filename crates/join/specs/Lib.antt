@@ -1,0 +1,11 @@
+pub mod Join
+pub mod WholeLaws
+pub mod RoundLaws
+pub mod SumLaws
+pub mod SpanLaws
+pub mod BoxLaws
+pub mod AxisLaws
+pub mod OfferLaws
+pub mod RangeLaws
+pub mod JoinTheorems
+pub mod JoinExamples
