@@ -2,10 +2,11 @@
 
 use oracle::call::Outcome;
 use oracle::random::Random;
-use oracle::record::Record;
+use oracle::record::{Origin, Record};
 use oracle::tally::{Tally, quiet_caught_panics};
 use oracle::{
-    axes, damaged, findings, hostile, limits, ours, print, realistic, refusal, second, theirs,
+    axes, damaged, findings, hostile, limits, ours, print, realistic, refusal, second, starts,
+    theirs,
 };
 use std::process::ExitCode;
 
@@ -15,6 +16,7 @@ const USAGE: &str = "usage:
   compare --scenario NUMBER SEED    one scenario alone
   compare --axes N SEED             N calls of each entry that takes tolerances, with two that differ
   compare --judges N SEED           the same, only the judges beside each other
+  compare --starts N SEED           N outlines of few vertices, with all pairs of their points
   compare --paste 'WORDS'           one call, as a difference prints it, answered both ways
   compare --findings                the known differences, each at its smallest input";
 
@@ -25,8 +27,9 @@ fn main() -> ExitCode {
     let done = match arguments[..] {
         ["--record", file, count, seed] => record(file, count, seed),
         ["--scenario", number, seed] => one_scenario(number, seed),
-        ["--axes", count, seed] => with_axes(count, seed, axes::scenario),
-        ["--judges", count, seed] => with_axes(count, seed, axes::judges),
+        ["--axes", count, seed] => alone(count, seed, AXES, axes::scenario),
+        ["--judges", count, seed] => alone(count, seed, AXES, axes::judges),
+        ["--starts", count, seed] => alone(count, seed, STARTS, starts::scenario),
         ["--paste", words] => paste(words),
         ["--findings"] => {
             findings::show();
@@ -49,7 +52,7 @@ fn scenario_numbers(seed: u64, number: u64) -> Random {
 fn scenario(tally: &mut Tally, seed: u64, number: u64) {
     tally.scenario = number;
     let mut rng = scenario_numbers(seed, number);
-    // What no record holds is drawn apart, so that a record stays as it is.
+    // What came after the base is drawn apart, so that the base's calls in a record stay as they are.
     let mut later = rng.apart();
     match number % 10 {
         0..=4 => realistic::scenario(tally, &mut rng),
@@ -66,6 +69,9 @@ fn scenario(tally: &mut Tally, seed: u64, number: u64) {
     if number % 500 == 0 {
         limits::scenario(tally, &mut rng);
     }
+    if number % 100 == 50 {
+        starts::scenario(tally, &mut later);
+    }
 }
 
 fn compare(count: &str, seed: &str) -> Option<ExitCode> {
@@ -79,8 +85,16 @@ fn compare(count: &str, seed: &str) -> Option<ExitCode> {
     Some(report(&tally))
 }
 
-/// Calls with two tolerances.
-fn with_axes(count: &str, seed: &str, make: fn(&mut Tally, &mut Random)) -> Option<ExitCode> {
+const AXES: &str = "calls of each entry that takes tolerances";
+const STARTS: &str = "outlines with all pairs of their points";
+
+/// One family alone.
+fn alone(
+    count: &str,
+    seed: &str,
+    what: &str,
+    make: fn(&mut Tally, &mut Random),
+) -> Option<ExitCode> {
     let count: u64 = count.parse().ok()?;
     let seed: u64 = seed.parse().ok()?;
     let mut tally = Tally::default();
@@ -88,7 +102,7 @@ fn with_axes(count: &str, seed: &str, make: fn(&mut Tally, &mut Random)) -> Opti
         tally.scenario = number;
         make(&mut tally, &mut scenario_numbers(seed, number).apart());
     }
-    println!("{count} calls of each entry that takes tolerances, seed {seed}\n");
+    println!("{count} {what}, seed {seed}\n");
     Some(report(&tally))
 }
 
@@ -119,7 +133,14 @@ fn record(file: &str, count: &str, seed: &str) -> Option<ExitCode> {
             break;
         }
     }
-    let record = tally.record.take()?;
+    let mut record = tally.record.take()?;
+    for call in starts::corners() {
+        let (expected, origin) = match refusal::expected(&call) {
+            0 => (theirs::answer(&call), Origin::Original),
+            number => (Outcome::refused(&call, number), Origin::Table),
+        };
+        record.add(&call, &expected, origin);
+    }
     let bytes = record.bytes();
     if let Err(fault) = std::fs::write(file, &bytes) {
         eprintln!("compare: {file}: {fault}");

@@ -1,6 +1,7 @@
 // A case: its words in every form, and the entry that it is of.
 use crate::bits;
 use crate::lists;
+use crate::starts;
 use crate::views;
 use crate::words;
 
@@ -28,6 +29,9 @@ fn replay(
         7 => lists::prune(w, x, b, c1, x1),
         8 => lists::stitch(w, x, x1, c1, c2, c3, c4),
         9 => lists::area_pass(w, x, c1),
+        10 => starts::slice_span(w, x),
+        11 => starts::from_slice_points(w, x),
+        12 => starts::from_new_start(w, x),
         _ => false,
     }
 }

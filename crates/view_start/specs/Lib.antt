@@ -1,0 +1,11 @@
+pub mod Span
+pub mod SlicePoints
+pub mod NewStart
+pub mod Asked
+pub mod SpanLaws
+pub mod SpanTheorems
+pub mod StartTheorems
+pub mod AskedTheorems
+pub mod RustText
+pub mod RustTheorems
+pub mod StartExamples
