@@ -86,7 +86,8 @@ pub(crate) fn split_refusal(r: u32, start: Split, end: Split) -> u32
 pub(crate) fn index_refusal(r: u32, vc: usize, e: Ends) -> u32
     ensures { λ n. ⌜ n ≡ firstFrom r (indexRows vc e) ⌝ }
 {
+    let back = runs_back(e);
     let r = refuse::or_else(r, vc <= e.start_index, 6);
     let r = refuse::or_else(r, vc <= e.end_index, 6);
-    refuse::or_else(r, runs_back(e), 15)
+    refuse::or_else(r, back, 15)
 }

@@ -4,14 +4,14 @@ use borrow.Author.Needs.{needs}
 use Rattle.view_start_entries.proofs.faults.index_refusal.Statement.{statement}
 use Rattle.view_start_entries.proofs.faults.index_refusal.Tie as tie
 
+runs-back-requires : tie.Need-runs-back-requires
+runs-back-requires c κs = search needs
+
 or-else-requires : tie.Need-or-else-requires
 or-else-requires c κs = search needs
 
 or-else-requires-2 : tie.Need-or-else-requires-2
 or-else-requires-2 c κs = search needs
-
-runs-back-requires : tie.Need-runs-back-requires
-runs-back-requires c κs = search needs
 
 or-else-requires-3 : tie.Need-or-else-requires-3
 or-else-requires-3 c κs = search needs
@@ -23,4 +23,4 @@ returns c = search rows depth 24
 pub index-refusal-spec : {M : Type 1} → statement M
 index-refusal-spec =
     tie.close
-    (tie.spec or-else-requires or-else-requires-2 runs-back-requires or-else-requires-3 returns)
+    (tie.spec runs-back-requires or-else-requires or-else-requires-2 or-else-requires-3 returns)
