@@ -9,9 +9,7 @@ use crate::tally::{FAMILIES, Family, NUMBERS};
 const MAGIC: u64 = u64::from_le_bytes(*b"MASKVEC1");
 
 /// The longest case kept, in words, by entry.
-const LONGEST: [usize; RECORDED] = [
-    70, 90, 60, 50, 70, 140, 210, 190, 300, 60, 60, 80, 80,
-];
+const LONGEST: [usize; RECORDED] = [70, 90, 60, 50, 70, 140, 210, 190, 300, 60, 60, 80, 80];
 
 /// `mask_validate_for_source` gives 2 for an outline that is too long, and for no other. So one long
 /// case is kept.
