@@ -6,6 +6,4 @@ pub mod SpanLaws
 pub mod SpanTheorems
 pub mod StartTheorems
 pub mod AskedTheorems
-pub mod RustText
-pub mod RustTheorems
 pub mod StartExamples

@@ -28,8 +28,8 @@ use Rattle.view_start.specs.SlicePoints.{sliceView}
 use Rattle.view_start.specs.NewStart.{newEnds, newStartView}
 use Rattle.view_start.specs.Asked.{Asked, Parts, startAsked, endAsked, handedIn}
 use Rattle.view_start.specs.StartTheorems.{slice-fits, slice-numbers, new-start-fits, new-start-numbers}
-use Rattle.view_start.specs.RustText as rust
-use Rattle.view_start.specs.RustTheorems.{slice-is, new-start-is}
+use Rattle.view_start_entries.specs.RustText as rust
+use Rattle.view_start_entries.specs.RustTheorems.{slice-is, new-start-is}
 use Rattle.view_start_entries.specs.StartRows.{splitsOf, endsNumbers, splitNumbers}
 use Rattle.view_start_entries.specs.SliceEntry.{sliceRows, sliceRefusal, sliceAnswer, slice-accepted}
 use Rattle.view_start_entries.specs.NewStartEntry.{newStartRows, newStartRefusal, newStartAnswer, new-start-accepted}

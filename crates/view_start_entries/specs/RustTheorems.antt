@@ -1,4 +1,4 @@
--- The definitions of this crate are the Rust's text, where the host splits as it is asked.
+-- The definitions of `view_start` are the Rust's text, where the host splits as it is asked.
 use Prim.Native.Nat.{ℕ, _+_, _-_, _≤_, _<_}
 use mathlib.Core.Bool.{Bool, true, false, not, cond, _&&_, _||_}
 use mathlib.Core.Path.{_≡_, refl, sym, ap, ap₂, subst, _∙_}
@@ -20,17 +20,17 @@ use Rattle.view.specs.declared.create.Walk.{Walk}
 use Rattle.view.specs.declared.create.OneSegment.{OneSegment}
 use Rattle.view.specs.declared.create.OneSegment.the-variants as one
 use Rattle.view.specs.Create.{viewOf, nearVertex, bulgeBefore, createView, singleView}
 use Rattle.view_start.specs.declared.span.Ends.{Ends}
 use Rattle.view_start.specs.declared.span.Span.{Span}
 use Rattle.view_start.specs.declared.slice_points.Splits.{Splits}
 use Rattle.view_start.specs.Span.{EndsFit, endsOf, canMove, movesOn, startIndex, ahead, decided, startNearer, traverse, spanWith, spanOf}
 use Rattle.view_start.specs.SpanLaws.{start-lt, last-ends}
 use Rattle.view_start.specs.SlicePoints.{runningVertex, walkFrom, walkOver, collapses, walkedView, slicedView, sliceView}
 use Rattle.view_start.specs.NewStart.{roundEnds, lastEnds, newEnds, roundView, newStartView}
 use Rattle.view_start.specs.StartTheorems.{view-fields, startOf, start-below, round-on-vertex, round-between}
 use Rattle.view_start.specs.SpanTheorems.{ahead-up, ahead-round}
 use Rattle.view_start.specs.Asked.{Asked, Parts, asked, startAsked, endAsked, handedIn}
-use Rattle.view_start.specs.RustText as rust
+use Rattle.view_start_entries.specs.RustText as rust
 
 -- points agree either way round
 agree-swap : (t : Tolerance) (p q : Point) → pointsAgree t p q ≡ pointsAgree t q p

@@ -1,5 +1,5 @@
 -- The Rust's text, line by line, over any function that splits: `from_slice_points` and `from_new_start` of pline_view.rs, with what they call. `RustTheorems`
--- says that the definitions of this crate are these, where the host splits as it is asked.
+-- says that the definitions of `view_start` are these, where the host splits as it is asked.
 use Prim.Native.Nat.{ℕ, _+_, _-_}
 use mathlib.Core.Bool.{Bool, true, false, not, cond, _&&_}
 use mathlib.Core.List.{List}
