@@ -13,6 +13,8 @@ use std::process::ExitCode;
 const USAGE: &str = "usage:
   compare N SEED                    N generated scenarios, each of many entry calls
   compare --record FILE COUNT SEED  writes about COUNT of the compared calls to FILE (RECORD.md)
+  compare --record-later FILE COUNT SEED
+                                    the same, and the base's calls stay those that FILE has
   compare --scenario NUMBER SEED    one scenario alone
   compare --axes N SEED             N calls of each entry that takes tolerances, with two that differ
   compare --judges N SEED           the same, only the judges beside each other
@@ -25,7 +27,14 @@ fn main() -> ExitCode {
     let arguments: Vec<String> = std::env::args().skip(1).collect();
     let arguments: Vec<&str> = arguments.iter().map(String::as_str).collect();
     let done = match arguments[..] {
-        ["--record", file, count, seed] => record(file, count, seed),
+        ["--record", file, count, seed] => record(file, count, seed, None),
+        ["--record-later", file, count, seed] => match std::fs::read(file) {
+            Ok(bytes) => record(file, count, seed, Some(&bytes)),
+            Err(fault) => {
+                eprintln!("compare: {file}: {fault}");
+                Some(ExitCode::from(2))
+            }
+        },
         ["--scenario", number, seed] => one_scenario(number, seed),
         ["--axes", count, seed] => alone(count, seed, AXES, axes::scenario),
         ["--judges", count, seed] => alone(count, seed, AXES, axes::judges),
@@ -121,7 +130,8 @@ fn report(tally: &Tally) -> ExitCode {
     ExitCode::from(u8::from(unexplained > 0))
 }
 
-fn record(file: &str, count: &str, seed: &str) -> Option<ExitCode> {
+/// Where there is a record already, its calls of the base stay.
+fn record(file: &str, count: &str, seed: &str, before: Option<&[u8]>) -> Option<ExitCode> {
     let count: usize = count.parse().ok()?;
     let seed: u64 = seed.parse().ok()?;
     let mut tally = Tally::default();
@@ -140,6 +150,10 @@ fn record(file: &str, count: &str, seed: &str) -> Option<ExitCode> {
             number => (Outcome::refused(&call, number), Origin::Table),
         };
         record.add(&call, &expected, origin);
+    }
+    if before.is_some_and(|bytes| record.keep_base(bytes).is_none()) {
+        eprintln!("compare: {file}: not a record");
+        return Some(ExitCode::from(2));
     }
     let bytes = record.bytes();
     if let Err(fault) = std::fs::write(file, &bytes) {

@@ -88,6 +88,27 @@ impl Record {
         self.cases[1].push(case_words(call, expected, origin));
     }
 
+    /// Takes the base's cases from the bytes of a record that is there, in place of its own. None where
+    /// they are no record.
+    pub fn keep_base(&mut self, bytes: &[u8]) -> Option<()> {
+        let (words, rest) = bytes.as_chunks::<8>();
+        let words: Vec<u64> = words.iter().map(|word| u64::from_le_bytes(*word)).collect();
+        let (head, mut left) = words.split_at_checked(2)?;
+        if !rest.is_empty() || head[0] != MAGIC {
+            return None;
+        }
+        self.cases[0].clear();
+        for _ in 0..head[1] {
+            let length = usize::try_from(*left.get(1)?).ok()?.checked_add(2)?;
+            let (case, after) = left.split_at_checked(length)?;
+            if case[0] < BASE as u64 {
+                self.cases[0].push(case.to_vec());
+            }
+            left = after;
+        }
+        left.is_empty().then_some(())
+    }
+
     /// Whether every place is taken.
     pub fn full(&self) -> bool {
         self.wanted
