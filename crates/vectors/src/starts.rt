@@ -10,7 +10,7 @@ fn is_span_answer(w: &[usize], r: SpanAnswer) -> bool {
         && words::at(w, 3) == r.traverse_count
 }
 
-pub(crate) fn slice_span(w: &[usize], x: &[f64]) -> bool {
+fn slice_span(w: &[usize], x: &[f64]) -> bool {
     let outline = words::numbers(w, x, 1);
     let p = words::behind(w, 1);
     let r = words::from(w, p);
@@ -29,7 +29,7 @@ pub(crate) fn slice_span(w: &[usize], x: &[f64]) -> bool {
     is_span_answer(words::from(r, 9), answer)
 }
 
-pub(crate) fn from_slice_points(w: &[usize], x: &[f64]) -> bool {
+fn from_slice_points(w: &[usize], x: &[f64]) -> bool {
     let outline = words::numbers(w, x, 1);
     let p = words::behind(w, 1);
     let r = words::from(w, p);
@@ -50,7 +50,7 @@ pub(crate) fn from_slice_points(w: &[usize], x: &[f64]) -> bool {
     views::is_view_answer(words::from(r, 21), answer)
 }
 
-pub(crate) fn from_new_start(w: &[usize], x: &[f64]) -> bool {
+fn from_new_start(w: &[usize], x: &[f64]) -> bool {
     let outline = words::numbers(w, x, 1);
     let p = words::behind(w, 1);
     let r = words::from(w, p);
@@ -67,4 +67,14 @@ pub(crate) fn from_new_start(w: &[usize], x: &[f64]) -> bool {
         views::split(words::floats_from(y, 12)),
     );
     views::is_view_answer(words::from(r, 18), answer)
+}
+
+// Replays a case of such an entry. An entry that is not known differs.
+pub(crate) fn replay(entry: usize, w: &[usize], x: &[f64]) -> bool {
+    match entry {
+        10 => slice_span(w, x),
+        11 => from_slice_points(w, x),
+        12 => from_new_start(w, x),
+        _ => false,
+    }
 }
