@@ -93,6 +93,9 @@ extern "C" {
 #define MASK_STACK_CREATE 512
 #define MASK_STACK_CREATE_ON_SINGLE_SEGMENT 512
 #define MASK_STACK_FROM_ENTIRE_PLINE 512
+#define MASK_STACK_SLICE_SPAN 512
+#define MASK_STACK_FROM_SLICE_POINTS 512
+#define MASK_STACK_FROM_NEW_START 512
 #define MASK_STACK_VALIDATE_FOR_SOURCE 512
 #define MASK_STACK_CUT_ORDER 8192
 #define MASK_STACK_CANDIDATES 40960
@@ -118,6 +121,7 @@ enum mask_refusal {
     MASK_REFUSED_RANGE = 18,    /* a whole coordinate is out of range */
     MASK_REFUSED_LOOPS = 19,    /* more than 4096 outlines in a report */
     MASK_REFUSED_INDEX = 6,     /* an index is not below the vertex count */
+    MASK_REFUSED_BACKWARD = 15, /* an open outline with its start index above its end index */
     MASK_REFUSED_COUNT = 7,     /* an offset or a traverse count is out of range */
     MASK_REFUSED_STARTS = 8,    /* the starts of the classes fall back, or lie past the slices */
     MASK_REFUSED_ROOM = 9       /* a list lent to be written is shorter than the need */
@@ -257,6 +261,61 @@ mask_view_answer mask_create_on_single_segment(const double *outline, size_t out
  */
 mask_view_answer mask_from_entire_pline(const double *outline, size_t outline_len, size_t vc,
                                         uint32_t closed);
+
+/*
+ * Views that start anywhere. A point comes with the index of the segment that it is on.
+ * `closed` is 1 for a closed outline, 0 for an open one, whose last index has the segment
+ * that runs back to vertex 0. The host splits two segments, and `mask_slice_span` tells
+ * it which:
+ *   start_split  of the segment `start_index` of the span, at the start point
+ *   end_split    with a traverse count of 0, of that segment from the running vertex on,
+ *                at the end point: the running vertex is the start split's split vertex,
+ *                or the segment's own first vertex where the start moved; else of the
+ *                segment at the end index, at the end point
+ * A split that is not used can be any numbers in range: the start's where the start
+ * moved, the end's where the end agrees with the first vertex of its segment and the
+ * traverse count is not 0.
+ */
+typedef struct mask_span_answer {
+    uint32_t refusal;
+    uint32_t moved;        /* 1 where the start stood on the end of its segment and moved on */
+    size_t start_index;    /* the start's segment, after it moved */
+    size_t traverse_count; /* how many segments on the end is: 0 to vc */
+} mask_span_answer;
+
+/*
+ * The segment on which the view between two points starts, and how many segments on it
+ * ends. On an open outline a start moves only where its index is below the end's. Where
+ * both points are on one segment of a closed outline and do not agree, the view stays on
+ * it where the start is nearer to its first vertex, and goes all the way round else.
+ * Refusals 1, 2, 3, 4, 5, 6, 15.
+ */
+mask_span_answer mask_slice_span(const double *outline, size_t outline_len, size_t vc,
+                                 uint32_t closed, size_t start_index, mask_point start_point,
+                                 size_t end_index, mask_point end_point, double tolerance_x,
+                                 double tolerance_y);
+
+/*
+ * The view from the start point to the end point. There is none where nothing lies
+ * between them. Refusals 1, 2, 3, 4, 5, 6, 15.
+ */
+mask_view_answer mask_from_slice_points(const double *outline, size_t outline_len, size_t vc,
+                                        uint32_t closed, size_t start_index,
+                                        mask_point start_point, size_t end_index,
+                                        mask_point end_point, double tolerance_x,
+                                        double tolerance_y, mask_split start_split,
+                                        mask_split end_split);
+
+/*
+ * The view that starts an outline at a point of it. A closed outline is followed once
+ * round: its span is that from the point to the point, and `end_split` is not used. An
+ * open one is followed to its last vertex, with the span to that vertex at the last
+ * index; there is no view where the point is that vertex. Refusals 1, 2, 3, 4, 5, 6.
+ */
+mask_view_answer mask_from_new_start(const double *outline, size_t outline_len, size_t vc,
+                                     uint32_t closed, size_t start_index,
+                                     mask_point start_point, double tolerance_x, double tolerance_y,
+                                     mask_split start_split, mask_split end_split);
 
 /*
  * Whether the view fits the outline. A point that is near neither vertex of its

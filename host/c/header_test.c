@@ -125,6 +125,26 @@ static void from_entire_pline(void)
     refusal = mask_from_entire_pline(ALL(outline), VC, 1).refusal;
 }
 
+static void slice_span(void)
+{
+    refusal = mask_slice_span(ALL(outline), VC, 1, VC - 1, VIEW.end_point, VC - 1,
+                              (mask_point){1, 0}, T, T)
+                  .refusal;
+}
+
+static void from_slice_points(void)
+{
+    refusal = mask_from_slice_points(ALL(outline), VC, 1, VC - 1, VIEW.end_point, VC - 1,
+                                     (mask_point){1, 0}, T, T, SPLIT, SPLIT)
+                  .refusal;
+}
+
+static void from_new_start(void)
+{
+    refusal = mask_from_new_start(ALL(outline), VC, 0, 5, VIEW.end_point, T, T, SPLIT, SPLIT)
+                  .refusal;
+}
+
 static void validate_for_source(void)
 {
     refusal = mask_validate_for_source(ALL(outline), VC, VIEW, 1, 1).refusal;
@@ -231,6 +251,9 @@ int main(void)
     measure("mask_create_on_single_segment", create_on_single_segment,
             MASK_STACK_CREATE_ON_SINGLE_SEGMENT);
     measure("mask_from_entire_pline", from_entire_pline, MASK_STACK_FROM_ENTIRE_PLINE);
+    measure("mask_slice_span", slice_span, MASK_STACK_SLICE_SPAN);
+    measure("mask_from_slice_points", from_slice_points, MASK_STACK_FROM_SLICE_POINTS);
+    measure("mask_from_new_start", from_new_start, MASK_STACK_FROM_NEW_START);
     measure("mask_validate_for_source", validate_for_source, MASK_STACK_VALIDATE_FOR_SOURCE);
     measure("mask_cut_order", cut_order, MASK_STACK_CUT_ORDER);
     measure("mask_stitch", stitch, MASK_STACK_STITCH); /* before the slices are written over */

@@ -1,8 +1,8 @@
 //! A call of an entry, as words. Every number, count and code is one 64-bit word; an f64 is its
 //! bits. So one form serves the archive, the original, the damage, the record and the print.
 
-/// The entries: the ten of the base in the order of the header, whose numbers a record holds, then
-/// those that came later.
+/// The entries: the ten of the base in the order of the header, those for starting anywhere, and then
+/// what no record holds. A record holds their numbers, so a new one comes behind those that are recorded.
 #[derive(Debug, Clone, Copy, PartialEq, Eq, PartialOrd, Ord)]
 pub enum Entry {
     ViewVertex,
@@ -15,13 +15,18 @@ pub enum Entry {
     Prune,
     Stitch,
     AreaPass,
+    SliceSpan,
+    FromSlicePoints,
+    FromNewStart,
     ViewVertices,
 }
 
 /// How many entries there are.
-pub const COUNT: usize = 11;
+pub const COUNT: usize = 14;
+/// How many of them are the base's: the first ones.
+pub const BASE: usize = 10;
 /// How many of them a record holds: the first ones.
-pub const RECORDED: usize = 10;
+pub const RECORDED: usize = 13;
 
 pub const ENTRIES: [Entry; COUNT] = [
     Entry::ViewVertex,
@@ -34,6 +39,9 @@ pub const ENTRIES: [Entry; COUNT] = [
     Entry::Prune,
     Entry::Stitch,
     Entry::AreaPass,
+    Entry::SliceSpan,
+    Entry::FromSlicePoints,
+    Entry::FromNewStart,
     Entry::ViewVertices,
 ];
 
@@ -199,6 +207,69 @@ const STITCH: Shape = &[
 const AREA_PASS: Shape = &[("areas", Numbers), ("loops", Count), ("limit", Number)];
 
 const VERTICES_ROOM: Shape = &[("vertices", Numbers)];
+const SLICE_SPAN: Shape = &[
+    ("outline", Numbers),
+    ("vc", Count),
+    ("closed", Code),
+    ("start_index", Count),
+    ("start_point.x", Number),
+    ("start_point.y", Number),
+    ("end_index", Count),
+    ("end_point.x", Number),
+    ("end_point.y", Number),
+    ("tolerance_x", Number),
+    ("tolerance_y", Number),
+];
+
+const FROM_SLICE_POINTS: Shape = &[
+    ("outline", Numbers),
+    ("vc", Count),
+    ("closed", Code),
+    ("start_index", Count),
+    ("start_point.x", Number),
+    ("start_point.y", Number),
+    ("end_index", Count),
+    ("end_point.x", Number),
+    ("end_point.y", Number),
+    ("tolerance_x", Number),
+    ("tolerance_y", Number),
+    ("start_split.updated_start.x", Number),
+    ("start_split.updated_start.y", Number),
+    ("start_split.updated_start.bulge", Number),
+    ("start_split.split_vertex.x", Number),
+    ("start_split.split_vertex.y", Number),
+    ("start_split.split_vertex.bulge", Number),
+    ("end_split.updated_start.x", Number),
+    ("end_split.updated_start.y", Number),
+    ("end_split.updated_start.bulge", Number),
+    ("end_split.split_vertex.x", Number),
+    ("end_split.split_vertex.y", Number),
+    ("end_split.split_vertex.bulge", Number),
+];
+
+const FROM_NEW_START: Shape = &[
+    ("outline", Numbers),
+    ("vc", Count),
+    ("closed", Code),
+    ("start_index", Count),
+    ("start_point.x", Number),
+    ("start_point.y", Number),
+    ("tolerance_x", Number),
+    ("tolerance_y", Number),
+    ("start_split.updated_start.x", Number),
+    ("start_split.updated_start.y", Number),
+    ("start_split.updated_start.bulge", Number),
+    ("start_split.split_vertex.x", Number),
+    ("start_split.split_vertex.y", Number),
+    ("start_split.split_vertex.bulge", Number),
+    ("end_split.updated_start.x", Number),
+    ("end_split.updated_start.y", Number),
+    ("end_split.updated_start.bulge", Number),
+    ("end_split.split_vertex.x", Number),
+    ("end_split.split_vertex.y", Number),
+    ("end_split.split_vertex.bulge", Number),
+];
+
 const CUT_ROOM: Shape = &[("cut_at", Counts), ("cut", Numbers)];
 const CANDIDATE_ROOM: Shape = &[("cand_at", Counts), ("cand", Numbers), ("probe", Numbers)];
 const SLICE_ROOM: Shape = &[("slice_at", Counts), ("slice", Numbers)];
@@ -252,6 +323,9 @@ impl Entry {
             Entry::Stitch => "mask_stitch",
             Entry::AreaPass => "mask_area_pass",
             Entry::ViewVertices => "mask_view_vertices",
+            Entry::SliceSpan => "mask_slice_span",
+            Entry::FromSlicePoints => "mask_from_slice_points",
+            Entry::FromNewStart => "mask_from_new_start",
         }
     }
 
@@ -269,6 +343,9 @@ impl Entry {
             Entry::Stitch => STITCH,
             Entry::AreaPass => AREA_PASS,
             Entry::ViewVertices => VIEW_VERTICES,
+            Entry::SliceSpan => SLICE_SPAN,
+            Entry::FromSlicePoints => FROM_SLICE_POINTS,
+            Entry::FromNewStart => FROM_NEW_START,
         }
     }
 
@@ -298,6 +375,8 @@ impl Entry {
             Entry::Stitch => &[1, 2, 3, 4, 5, 6, 7, 8, 9],
             Entry::AreaPass => &[1, 4, 5, 9],
             Entry::ViewVertices => &[1, 2, 3, 5, 6, 7, 9],
+            Entry::SliceSpan | Entry::FromSlicePoints => &[1, 2, 3, 4, 5, 6, 15],
+            Entry::FromNewStart => &[1, 2, 3, 4, 5, 6],
         }
     }
 
@@ -306,8 +385,8 @@ impl Entry {
         match self {
             Entry::ViewVertex | Entry::Prune => 5,
             Entry::Create | Entry::CreateOnSingleSegment | Entry::FromEntirePline => 11,
-            Entry::ValidateForSource => 11,
-            Entry::Stitch => 4,
+            Entry::ValidateForSource | Entry::FromSlicePoints | Entry::FromNewStart => 11,
+            Entry::Stitch | Entry::SliceSpan => 4,
             Entry::CutOrder | Entry::Candidates | Entry::AreaPass | Entry::ViewVertices => 2,
         }
     }

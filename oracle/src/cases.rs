@@ -116,6 +116,57 @@ pub fn from_entire_pline(outline: &[f64], closed: bool) -> Call {
     with_outline(Call::new(Entry::FromEntirePline), outline).word(u64::from(closed))
 }
 
+/// A point, and the segment that it is on.
+#[derive(Debug, Clone, Copy)]
+pub struct Place {
+    pub index: usize,
+    pub point: [f64; 2],
+}
+
+fn with_place(call: Call, place: Place) -> Call {
+    call.count(place.index).numbers(&place.point)
+}
+
+fn open_or_closed(entry: Entry, outline: &[f64], closed: bool) -> Call {
+    with_outline(Call::new(entry), outline).word(u64::from(closed))
+}
+
+pub fn slice_span(
+    outline: &[f64],
+    closed: bool,
+    ends: [Place; 2],
+    tolerance: impl Into<Axes>,
+) -> Call {
+    let call = open_or_closed(Entry::SliceSpan, outline, closed);
+    with_place(with_place(call, ends[0]), ends[1]).axes(tolerance.into())
+}
+
+pub fn from_slice_points(
+    outline: &[f64],
+    closed: bool,
+    ends: [Place; 2],
+    tolerance: impl Into<Axes>,
+    splits: [[f64; 6]; 2],
+) -> Call {
+    let call = open_or_closed(Entry::FromSlicePoints, outline, closed);
+    with_place(with_place(call, ends[0]), ends[1])
+        .axes(tolerance.into())
+        .numbers(splits.as_flattened())
+}
+
+pub fn from_new_start(
+    outline: &[f64],
+    closed: bool,
+    start: Place,
+    tolerance: impl Into<Axes>,
+    splits: [[f64; 6]; 2],
+) -> Call {
+    let call = open_or_closed(Entry::FromNewStart, outline, closed);
+    with_place(call, start)
+        .axes(tolerance.into())
+        .numbers(splits.as_flattened())
+}
+
 fn with_shared(call: Call, shared: &Shared) -> Call {
     call.list(&list_of(&shared.hit_at))
         .list(&words_of(&shared.hit))

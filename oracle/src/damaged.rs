@@ -2,7 +2,7 @@
 //! table tells what must come of each. Damage that leaves a call accepted is compared with the
 //! original like any other call.
 
-use crate::call::{Call, ENTRIES, Entry, Kind, Param, RECORDED};
+use crate::call::{BASE, Call, ENTRIES, Entry, Kind, Param};
 use crate::hostile::{any_call, axes, call_with};
 use crate::random::Random;
 use crate::refusal;
@@ -229,15 +229,15 @@ fn widen(rng: &mut Random, call: &mut Call) {
 
 /// One accepted call of an entry and all its damage.
 pub fn scenario(tally: &mut Tally, rng: &mut Random) {
-    let entry = rng.pick(&ENTRIES[..RECORDED]);
+    let entry = rng.pick(&ENTRIES[..BASE]);
     damage(tally, rng, entry);
 }
 
-/// The same for what no record holds: later entries, and damage to the tolerance of one axis.
+/// The same for what came after the base: later entries, and damage to the tolerance of one axis.
 pub fn later_scenario(tally: &mut Tally, rng: &mut Random) {
     damage_axes(tally, rng);
-    if rng.once_in(4) {
-        let entry = rng.pick(&ENTRIES[RECORDED..]);
+    if rng.once_in(2) {
+        let entry = rng.pick(&ENTRIES[BASE..]);
         damage(tally, rng, entry);
     }
 }

@@ -3,8 +3,8 @@
 //! count; many slices at one point; cuts at equal distances; splits, inside answers and areas that no
 //! geometry gives.
 
-use crate::call::{Axes, Call, ENTRIES, Entry, Outcome, RECORDED, words_of};
-use crate::cases::{self, CandidateLists, CreateCase, Shared, ViewCase};
+use crate::call::{Axes, BASE, Call, ENTRIES, Entry, Outcome, words_of};
+use crate::cases::{self, CandidateLists, CreateCase, Place, Shared, ViewCase};
 use crate::random::Random;
 use crate::tally::{Family, Tally};
 use crate::theirs::{self, PruneSource};
@@ -34,10 +34,10 @@ pub fn scenario(tally: &mut Tally, rng: &mut Random) {
     pair(tally, rng);
 }
 
-/// The same for the entries that no record holds.
+/// The same for the entries that came after the base.
 pub fn later_scenario(tally: &mut Tally, rng: &mut Random) {
     for _ in 0..4 {
-        for entry in &ENTRIES[RECORDED..] {
+        for entry in &ENTRIES[BASE..] {
             tally.compare(FAMILY, &any_call(rng, *entry));
         }
     }
@@ -86,8 +86,59 @@ pub fn call_with(rng: &mut Random, entry: Entry, t: Axes) -> Call {
         Entry::CutOrder => cut_order(rng, t),
         Entry::Candidates => candidates(rng, t),
         Entry::Stitch => stitch(rng, t),
+        Entry::SliceSpan => {
+            let points = TwoPoints::new(rng, t);
+            cases::slice_span(&points.outline, points.closed, points.ends, t)
+        }
+        Entry::FromSlicePoints => {
+            let points = TwoPoints::new(rng, t);
+            let splits = [any_split(rng), any_split(rng)];
+            cases::from_slice_points(&points.outline, points.closed, points.ends, t, splits)
+        }
+        Entry::FromNewStart => {
+            let points = TwoPoints::new(rng, t);
+            let splits = [any_split(rng), any_split(rng)];
+            cases::from_new_start(&points.outline, points.closed, points.ends[0], t, splits)
+        }
         _ => panic!("{} takes no tolerances", entry.name()),
     }
+}
+
+/// Two points of an outline, at or near its vertices or anywhere.
+struct TwoPoints {
+    outline: Vec<f64>,
+    closed: bool,
+    ends: [Place; 2],
+}
+
+impl TwoPoints {
+    fn new(rng: &mut Random, t: Axes) -> TwoPoints {
+        let outline = outline(rng, t, 2);
+        let vc = outline.len() / 3;
+        let closed = rng.once_in(2);
+        let mut indexes = [rng.below(vc), rng.below(vc)];
+        if !closed {
+            indexes.sort_unstable();
+        }
+        let ends = indexes.map(|index| {
+            let vertex = position(&outline, index + rng.below(2));
+            let point = match rng.below(4) {
+                0 => [number(rng), number(rng)],
+                _ => near_point(rng, &vertex, t),
+            };
+            Place { index, point }
+        });
+        TwoPoints {
+            outline,
+            closed,
+            ends,
+        }
+    }
+}
+
+fn any_split(rng: &mut Random) -> [f64; 6] {
+    let (part, split) = (vertex(rng), vertex(rng));
+    [part[0], part[1], part[2], split[0], split[1], split[2]]
 }
 
 fn tolerance(rng: &mut Random) -> f64 {

@@ -21,6 +21,7 @@ pub mod scaled;
 pub mod second;
 pub mod shapes;
 pub mod stages;
+pub mod starts;
 pub mod straight;
 pub mod tally;
 pub mod theirs;

@@ -2,19 +2,23 @@
 
 use oracle::call::Outcome;
 use oracle::random::Random;
-use oracle::record::Record;
+use oracle::record::{Origin, Record};
 use oracle::tally::{Tally, quiet_caught_panics};
 use oracle::{
-    axes, damaged, findings, hostile, limits, ours, print, realistic, refusal, second, theirs,
+    axes, damaged, findings, hostile, limits, ours, print, realistic, refusal, second, starts,
+    theirs,
 };
 use std::process::ExitCode;
 
 const USAGE: &str = "usage:
   compare N SEED                    N generated scenarios, each of many entry calls
   compare --record FILE COUNT SEED  writes about COUNT of the compared calls to FILE (RECORD.md)
+  compare --record-later FILE COUNT SEED
+                                    the same, and the base's calls stay those that FILE has
   compare --scenario NUMBER SEED    one scenario alone
   compare --axes N SEED             N calls of each entry that takes tolerances, with two that differ
   compare --judges N SEED           the same, only the judges beside each other
+  compare --starts N SEED           N outlines of few vertices, with all pairs of their points
   compare --paste 'WORDS'           one call, as a difference prints it, answered both ways
   compare --findings                the known differences, each at its smallest input";
 
@@ -23,10 +27,18 @@ fn main() -> ExitCode {
     let arguments: Vec<String> = std::env::args().skip(1).collect();
     let arguments: Vec<&str> = arguments.iter().map(String::as_str).collect();
     let done = match arguments[..] {
-        ["--record", file, count, seed] => record(file, count, seed),
+        ["--record", file, count, seed] => record(file, count, seed, None),
+        ["--record-later", file, count, seed] => match std::fs::read(file) {
+            Ok(bytes) => record(file, count, seed, Some(&bytes)),
+            Err(fault) => {
+                eprintln!("compare: {file}: {fault}");
+                Some(ExitCode::from(2))
+            }
+        },
         ["--scenario", number, seed] => one_scenario(number, seed),
-        ["--axes", count, seed] => with_axes(count, seed, axes::scenario),
-        ["--judges", count, seed] => with_axes(count, seed, axes::judges),
+        ["--axes", count, seed] => alone(count, seed, AXES, axes::scenario),
+        ["--judges", count, seed] => alone(count, seed, AXES, axes::judges),
+        ["--starts", count, seed] => alone(count, seed, STARTS, starts::scenario),
         ["--paste", words] => paste(words),
         ["--findings"] => {
             findings::show();
@@ -49,7 +61,7 @@ fn scenario_numbers(seed: u64, number: u64) -> Random {
 fn scenario(tally: &mut Tally, seed: u64, number: u64) {
     tally.scenario = number;
     let mut rng = scenario_numbers(seed, number);
-    // What no record holds is drawn apart, so that a record stays as it is.
+    // What came after the base is drawn apart, so that the base's calls in a record stay as they are.
     let mut later = rng.apart();
     match number % 10 {
         0..=4 => realistic::scenario(tally, &mut rng),
@@ -66,6 +78,9 @@ fn scenario(tally: &mut Tally, seed: u64, number: u64) {
     if number % 500 == 0 {
         limits::scenario(tally, &mut rng);
     }
+    if number % 100 == 50 {
+        starts::scenario(tally, &mut later);
+    }
 }
 
 fn compare(count: &str, seed: &str) -> Option<ExitCode> {
@@ -79,8 +94,16 @@ fn compare(count: &str, seed: &str) -> Option<ExitCode> {
     Some(report(&tally))
 }
 
-/// Calls with two tolerances.
-fn with_axes(count: &str, seed: &str, make: fn(&mut Tally, &mut Random)) -> Option<ExitCode> {
+const AXES: &str = "calls of each entry that takes tolerances";
+const STARTS: &str = "outlines with all pairs of their points";
+
+/// One family alone.
+fn alone(
+    count: &str,
+    seed: &str,
+    what: &str,
+    make: fn(&mut Tally, &mut Random),
+) -> Option<ExitCode> {
     let count: u64 = count.parse().ok()?;
     let seed: u64 = seed.parse().ok()?;
     let mut tally = Tally::default();
@@ -88,7 +111,7 @@ fn with_axes(count: &str, seed: &str, make: fn(&mut Tally, &mut Random)) -> Opti
         tally.scenario = number;
         make(&mut tally, &mut scenario_numbers(seed, number).apart());
     }
-    println!("{count} calls of each entry that takes tolerances, seed {seed}\n");
+    println!("{count} {what}, seed {seed}\n");
     Some(report(&tally))
 }
 
@@ -107,7 +130,8 @@ fn report(tally: &Tally) -> ExitCode {
     ExitCode::from(u8::from(unexplained > 0))
 }
 
-fn record(file: &str, count: &str, seed: &str) -> Option<ExitCode> {
+/// Where there is a record already, its calls of the base stay.
+fn record(file: &str, count: &str, seed: &str, before: Option<&[u8]>) -> Option<ExitCode> {
     let count: usize = count.parse().ok()?;
     let seed: u64 = seed.parse().ok()?;
     let mut tally = Tally::default();
@@ -119,7 +143,18 @@ fn record(file: &str, count: &str, seed: &str) -> Option<ExitCode> {
             break;
         }
     }
-    let record = tally.record.take()?;
+    let mut record = tally.record.take()?;
+    for call in starts::corners() {
+        let (expected, origin) = match refusal::expected(&call) {
+            0 => (theirs::answer(&call), Origin::Original),
+            number => (Outcome::refused(&call, number), Origin::Table),
+        };
+        record.add(&call, &expected, origin);
+    }
+    if before.is_some_and(|bytes| record.keep_base(bytes).is_none()) {
+        eprintln!("compare: {file}: not a record");
+        return Some(ExitCode::from(2));
+    }
     let bytes = record.bytes();
     if let Err(fault) = std::fs::write(file, &bytes) {
         eprintln!("compare: {file}: {fault}");

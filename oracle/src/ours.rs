@@ -96,6 +96,13 @@ fn view(r: &mut Reader) -> View {
     }
 }
 
+fn split(r: &mut Reader) -> Split {
+    Split {
+        updated_start: vertex(r),
+        split_vertex: vertex(r),
+    }
+}
+
 fn vertex_words(v: &Vertex) -> [u64; 3] {
     [v.x.to_bits(), v.y.to_bits(), v.bulge.to_bits()]
 }
@@ -196,10 +203,7 @@ fn enter(call: &Call, inputs: &mut [Guarded], lent: &mut [Guarded]) -> Vec<u64> 
                     r.count(),
                     r.number(),
                     r.number(),
-                    Split {
-                        updated_start: vertex(r),
-                        split_vertex: vertex(r),
-                    },
+                    split(r),
                 ))
             }
             Entry::CreateOnSingleSegment => {
@@ -434,6 +438,59 @@ fn enter(call: &Call, inputs: &mut [Guarded], lent: &mut [Guarded]) -> Vec<u64> 
                 let (kept, kept_len) = room!();
                 count_words(&mask_area_pass(
                     areas, areas_len, loops, limit, kept, kept_len,
+                ))
+            }
+            Entry::SliceSpan => {
+                let (outline, length) = list!();
+                let a = mask_slice_span(
+                    outline,
+                    length,
+                    r.count(),
+                    r.code(),
+                    r.count(),
+                    point(r),
+                    r.count(),
+                    point(r),
+                    r.number(),
+                    r.number(),
+                );
+                vec![
+                    u64::from(a.refusal),
+                    u64::from(a.moved),
+                    a.start_index as u64,
+                    a.traverse_count as u64,
+                ]
+            }
+            Entry::FromSlicePoints => {
+                let (outline, length) = list!();
+                view_words(&mask_from_slice_points(
+                    outline,
+                    length,
+                    r.count(),
+                    r.code(),
+                    r.count(),
+                    point(r),
+                    r.count(),
+                    point(r),
+                    r.number(),
+                    r.number(),
+                    split(r),
+                    split(r),
+                ))
+            }
+            Entry::FromNewStart => {
+                let (outline, length) = list!();
+                view_words(&mask_from_new_start(
+                    outline,
+                    length,
+                    r.count(),
+                    r.code(),
+                    r.count(),
+                    point(r),
+                    r.number(),
+                    r.number(),
+                    split(r),
+                    split(r),
                 ))
             }
         }

@@ -1,15 +1,15 @@
 //! Writes compared cases to a file of words. RECORD.md describes the layout.
 
-use crate::call::{Call, ENTRIES, Outcome, RECORDED};
+use crate::call::{BASE, Call, ENTRIES, Entry, Outcome, RECORDED};
 use crate::print::input_words;
 use crate::random::Random;
-use crate::tally::Family;
+use crate::tally::{FAMILIES, Family, NUMBERS};
 
 /// "MASKVEC1", as bytes in the order of the file.
 const MAGIC: u64 = u64::from_le_bytes(*b"MASKVEC1");
 
 /// The longest case kept, in words, by entry.
-const LONGEST: [usize; RECORDED] = [70, 90, 60, 50, 70, 140, 210, 190, 300, 60];
+const LONGEST: [usize; RECORDED] = [70, 90, 60, 50, 70, 140, 210, 190, 300, 60, 60, 80, 80];
 
 /// `mask_validate_for_source` gives 2 for an outline that is too long, and for no other. So one long
 /// case is kept.
@@ -22,24 +22,33 @@ pub enum Origin {
     Table = 1,
 }
 
+/// The family whose calls of an entry are as they occur.
+fn usual(entry: Entry) -> Family {
+    match entry {
+        Entry::SliceSpan | Entry::FromSlicePoints | Entry::FromNewStart => Family::Starts,
+        _ => Family::Realistic,
+    }
+}
+
 /// Keeps some of the cases offered: as many of each entry, from every family, with every refusal.
 pub struct Record {
     /// How many are still wanted, by entry, family and refusal number.
-    wanted: [[[usize; 10]; 4]; RECORDED],
-    cases: Vec<Vec<u64>>,
-    choice: Random,
+    wanted: [[[usize; NUMBERS]; FAMILIES.len()]; RECORDED],
+    /// The base's cases, and those of later entries, which come behind: so the base's stay as they are.
+    cases: [Vec<Vec<u64>>; 2],
+    choice: [Random; 2],
 }
 
 impl Record {
-    /// Room for about `count` cases: one in ten for each entry. Of those three in ten are realistic,
+    /// Room for as many cases of each entry, a tenth of `count`. Of those three in ten are as they occur,
     /// three hostile, four damaged; and the damaged ones are shared out over the refusal numbers.
     pub fn new(count: usize, seed: u64) -> Record {
-        let each = count.div_ceil(RECORDED);
+        let each = count.div_ceil(BASE);
         let accepted = each * 3 / 10;
-        let mut wanted = [[[0; 10]; 4]; RECORDED];
+        let mut wanted = [[[0; NUMBERS]; FAMILIES.len()]; RECORDED];
         for entry in &ENTRIES[..RECORDED] {
             let of_entry = &mut wanted[entry.number()];
-            of_entry[Family::Realistic as usize][0] = accepted;
+            of_entry[usual(*entry) as usize][0] = accepted;
             of_entry[Family::Hostile as usize][0] = accepted;
             let damaged = &mut of_entry[Family::Damaged as usize];
             let numbers = entry.refusals();
@@ -50,8 +59,8 @@ impl Record {
         wanted[TOO_LONG.0][Family::Damaged as usize][TOO_LONG.1] = 1;
         Record {
             wanted,
-            cases: Vec::new(),
-            choice: Random::new(seed),
+            cases: [Vec::new(), Vec::new()],
+            choice: [Random::new(seed), Random::new(seed).apart()],
         }
     }
 
@@ -60,8 +69,9 @@ impl Record {
         if number >= RECORDED || family == Family::Axes || !call.has_one_tolerance() {
             return;
         }
+        let part = usize::from(number >= BASE);
         let left = &mut self.wanted[number][family as usize][expected.answer[0] as usize];
-        if *left == 0 || !self.choice.once_in(5) {
+        if *left == 0 || !self.choice[part].once_in(5) {
             return;
         }
         let words = case_words(call, expected, origin);
@@ -70,7 +80,33 @@ impl Record {
             return;
         }
         *left -= 1;
-        self.cases.push(words);
+        self.cases[part].push(words);
+    }
+
+    /// A case of a later entry that is kept whatever there is of its kind.
+    pub fn add(&mut self, call: &Call, expected: &Outcome, origin: Origin) {
+        self.cases[1].push(case_words(call, expected, origin));
+    }
+
+    /// Takes the base's cases from the bytes of a record that is there, in place of its own. None where
+    /// they are no record.
+    pub fn keep_base(&mut self, bytes: &[u8]) -> Option<()> {
+        let (words, rest) = bytes.as_chunks::<8>();
+        let words: Vec<u64> = words.iter().map(|word| u64::from_le_bytes(*word)).collect();
+        let (head, mut left) = words.split_at_checked(2)?;
+        if !rest.is_empty() || head[0] != MAGIC {
+            return None;
+        }
+        self.cases[0].clear();
+        for _ in 0..head[1] {
+            let length = usize::try_from(*left.get(1)?).ok()?.checked_add(2)?;
+            let (case, after) = left.split_at_checked(length)?;
+            if case[0] < BASE as u64 {
+                self.cases[0].push(case.to_vec());
+            }
+            left = after;
+        }
+        left.is_empty().then_some(())
     }
 
     /// Whether every place is taken.
@@ -83,13 +119,13 @@ impl Record {
     }
 
     pub fn count(&self) -> usize {
-        self.cases.len()
+        self.cases.iter().map(Vec::len).sum()
     }
 
     /// The file's bytes.
     pub fn bytes(&self) -> Vec<u8> {
-        let head = [MAGIC, self.cases.len() as u64];
-        let words = head.iter().chain(self.cases.iter().flatten());
+        let head = [MAGIC, self.count() as u64];
+        let words = head.iter().chain(self.cases.iter().flatten().flatten());
         words.flat_map(|word| word.to_le_bytes()).collect()
     }
 }

@@ -60,6 +60,12 @@ impl Faults {
         self.note(5, !(n.is_finite() && n.abs() <= LARGEST));
     }
 
+    fn some(&mut self, numbers: &[f64]) {
+        for n in numbers {
+            self.number(*n);
+        }
+    }
+
     fn numbers(&mut self, list: &[u64]) {
         for word in list {
             self.number(f64::from_bits(*word));
@@ -98,6 +104,9 @@ pub fn expected(call: &Call) -> u64 {
         Entry::Stitch => stitch(faults, r, &call.lent),
         Entry::AreaPass => area_pass(faults, r, &call.lent),
         Entry::ViewVertices => view_vertices(faults, r, &call.lent),
+        Entry::SliceSpan => slice_span(faults, r),
+        Entry::FromSlicePoints => from_slice_points(faults, r),
+        Entry::FromNewStart => from_new_start(faults, r),
     }
     faults.lowest
 }
@@ -318,4 +327,35 @@ fn area_pass(faults: &mut Faults, r: &mut Reader, lent: &[Vec<u64>]) {
         faults.note(5, !f64::from_bits(*area).is_finite());
     }
     faults.room(&lent[0], 1, loops);
+}
+
+/// Two points of an outline, and the tolerances, which come last of `mask_slice_span`.
+fn slice_span(faults: &mut Faults, r: &mut Reader) {
+    let (outline, vc) = (r.list(), r.word());
+    faults.outline(outline, vc);
+    let closed = r.word();
+    faults.yes_or_no(closed);
+    let start = r.word();
+    faults.some(&r.some::<2>());
+    let end = r.word();
+    faults.some(&r.some::<2>());
+    faults.index(start, vc);
+    faults.index(end, vc);
+    faults.note(15, closed == 0 && start > end);
+    faults.tolerances(r.axes());
+}
+
+fn from_slice_points(faults: &mut Faults, r: &mut Reader) {
+    slice_span(faults, r);
+    faults.some(&r.some::<12>());
+}
+
+fn from_new_start(faults: &mut Faults, r: &mut Reader) {
+    let (outline, vc) = (r.list(), r.word());
+    faults.outline(outline, vc);
+    faults.yes_or_no(r.word());
+    faults.index(r.word(), vc);
+    faults.some(&r.some::<2>());
+    faults.tolerances(r.axes());
+    faults.some(&r.some::<12>());
 }

@@ -5,7 +5,7 @@
 //!
 //! Two things are not the same after it. A bulge no longer stands for the same arc; but these stages
 //! only hand bulges on. And squared distances are not scaled as a whole; so cuts of one segment may
-//! come in another order.
+//! come in another order, and two points of one segment too.
 
 use crate::call::{Axes, Call, Entry, Outcome, Param};
 use crate::theirs;
@@ -82,7 +82,10 @@ pub fn answer(call: &Call) -> Option<Outcome> {
         by: 1.0 / scale.by,
         ..scale
     };
-    if matches!(call.entry, Entry::Create | Entry::CreateOnSingleSegment) {
+    if matches!(
+        call.entry,
+        Entry::Create | Entry::CreateOnSingleSegment | Entry::FromSlicePoints | Entry::FromNewStart
+    ) {
         // The start's position stands at 4 and 5, the end's at 8 and 9.
         for place in [4, 8] {
             let word = &mut outcome.answer[place + scale.axis];

@@ -1,6 +1,7 @@
 //! A second implementation of the entries that take tolerances, written from documents 01 and 02 and
-//! from nothing else. Where the two tolerances differ, the original cannot be asked; then this is the
-//! judge. Where they are alike, it is compared with the original itself.
+//! from nothing else; but for request K5, where document 02 leaves the corners to the original. Where
+//! the two tolerances differ, the original cannot be asked; then this is the judge. Where they are
+//! alike, it is compared with the original itself.
 //!
 //! It answers calls that are accepted. Words in quotation marks are the documents'.
 
@@ -21,6 +22,9 @@ pub fn answer(call: &Call) -> Outcome {
         Entry::CutOrder => cut_order(r, &call.lent),
         Entry::Candidates => candidates(r, &call.lent),
         Entry::Stitch => stitch(r, &call.lent),
+        Entry::SliceSpan => slice_span(r),
+        Entry::FromSlicePoints => from_slice_points(r),
+        Entry::FromNewStart => from_new_start(r),
         _ => panic!("{} takes no tolerances", call.entry.name()),
     }
 }
@@ -177,6 +181,176 @@ fn create_on_single_segment(r: &mut Reader) -> Outcome {
     Outline::read(r);
     let (start, updated_start, end) = (r.count(), r.some(), r.some());
     view_outcome(on_single_segment(start, updated_start, end, r.axes()))
+}
+
+/// A point of an outline, and the segment that it is on.
+#[derive(Clone, Copy)]
+struct Place {
+    index: usize,
+    point: Point,
+}
+
+impl Place {
+    fn read(r: &mut Reader) -> Place {
+        let (index, point) = (r.count(), r.some());
+        Place { index, point }
+    }
+}
+
+/// Two places of an outline.
+struct Between {
+    outline: Outline,
+    closed: bool,
+    start: Place,
+    end: Place,
+    t: Axes,
+}
+
+/// Where a view between two places starts, and how many segments on it ends.
+struct Span {
+    moved: bool,
+    start: usize,
+    traverse: usize,
+    by_distance: bool,
+}
+
+/// Of a host's split what is used: the start bulge, or the start part, and the split vertex.
+struct Parts {
+    part: Vertex,
+    vertex: Vertex,
+}
+
+impl Parts {
+    fn read(r: &mut Reader) -> Parts {
+        let (part, vertex) = (r.some(), r.some());
+        Parts { part, vertex }
+    }
+}
+
+impl Between {
+    fn read(r: &mut Reader) -> Between {
+        let outline = Outline::read(r);
+        let closed = r.word() == 1;
+        let (start, end) = (Place::read(r), Place::read(r));
+        let t = r.axes();
+        Between {
+            outline,
+            closed,
+            start,
+            end,
+            t,
+        }
+    }
+
+    /// "a start point on the end of its segment moves forward unless an open outline can't": where its
+    /// index is not below the end's. "on one segment the squared distances decide between no wrap and a
+    /// full wrap, and equal distances wrap": on a closed outline, for points that do not agree.
+    fn span(&self) -> Span {
+        let (start, end) = (self.start, self.end);
+        let vc = self.outline.count();
+        let next = (start.index + 1) % vc;
+        let at_end = agree(start.point, place(self.outline.at(next)), self.t);
+        let moved = at_end && (self.closed || start.index < end.index);
+        let segment = if moved { next } else { start.index };
+        let apart = (end.index + vc - segment) % vc;
+        let agreed = agree(start.point, end.point, self.t);
+        let by_distance = self.closed && apart == 0 && !agreed;
+        let [x, y, _] = self.outline.at(segment);
+        let distance = |p: Point| {
+            let (dx, dy) = (x - p[0], y - p[1]);
+            dx * dx + dy * dy
+        };
+        let wraps = by_distance && distance(start.point) >= distance(end.point);
+        Span {
+            moved,
+            start: segment,
+            traverse: if wraps { vc } else { apart },
+            by_distance,
+        }
+    }
+
+    /// "a traverse of 1 whose points agree gives no view": where the end stands on its segment's vertex,
+    /// and the updated start agrees with it.
+    fn view(&self, start: &Parts, end: &Parts) -> Option<View> {
+        let (span, t) = (self.span(), self.t);
+        if span.traverse == 0 {
+            return on_single_segment(span.start, end.part, self.end.point, t);
+        }
+        let walk = Walk {
+            start: span.start,
+            end: self.end.point,
+            intersect: self.end.index,
+            updated_start: if span.moved {
+                self.outline.at(span.start)
+            } else {
+                start.vertex
+            },
+            traverse: span.traverse,
+            split_bulge: end.part[2],
+        };
+        let on_vertex = agree(walk.end, place(self.outline.at(walk.intersect)), t);
+        let nothing = on_vertex && agree(place(walk.updated_start), walk.end, t);
+        (walk.traverse != 1 || !nothing).then(|| created(&self.outline, &walk, t))
+    }
+
+    /// A closed outline once round, with one split for both ends.
+    fn round(&self, split: &Parts) -> View {
+        let start = self.span().start;
+        let walk = Walk {
+            start,
+            end: self.start.point,
+            intersect: start,
+            updated_start: split.vertex,
+            traverse: self.outline.count(),
+            split_bulge: split.part[2],
+        };
+        created(&self.outline, &walk, self.t)
+    }
+}
+
+/// Whether squared distances decide what an accepted call answers.
+pub fn distances_decide(call: &Call) -> bool {
+    let has_two_points = matches!(call.entry, Entry::SliceSpan | Entry::FromSlicePoints);
+    has_two_points && Between::read(&mut call.read()).span().by_distance
+}
+
+fn slice_span(r: &mut Reader) -> Outcome {
+    let span = Between::read(r).span();
+    let counts = [span.start as u64, span.traverse as u64];
+    Outcome {
+        answer: [&[0, u64::from(span.moved)], &counts[..]].concat(),
+        lent: Vec::new(),
+    }
+}
+
+fn from_slice_points(r: &mut Reader) -> Outcome {
+    let between = Between::read(r);
+    view_outcome(between.view(&Parts::read(r), &Parts::read(r)))
+}
+
+/// An open outline is followed to its last vertex.
+fn from_new_start(r: &mut Reader) -> Outcome {
+    let outline = Outline::read(r);
+    let closed = r.word() == 1;
+    let start = Place::read(r);
+    let index = outline.count() - 1;
+    let last = Place {
+        index,
+        point: place(outline.at(index)),
+    };
+    let between = Between {
+        outline,
+        closed,
+        start,
+        end: if closed { start } else { last },
+        t: r.axes(),
+    };
+    let (start, end) = (Parts::read(r), Parts::read(r));
+    view_outcome(if closed {
+        Some(between.round(&start))
+    } else {
+        between.view(&start, &end)
+    })
 }
 
 /// "room within the stated need but past the reported items holds +0 or 0; room beyond the need is

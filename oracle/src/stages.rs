@@ -140,6 +140,28 @@ pub fn from_entire_pline(pline: &Polyline) -> PlineViewData {
     PlineViewData::from_entire_pline(pline)
 }
 
+/// An outline of three numbers to a vertex, open or closed.
+pub fn open_or_closed(numbers: &[f64], closed: bool) -> Polyline {
+    Polyline::from_vertexes(vertices(numbers), closed)
+}
+
+pub fn from_slice_points(
+    pline: &Polyline,
+    start: (usize, Vector2),
+    end: (usize, Vector2),
+    tolerance: f64,
+) -> Option<PlineViewData> {
+    PlineViewData::from_slice_points(pline, start.1, start.0, end.1, end.0, tolerance)
+}
+
+pub fn from_new_start(
+    pline: &Polyline,
+    start: (usize, Vector2),
+    tolerance: f64,
+) -> Option<PlineViewData> {
+    PlineViewData::from_new_start(pline, start.1, start.0, tolerance)
+}
+
 pub fn validate<P>(pline: &P, view: &PlineViewData) -> ViewDataValidation<f64>
 where
     P: PlineSource<Num = f64>,

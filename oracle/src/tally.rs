@@ -14,15 +14,20 @@ pub enum Family {
     Damaged,
     Limits,
     Axes,
+    Starts,
 }
 
-pub const FAMILIES: [Family; 5] = [
+pub const FAMILIES: [Family; 6] = [
     Family::Realistic,
     Family::Hostile,
     Family::Damaged,
     Family::Limits,
     Family::Axes,
+    Family::Starts,
 ];
+
+/// One more than the largest refusal number.
+pub const NUMBERS: usize = 16;
 
 /// Differences that are written out. The others are only counted.
 const SHOWN: u64 = 20;
@@ -42,8 +47,8 @@ pub fn quiet_caught_panics() {
 
 #[derive(Default)]
 pub struct Tally {
-    compared: [[u64; COUNT]; 5],
-    refused: [[u64; 10]; COUNT],
+    compared: [[u64; COUNT]; FAMILIES.len()],
+    refused: [[u64; NUMBERS]; COUNT],
     ended: [u64; 4],
     extra: BTreeMap<&'static str, u64>,
     explained: BTreeMap<&'static str, u64>,
@@ -210,8 +215,15 @@ impl Tally {
     /// Prints the counts. Gives the number of unexplained differences.
     pub fn report(&self) -> u64 {
         println!(
-            "{:30} {:>10} {:>10} {:>10} {:>10} {:>10} {:>10}",
-            "entry calls compared", "realistic", "hostile", "damaged", "limits", "axes", "all"
+            "{:30} {:>10} {:>10} {:>10} {:>10} {:>10} {:>10} {:>10}",
+            "entry calls compared",
+            "realistic",
+            "hostile",
+            "damaged",
+            "limits",
+            "axes",
+            "starts",
+            "all"
         );
         for entry in ENTRIES {
             self.report_row(entry.name(), |family| {
@@ -257,7 +269,7 @@ impl Tally {
 
 const SCALED: &str = "the original on scaled axes beside the second implementation";
 const SCALED_ORDER: &str =
-    "the same with another order of the cuts on a segment: distances are not scaled";
+    "the same with another order of cuts or points on a segment: distances are not scaled";
 
 pub const TIES: &str = "ties: 33 or more cuts on one segment, equal distances";
 
@@ -322,7 +334,7 @@ fn order_is_tied(call: &Call) -> bool {
     expected != by_arrival && in_order_of_arrival(&order, &expected) == by_arrival
 }
 
-/// Whether the original on scaled axes differs because the cuts of a segment come in another order.
+/// Whether the original on scaled axes differs because cuts or points of a segment come in another order.
 fn order_is_not_scaled(call: &Call, scaled: &Outcome, second: &Outcome) -> bool {
     match call.entry {
         Entry::CutOrder => scaled::same_but_for_order(scaled, second),
@@ -332,6 +344,7 @@ fn order_is_not_scaled(call: &Call, scaled: &Outcome, second: &Outcome) -> bool 
             let second = second::answer(&order);
             scaled != second && scaled::same_but_for_order(&scaled, &second)
         }
+        Entry::SliceSpan | Entry::FromSlicePoints => second::distances_decide(call),
         _ => false,
     }
 }

@@ -1,6 +1,6 @@
 //! What the original makes of a call that is accepted, in the form of the archive's outcome.
 //!
-//! Compared directly, value by value as the original returns them: the vertices of a view, the three
+//! Compared directly, value by value as the original returns them: the vertices of a view, the five
 //! constructors, the verdict, the candidates, the pruned slices with their starts, the loops.
 //! The order of cuts is asked of the private function itself, in a second copy of its file.
 //! Compared through what can be seen:
@@ -8,6 +8,8 @@
 //!   alone, which tells its segment and marks; then each cut in order is given the lowest number not
 //!   yet given whose segment, point and mark are its own. So two cuts alike in all three are told
 //!   apart by the rule of document 01, not by the original.
+//! - the span of two points: from the view that the original gives where every split lies far away, and
+//!   from how often it asks for one.
 //! - probes: the two vertices handed to `seg_midpoint`.
 //! - rounds: one query of the spatial index each.
 //! - chains: from what the selector is asked and answers, round by round. The first slice of a chain
@@ -51,6 +53,9 @@ pub fn answer(call: &Call) -> Outcome {
         Entry::Stitch => stitch(r, &call.lent),
         Entry::AreaPass => area_pass(r, &call.lent),
         Entry::ViewVertices => view_vertices(r, &call.lent),
+        Entry::SliceSpan => slice_span(r),
+        Entry::FromSlicePoints => from_slice_points(r),
+        Entry::FromNewStart => from_new_start(r),
     }
 }
 
@@ -79,6 +84,13 @@ fn vertex(r: &mut Reader) -> PlineVertex {
 fn point(r: &mut Reader) -> Vector2 {
     let [x, y] = r.some();
     Vector2::new(x, y)
+}
+
+fn split(r: &mut Reader) -> SplitResult {
+    SplitResult {
+        updated_start: vertex(r),
+        split_vertex: vertex(r),
+    }
 }
 
 fn view(r: &mut Reader) -> PlineViewData {
@@ -162,11 +174,7 @@ fn create(r: &mut Reader) -> Outcome {
     let intersect_index = r.count();
     let updated_start = vertex(r);
     let (traverse_count, tolerance) = (r.count(), r.tolerance());
-    let split = SplitResult {
-        updated_start: vertex(r),
-        split_vertex: vertex(r),
-    };
-    let view = with_host(OneSplit(split), || {
+    let view = with_host(OneSplit(split(r)), || {
         stages::create(
             &pline,
             start_index,
@@ -200,6 +208,145 @@ fn from_entire_pline(r: &mut Reader) -> Outcome {
     r.count();
     let pline = Polyline::from_vertexes(vertices, r.code() == 1);
     view_answer(Some(stages::from_entire_pline(&pline)))
+}
+
+/// Answers every split with one that lies far away, and counts how often it is asked.
+struct FarSplits(Rc<Cell<usize>>);
+
+impl Host for FarSplits {
+    fn split(&mut self, _: PlineVertex, _: PlineVertex, _: Vector2) -> Option<SplitResult> {
+        self.0.set(self.0.get() + 1);
+        let far = PlineVertex::new(f64::INFINITY, f64::INFINITY, 0.0);
+        Some(SplitResult {
+            updated_start: far,
+            split_vertex: far,
+        })
+    }
+
+    fn closest(&mut self, _: PlineVertex, _: PlineVertex, _: Vector2) -> Option<Vector2> {
+        None
+    }
+
+    fn midpoint(&mut self, _: PlineVertex, _: PlineVertex) {}
+}
+
+/// Whether the start moved, its segment then, and the traverse count.
+struct Span {
+    moved: bool,
+    start_index: usize,
+    traverse_count: usize,
+}
+
+/// The original's span of two points. No split that lies far away agrees with the end, so there is
+/// no view only where the start moved onto a vertex that agrees with it, one segment before it. Else the
+/// view has the start's segment, which is another one where the start moved. The start's split is asked
+/// for unless it moved, and the end's unless the end stands on its vertex after a walk, which takes one
+/// off the offset.
+fn span_of(
+    pline: &Polyline,
+    start: (usize, Vector2),
+    end: (usize, Vector2),
+    tolerance: f64,
+) -> Span {
+    let asked = Rc::new(Cell::new(0));
+    let view = with_host(FarSplits(asked.clone()), || {
+        stages::from_slice_points(pline, start, end, tolerance)
+    });
+    let Some(view) = view else {
+        return Span {
+            moved: true,
+            start_index: pline.next_wrapping_index(start.0),
+            traverse_count: 1,
+        };
+    };
+    let moved = view.start_index != start.0;
+    let end_asked = asked.get() > usize::from(!moved);
+    Span {
+        moved,
+        start_index: view.start_index,
+        traverse_count: view.end_index_offset + usize::from(!end_asked),
+    }
+}
+
+/// Answers one split after the other.
+struct InTurn(VecDeque<SplitResult>);
+
+impl Host for InTurn {
+    fn split(&mut self, _: PlineVertex, _: PlineVertex, _: Vector2) -> Option<SplitResult> {
+        Some(self.0.pop_front().expect("no split is asked for twice"))
+    }
+
+    fn closest(&mut self, _: PlineVertex, _: PlineVertex, _: Vector2) -> Option<Vector2> {
+        None
+    }
+
+    fn midpoint(&mut self, _: PlineVertex, _: PlineVertex) {}
+}
+
+/// The splits in the order in which they are asked for: a start that moved asks for none.
+fn in_turn(span: &Span, start: SplitResult, end: SplitResult) -> InTurn {
+    InTurn(if span.moved {
+        [end].into()
+    } else {
+        [start, end].into()
+    })
+}
+
+/// The outline of a call, open or closed.
+fn open_or_closed(r: &mut Reader) -> Polyline {
+    let numbers = numbers_of(r.list());
+    r.count();
+    stages::open_or_closed(&numbers, r.code() == 1)
+}
+
+fn place(r: &mut Reader) -> (usize, Vector2) {
+    (r.count(), point(r))
+}
+
+fn slice_span(r: &mut Reader) -> Outcome {
+    let pline = open_or_closed(r);
+    let span = span_of(&pline, place(r), place(r), r.tolerance());
+    Outcome {
+        answer: vec![
+            0,
+            u64::from(span.moved),
+            span.start_index as u64,
+            span.traverse_count as u64,
+        ],
+        lent: Vec::new(),
+    }
+}
+
+fn from_slice_points(r: &mut Reader) -> Outcome {
+    let pline = open_or_closed(r);
+    let (start, end, tolerance) = (place(r), place(r), r.tolerance());
+    let span = span_of(&pline, start, end, tolerance);
+    let splits = in_turn(&span, split(r), split(r));
+    view_answer(with_host(splits, || {
+        stages::from_slice_points(&pline, start, end, tolerance)
+    }))
+}
+
+fn from_new_start(r: &mut Reader) -> Outcome {
+    let pline = open_or_closed(r);
+    let (start, tolerance) = (place(r), r.tolerance());
+    let (start_split, end_split) = (split(r), split(r));
+    let splits = if pline.is_closed() {
+        InTurn([start_split].into())
+    } else {
+        let last = pline.vertex_count() - 1;
+        let end = (last, pline.at(last).pos());
+        let span = span_of(&pline, start, end, tolerance);
+        in_turn(&span, start_split, end_split)
+    };
+    view_answer(with_host(splits, || {
+        stages::from_new_start(&pline, start, tolerance)
+    }))
+}
+
+/// What the original gives with its own splits.
+pub fn with_own_splits(view: Option<PlineViewData>) -> Outcome {
+    view_answer(view)
 }
 
 /// An outline that the host stands behind: it counts how often a vertex is read, and it may answer

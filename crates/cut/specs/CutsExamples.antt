@@ -5,11 +5,11 @@ use mathlib.Core.List.{List, [], _∷_, flatMap}
 use lib.Ieee.{Float, binary64, ofBits, lt, add, sub, mul}
 use Rattle.basis.specs.Number.{+0, one, agree, absF, alike}
 use Rattle.basis.specs.declared.number.Tolerance.{Tolerance}
-use Rattle.outline.specs.Points.{pointsAgree}
+use Rattle.outline.specs.Points.{pointsAgree, distSquared}
 use Rattle.outline.specs.Outline.{vertexAt, outlineAt, wrap, pointAt}
 use Rattle.view.specs.Create.{nearVertex}
 use Rattle.cut.specs.Cuts.{Given, given, caseOf, whichOf, hitCut, moved, markedEnd, lapCut, cutOf}
-use Rattle.cut.specs.Order.{distSquared, distance, sooner, earlier, insert, ordered, orderOf, cutNumbers, cutPoints}
+use Rattle.cut.specs.Order.{distance, sooner, earlier, insert, ordered, orderOf, cutNumbers, cutPoints}
 
 abbrev two : Float
 two = ofBits binary64 0x4000_0000_0000_0000

@@ -18,6 +18,10 @@ use Rattle.view_entries.specs.CreateEntry.{createRows, createRefusal}
 use Rattle.view_entries.specs.SingleEntry.{singleRows, singleRefusal}
 use Rattle.view_entries.specs.EntireEntry.{entireRows, entireRefusal}
 use Rattle.verdict_entries.specs.ValidateEntry.{validateRows, validateRefusal}
+use Rattle.view_start.specs.declared.span.Ends.{Ends}
+use Rattle.view_start_entries.specs.SpanEntry.{spanRows, spanRefusal}
+use Rattle.view_start_entries.specs.SliceEntry.{sliceRows, sliceRefusal}
+use Rattle.view_start_entries.specs.NewStartEntry.{newStartRows, newStartRefusal}
 use Rattle.cut.specs.Cuts as cuts
 use Rattle.cut_entries.specs.CutRows.{listRows, valueRows, indexRows}
 use Rattle.cut_entries.specs.CutOrder.{cutInputRows, cutOrderRows, cutOrderRefusal}
@@ -57,6 +61,19 @@ entire-first o vc closed = first-of (entireRows o vc closed) tt
 pub validate-first : (o : List Float) (vc : ℕ) (v : View) (startOn endOn : ℕ) → First (validateRows o vc v startOn endOn) (validateRefusal o vc v startOn endOn)
 unfolding validateRefusal before refusalOrder
 validate-first o vc v startOn endOn = first-of (validateRows o vc v startOn endOn) tt
+
+pub span-first : (o : List Float) (vc closed : ℕ) (e : Ends) (t : Tolerance) → First (spanRows o vc closed e t) (spanRefusal o vc closed e t)
+unfolding spanRefusal before refusalOrder
+span-first o vc closed e t = first-of (spanRows o vc closed e t) tt
+
+pub slice-first : (o : List Float) (vc closed : ℕ) (e : Ends) (t : Tolerance) (start end : Split) → First (sliceRows o vc closed e t start end) (sliceRefusal o vc closed e t start end)
+unfolding sliceRefusal before refusalOrder
+slice-first o vc closed e t start end = first-of (sliceRows o vc closed e t start end) tt
+
+pub new-start-first : (o : List Float) (vc closed i : ℕ) (p : Point) (t : Tolerance) (start end : Split)
+    → First (newStartRows o vc closed i p t start end) (newStartRefusal o vc closed i p t start end)
+unfolding newStartRefusal before refusalOrder
+new-start-first o vc closed i p t start end = first-of (newStartRows o vc closed i p t start end) tt
 
 pub order-first : (g : cuts.Given) (numbers points : ℕ) → First (cutOrderRows g numbers points) (cutOrderRefusal g numbers points)
 unfolding cutOrderRefusal cutInputRows listRows valueRows indexRows before refusalOrder

@@ -20,6 +20,11 @@ use Rattle.view_entries.specs.CreateEntry.{createAnswer}
 use Rattle.view_entries.specs.SingleEntry.{singleAnswer}
 use Rattle.view_entries.specs.EntireEntry.{entireAnswer}
 use Rattle.verdict_entries.specs.ValidateEntry.{validateAnswer}
+use Rattle.view_start.specs.declared.span.Ends.{Ends}
+use Rattle.view_start_entries.specs.declared.answer.SpanAnswer.{SpanAnswer}
+use Rattle.view_start_entries.specs.SpanEntry.{spanAnswer}
+use Rattle.view_start_entries.specs.SliceEntry.{sliceAnswer}
+use Rattle.view_start_entries.specs.NewStartEntry.{newStartAnswer}
 use Rattle.cut.specs.Cuts as cuts
 use Rattle.candidate.specs.Ready as slices
 use Rattle.basis.specs.declared.answer.CountAnswer.{CountAnswer}
@@ -59,6 +64,16 @@ entire-one o vc closed r s e f = one-answer r s (entireAnswer o vc closed) e f
 
 pub validate-one : (o : List Float) (vc : ℕ) (v : View) (startOn endOn : ℕ) (r s : VerdictAnswer) → r ≡ validateAnswer o vc v startOn endOn → s ≡ validateAnswer o vc v startOn endOn → r ≡ s
 validate-one o vc v startOn endOn r s e f = one-answer r s (validateAnswer o vc v startOn endOn) e f
+
+pub span-one : (o : List Float) (vc closed : ℕ) (e : Ends) (t : Tolerance) (r s : SpanAnswer) → r ≡ spanAnswer o vc closed e t → s ≡ spanAnswer o vc closed e t → r ≡ s
+span-one o vc closed e t r s f g = one-answer r s (spanAnswer o vc closed e t) f g
+
+pub slice-one : (o : List Float) (vc closed : ℕ) (e : Ends) (t : Tolerance) (start end : Split) (r s : ViewAnswer) → r ≡ sliceAnswer o vc closed e t start end → s ≡ sliceAnswer o vc closed e t start end → r ≡ s
+slice-one o vc closed e t start end r s f g = one-answer r s (sliceAnswer o vc closed e t start end) f g
+
+pub new-start-one : (o : List Float) (vc closed i : ℕ) (p : Point) (t : Tolerance) (start end : Split) (r s : ViewAnswer)
+    → r ≡ newStartAnswer o vc closed i p t start end → s ≡ newStartAnswer o vc closed i p t start end → r ≡ s
+new-start-one o vc closed i p t start end r s f g = one-answer r s (newStartAnswer o vc closed i p t start end) f g
 
 pub order-one : (g : cuts.Given) (cutAt : List ℕ) (cut : List Float) (r s : CountAnswer) (a b : List ℕ) (p q : List Float)
     → CutOrdered g cutAt cut r a p → CutOrdered g cutAt cut s b q → (r ≡ s) × (a ≡ b) × (p ≡ q)

@@ -1,7 +1,7 @@
--- Document 01, "Equal points and boxes".
+-- Document 01, "Equal points and boxes", and the distance by which points of one segment are told apart.
 use mathlib.Core.Bool.{Bool, _&&_}
 use mathlib.Core.List.{List, [], _∷_}
-use lib.Ieee.{Float}
+use lib.Ieee.{Float, binary64, add, sub, mul}
 use Rattle.basis.specs.Number.{agree, inSpan}
 use Rattle.basis.specs.declared.number.Tolerance.{Tolerance}
 use Rattle.outline.specs.declared.point.Point.{Point}
@@ -25,6 +25,13 @@ pointNumbers p = p .x ∷ p .y ∷ []
 
 abbrev pub vertexNumbers : Vertex → List Float
 vertexNumbers v = v .x ∷ v .y ∷ v .bulge ∷ []
+
+-- "rounded squared distance dx·dx + dy·dy": each operation is rounded once
+unfoldable pub distSquared : Point → Point → Float
+distSquared p q =
+    let dx = sub binary64 (p .x) (q .x) in
+    let dy = sub binary64 (p .y) (q .y) in
+    add binary64 (mul binary64 dx dx) (mul binary64 dy dy)
 
 -- "Two points agree when both coordinates do", x by the first tolerance and y by the second (K6)
 unfoldable pub pointsAgree : Tolerance → Point → Point → Bool

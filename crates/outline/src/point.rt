@@ -1,6 +1,6 @@
 // Document 01: "A vertex is a record of x, y and bulge, all f64", and "Equal points and boxes".
 ghost use mathlib.Core.Path.{_≡_};
-ghost use Rattle.outline.specs.Points.{posOf, withBulge, pointsAgree, inBox};
+ghost use Rattle.outline.specs.Points.{posOf, withBulge, distSquared, pointsAgree, inBox};
 use basis::number;
 use basis::number::Tolerance;
 
@@ -42,6 +42,15 @@ pub fn vertex_of(p: Point, bulge: f64) -> Vertex
         y: p.y,
         bulge,
     }
+}
+
+// dx * dx + dy * dy, each operation rounded once.
+pub fn dist_squared(p: Point, q: Point) -> f64
+    ensures { λ r. ⌜ r ≡ distSquared p q ⌝ }
+{
+    let dx = p.x - q.x;
+    let dy = p.y - q.y;
+    dx * dx + dy * dy
 }
 
 // Both coordinates agree, each by the tolerance of its axis. Beside the test of its range, this function and the next alone look into a position tolerance.

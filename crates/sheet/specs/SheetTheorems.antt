@@ -14,7 +14,7 @@ use Rattle.basis.specs.Each.{eachTo, placesBelow, placesAtMost}
 use Rattle.basis.specs.RefuseLaws.{answer-accepted}
 use Rattle.basis.specs.Refuse.{answer, firstOf, lengthFault, sizeFault, sourceFault}
 use Rattle.outline.specs.declared.point.Vertex.{Vertex}
-use Rattle.outline.specs.Points.{posOf, pointsAgree, inBox}
+use Rattle.outline.specs.Points.{posOf, pointsAgree, inBox, distSquared}
 use Rattle.outline.specs.Outline.{vertexAt, wrap, outlineAt, pointAt}
 use Rattle.view.specs.declared.vertex.Found.{Found}
 use Rattle.view.specs.declared.vertex.Found.the-variants as found
@@ -30,7 +30,7 @@ use Rattle.view_entries.specs.SingleEntry.{singleRefusal, singleAnswer}
 use Rattle.view.specs.Create.{nearVertex, bulgeBefore, createView, singleView}
 use Rattle.cut.specs.Cuts as cuts
 use Rattle.cut.specs.Cuts.{whichOf, hitCut, moved, markedEnd, lapCut, cutOf}
-use Rattle.cut.specs.Order.{distSquared, distance, sooner, earlier, insert, ordered, orderOf, cutNumbers, cutPoints}
+use Rattle.cut.specs.Order.{distance, sooner, earlier, insert, ordered, orderOf, cutNumbers, cutPoints}
 use Rattle.candidate.specs.Candidates as slices
 use Rattle.candidate_write.specs.ItemLaws.{flat-length, wide-numbers}
 use Rattle.candidate.specs.Candidates.{sameNext, firstCut, traverseFrom, traverseOf, sliceOf, pieceOf, walkOf, walked, walkAt, candidateAt, candidatesTo}

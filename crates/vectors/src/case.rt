@@ -1,10 +1,11 @@
 // A case: its words in every form, and the entry that it is of.
 use crate::bits;
 use crate::lists;
+use crate::starts;
 use crate::views;
 use crate::words;
 
-// Replays a case of an entry over its words; the mutable lists are copies of them to be lent. An entry that is not known differs.
+// Replays a case of an entry over its words; the mutable lists are copies of them to be lent.
 fn replay(
     entry: usize,
     w: &[usize],
@@ -28,7 +29,7 @@ fn replay(
         7 => lists::prune(w, x, b, c1, x1),
         8 => lists::stitch(w, x, x1, c1, c2, c3, c4),
         9 => lists::area_pass(w, x, c1),
-        _ => false,
+        _ => starts::replay(entry, w, x),
     }
 }
 

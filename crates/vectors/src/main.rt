@@ -2,6 +2,7 @@
 mod bits;
 mod case;
 mod lists;
+mod starts;
 mod tally;
 mod views;
 mod words;
@@ -94,8 +95,8 @@ fn main() {
         return;
     }
     let mut buf = [0u8; 32768];
-    let mut seen = [0usize; 15];
-    let mut differ = [0usize; 15];
+    let mut seen = [0usize; tally::PLACES];
+    let mut differ = [0usize; tally::PLACES];
     all(fd, &mut buf, &mut seen, &mut differ);
     libc::close(fd);
     tally::show(&seen, &differ);

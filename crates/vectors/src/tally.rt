@@ -2,6 +2,21 @@
 use crate::bits;
 use libc::STDOUT_FILENO;
 
+// Below these places the counts of the entries stand, by their numbers in the record.
+const ALL: usize = 32;
+
+// Those whose answer is the original's, and the refusal table's.
+const ORIGINAL: usize = 33;
+
+const TABLE: usize = 34;
+
+// The sum of all words, and how many cases the record's head announces.
+const WORDS: usize = 35;
+
+const ANNOUNCED: usize = 36;
+
+pub(crate) const PLACES: usize = 37;
+
 // One more at place i.
 fn add(counts: &mut [usize], i: usize) {
     if i < counts.len() {
@@ -11,38 +26,36 @@ fn add(counts: &mut [usize], i: usize) {
     }
 }
 
-// A case of an entry: place 10 counts all, 11 and 12 those whose answer is the original's (0) or the refusal table's.
+// A case of an entry, whose answer is the original's (0) or the refusal table's.
 pub(crate) fn count(seen: &mut [usize], entry: usize, origin: usize) {
     add(seen, entry);
-    add(seen, 10);
+    add(seen, ALL);
     add_origin(seen, origin);
 }
 
 fn add_origin(seen: &mut [usize], origin: usize) {
     if origin == 0 {
-        add(seen, 11);
+        add(seen, ORIGINAL);
         return;
     }
-    add(seen, 12);
+    add(seen, TABLE);
 }
 
-// Place 14 has how many cases the record's head announces.
 pub(crate) fn announce(seen: &mut [usize], n: usize) {
-    if seen.len() > 14 {
-        seen[14] = n;
+    if seen.len() > ANNOUNCED {
+        seen[ANNOUNCED] = n;
     }
 }
 
-// Place 13 has the sum of all words.
 pub(crate) fn add_words(seen: &mut [usize], own: &[u8]) {
-    if seen.len() > 13 {
-        seen[13] = bits::sum(own, seen[13]);
+    if seen.len() > WORDS {
+        seen[WORDS] = bits::sum(own, seen[WORDS]);
     }
 }
 
 pub(crate) fn count_differing(differ: &mut [usize], entry: usize) {
     add(differ, entry);
-    add(differ, 10);
+    add(differ, ALL);
 }
 
 fn at(counts: &[usize], i: usize) -> usize {
@@ -85,19 +98,26 @@ fn of_lists(seen: &[usize], differ: &[usize]) {
     line(b"mask_area_pass", seen, differ, 9);
 }
 
+fn of_starts(seen: &[usize], differ: &[usize]) {
+    line(b"mask_slice_span", seen, differ, 10);
+    line(b"mask_from_slice_points", seen, differ, 11);
+    line(b"mask_from_new_start", seen, differ, 12);
+}
+
 pub(crate) fn show(seen: &[usize], differ: &[usize]) {
     of_views(seen, differ);
     of_lists(seen, differ);
-    whole(at(seen, 11));
+    of_starts(seen, differ);
+    whole(at(seen, ORIGINAL));
     word(b" answers of the original, ");
-    whole(at(seen, 12));
+    whole(at(seen, TABLE));
     word(b" of the refusal table; all words add up to ");
-    whole(at(seen, 13));
+    whole(at(seen, WORDS));
     word(b"\n");
-    whole(at(seen, 10));
+    whole(at(seen, ALL));
     word(b" of ");
-    whole(at(seen, 14));
+    whole(at(seen, ANNOUNCED));
     word(b" cases, ");
-    whole(at(differ, 10));
+    whole(at(differ, ALL));
     word(b" differ\n");
 }

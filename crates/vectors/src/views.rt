@@ -8,18 +8,25 @@ use view_entries::answer::ViewAnswer;
 use view_entries::input::Split;
 use view_entries::input::View;
 
-fn point(x: &[f64]) -> Point {
+pub(crate) fn point(x: &[f64]) -> Point {
     Point {
         x: words::float_at(x, 0),
         y: words::float_at(x, 1),
     }
 }
 
-fn vertex(x: &[f64]) -> Vertex {
+pub(crate) fn vertex(x: &[f64]) -> Vertex {
     Vertex {
         x: words::float_at(x, 0),
         y: words::float_at(x, 1),
         bulge: words::float_at(x, 2),
+    }
+}
+
+pub(crate) fn split(x: &[f64]) -> Split {
+    Split {
+        updated_start: vertex(x),
+        split_vertex: vertex(words::floats_from(x, 3)),
     }
 }
 
@@ -59,7 +66,7 @@ fn is_vertex_answer(w: &[usize], r: VertexAnswer) -> bool {
         && is_vertex(words::from(w, 2), r.vertex)
 }
 
-fn is_view_answer(w: &[usize], r: ViewAnswer) -> bool {
+pub(crate) fn is_view_answer(w: &[usize], r: ViewAnswer) -> bool {
     words::code_at(w, 0) == r.refusal
         && words::code_at(w, 1) == r.found
         && is_view(words::from(w, 2), r.view)
@@ -91,10 +98,7 @@ pub(crate) fn create(w: &[usize], x: &[f64]) -> bool {
     let p = words::behind(w, 1);
     let r = words::from(w, p);
     let y = words::floats_from(x, p);
-    let split = Split {
-        updated_start: vertex(words::floats_from(y, 10)),
-        split_vertex: vertex(words::floats_from(y, 13)),
-    };
+    let split = split(words::floats_from(y, 10));
     let answer = mask::viewing::mask_create(
         outline,
         words::at(r, 0),

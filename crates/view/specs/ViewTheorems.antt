@@ -293,7 +293,7 @@ module _ (p : Float → Bool) where
   unfolding allOf
   numbers-pass u b e f g h = all-append p (vertexNumbers u) (b ∷ pointNumbers e) ∙ ap₂ _&&_ f (ap₂ _&&_ g h)
 
-  outline-passes : (o : List Float) (vc i : ℕ) → Whole o vc → allOf p o ≡ true → allOf p (vertexNumbers (outlineAt o vc i)) ≡ true
+  pub outline-passes : (o : List Float) (vc i : ℕ) → Whole o vc → allOf p o ≡ true → allOf p (vertexNumbers (outlineAt o vc i)) ≡ true
   unfolding allOf outlineAt vertexAt
   outline-passes o vc i whole a =
       let h : wrap vc i < vc = wrap-lt vc i (omega arith) in
@@ -305,7 +305,7 @@ module _ (p : Float → Bool) where
   bulge-passes : (u : Vertex) → allOf p (vertexNumbers u) ≡ true → p (u .bulge) ≡ true
   bulge-passes u a = all-at p (vertexNumbers u) 2 nan a (omega arith)
 
-  place-passes : (u : Vertex) → allOf p (vertexNumbers u) ≡ true → allOf p (pointNumbers (posOf u)) ≡ true
+  pub place-passes : (u : Vertex) → allOf p (vertexNumbers u) ≡ true → allOf p (pointNumbers (posOf u)) ≡ true
   unfolding allOf
   place-passes u a = simp (all-at p (vertexNumbers u) 0 nan a (omega arith), all-at p (vertexNumbers u) 1 nan a (omega arith))
 

@@ -65,7 +65,7 @@ pub(crate) fn vertex_found(f: Found) -> VertexAnswer
 }
 
 // No view, with a refusal or without.
-pub(crate) fn view_refused(number: u32) -> ViewAnswer
+pub fn view_refused(number: u32) -> ViewAnswer
     ensures { λ r. ⌜ r ≡ viewRefused number ⌝ }
 {
     ViewAnswer {
@@ -76,7 +76,7 @@ pub(crate) fn view_refused(number: u32) -> ViewAnswer
 }
 
 // A yes/no code.
-fn choice(yes: bool) -> u32
+pub fn choice(yes: bool) -> u32
     ensures { λ r. ⌜ r ≡ codeOf yes ⌝ }
 {
     if yes { 1 } else { 0 }
@@ -108,7 +108,7 @@ pub(crate) fn view_made(v: ViewData) -> ViewAnswer
     }
 }
 
-pub(crate) fn segment_made(s: OneSegment) -> ViewAnswer
+pub fn segment_made(s: OneSegment) -> ViewAnswer
     ensures { λ r. ⌜ r ≡ segmentMade s ⌝ }
 {
     match s {

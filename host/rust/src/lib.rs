@@ -63,6 +63,12 @@
 //! [`View`] has the entries over a single part of an outline. [`lent`] has the calls that write
 //! lists with room that the caller lends.
 //!
+//! # Start anywhere
+//!
+//! [`View::from_slice_points`] gives the part of an outline between two points of it, and
+//! [`View::from_new_start`] starts an outline at a point of it. Each is one call with a [`Host`] that
+//! splits; outlines may be open here.
+//!
 //! # Masks in whole microdegrees
 //!
 //! [`WholeOutline`] is an outline without arcs whose coordinates are whole numbers. Its winding
@@ -102,6 +108,7 @@ mod masks;
 mod outline;
 mod refusal;
 mod slices;
+mod start;
 mod stitch;
 mod straight;
 mod view;
@@ -117,6 +124,7 @@ pub use masks::{Combined, Masks};
 pub use outline::{Outline, Source, Tolerance};
 pub use refusal::Refusal;
 pub use slices::{prune, Answered, Mode, Slice, Slices};
+pub use start::{slice_span, Place, Span};
 pub use stitch::{area_pass, stitch, Chain, ChainEnd, Selector, Stitched};
 pub use straight::{straight_report, StraightReport, WholeOutline};
 pub use view::{OnSegment, Verdict, Vertices, View, Walk};

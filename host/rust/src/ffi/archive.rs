@@ -80,6 +80,16 @@ pub struct ViewAnswer {
     pub view: View,
 }
 
+/// `mask_span_answer`
+#[repr(C)]
+#[derive(Debug, Clone, Copy, Default)]
+pub struct SpanAnswer {
+    pub refusal: u32,
+    pub moved: u32,
+    pub start_index: usize,
+    pub traverse_count: usize,
+}
+
 /// `mask_verdict_answer`
 #[repr(C)]
 #[derive(Debug, Clone, Copy, Default)]
@@ -162,7 +172,7 @@ pub use entries::*;
 #[cfg(not(test))]
 mod entries {
     use super::{
-        AreaAnswer, CountAnswer, Point, PruneAnswer, ReportAnswer, Split, StitchAnswer,
+        AreaAnswer, CountAnswer, Point, PruneAnswer, ReportAnswer, SpanAnswer, Split, StitchAnswer,
         VerdictAnswer, Vertex, VertexAnswer, View, ViewAnswer, WindingAnswer,
     };
 
@@ -224,6 +234,47 @@ mod entries {
             start_on_segment: u32,
             end_on_segment: u32,
         ) -> VerdictAnswer;
+
+        pub fn mask_slice_span(
+            outline: *const f64,
+            outline_len: usize,
+            vc: usize,
+            closed: u32,
+            start_index: usize,
+            start_point: Point,
+            end_index: usize,
+            end_point: Point,
+            tolerance_x: f64,
+            tolerance_y: f64,
+        ) -> SpanAnswer;
+
+        pub fn mask_from_slice_points(
+            outline: *const f64,
+            outline_len: usize,
+            vc: usize,
+            closed: u32,
+            start_index: usize,
+            start_point: Point,
+            end_index: usize,
+            end_point: Point,
+            tolerance_x: f64,
+            tolerance_y: f64,
+            start_split: Split,
+            end_split: Split,
+        ) -> ViewAnswer;
+
+        pub fn mask_from_new_start(
+            outline: *const f64,
+            outline_len: usize,
+            vc: usize,
+            closed: u32,
+            start_index: usize,
+            start_point: Point,
+            tolerance_x: f64,
+            tolerance_y: f64,
+            start_split: Split,
+            end_split: Split,
+        ) -> ViewAnswer;
 
         pub fn mask_cut_order(
             outline: *const f64,
@@ -472,6 +523,100 @@ mod entries {
                 view,
                 start_on_segment,
                 end_on_segment,
+            )
+        }
+    }
+
+    #[inline]
+    #[allow(clippy::too_many_arguments)] // those of the header
+    pub fn slice_span(
+        outline: &[f64],
+        vc: usize,
+        closed: u32,
+        start_index: usize,
+        start_point: Point,
+        end_index: usize,
+        end_point: Point,
+        tolerance_x: f64,
+        tolerance_y: f64,
+    ) -> SpanAnswer {
+        // SAFETY: pointer and length are those of one slice, which is only read.
+        unsafe {
+            mask_slice_span(
+                outline.as_ptr(),
+                outline.len(),
+                vc,
+                closed,
+                start_index,
+                start_point,
+                end_index,
+                end_point,
+                tolerance_x,
+                tolerance_y,
+            )
+        }
+    }
+
+    #[inline]
+    #[allow(clippy::too_many_arguments)] // those of the header
+    pub fn from_slice_points(
+        outline: &[f64],
+        vc: usize,
+        closed: u32,
+        start_index: usize,
+        start_point: Point,
+        end_index: usize,
+        end_point: Point,
+        tolerance_x: f64,
+        tolerance_y: f64,
+        start_split: Split,
+        end_split: Split,
+    ) -> ViewAnswer {
+        // SAFETY: pointer and length are those of one slice, which is only read.
+        unsafe {
+            mask_from_slice_points(
+                outline.as_ptr(),
+                outline.len(),
+                vc,
+                closed,
+                start_index,
+                start_point,
+                end_index,
+                end_point,
+                tolerance_x,
+                tolerance_y,
+                start_split,
+                end_split,
+            )
+        }
+    }
+
+    #[inline]
+    #[allow(clippy::too_many_arguments)] // those of the header
+    pub fn from_new_start(
+        outline: &[f64],
+        vc: usize,
+        closed: u32,
+        start_index: usize,
+        start_point: Point,
+        tolerance_x: f64,
+        tolerance_y: f64,
+        start_split: Split,
+        end_split: Split,
+    ) -> ViewAnswer {
+        // SAFETY: pointer and length are those of one slice, which is only read.
+        unsafe {
+            mask_from_new_start(
+                outline.as_ptr(),
+                outline.len(),
+                vc,
+                closed,
+                start_index,
+                start_point,
+                tolerance_x,
+                tolerance_y,
+                start_split,
+                end_split,
             )
         }
     }

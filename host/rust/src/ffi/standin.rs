@@ -4,8 +4,8 @@
 //! `tests` show.
 
 use super::{
-    AreaAnswer, CountAnswer, PruneAnswer, ReportAnswer, StitchAnswer, VerdictAnswer, VertexAnswer,
-    View, ViewAnswer, WindingAnswer,
+    AreaAnswer, CountAnswer, PruneAnswer, ReportAnswer, SpanAnswer, StitchAnswer, VerdictAnswer,
+    VertexAnswer, View, ViewAnswer, WindingAnswer,
 };
 use crate::{Point, Split, Vertex};
 use std::cell::RefCell;
@@ -132,6 +132,7 @@ macro_rules! answers {
 answers!(
     Vertex VertexAnswer,
     View ViewAnswer,
+    Span SpanAnswer,
     Verdict VerdictAnswer,
     Count CountAnswer,
     Prune PruneAnswer,
@@ -186,7 +187,7 @@ macro_rules! call {
 pub(crate) mod entries {
     use super::{play, Call, Lent};
     use super::{CountAnswer, PruneAnswer, StitchAnswer, VerdictAnswer, VertexAnswer, ViewAnswer};
-    use super::{AreaAnswer, Point, ReportAnswer, Split, Vertex, View, WindingAnswer};
+    use super::{AreaAnswer, Point, ReportAnswer, SpanAnswer, Split, Vertex, View, WindingAnswer};
 
     pub(crate) fn view_vertex(outline: &[f64], vc: usize, view: View, index: usize) -> VertexAnswer {
         play(call!(view_vertex: outline, vc, view, index;), &mut [], &mut []).into()
@@ -224,6 +225,33 @@ pub(crate) mod entries {
         outline: &[f64], vc: usize, view: View, start_on_segment: u32, end_on_segment: u32,
     ) -> VerdictAnswer {
         let call = call!(validate_for_source: outline, vc, view, start_on_segment, end_on_segment;);
+        play(call, &mut [], &mut []).into()
+    }
+
+    pub(crate) fn slice_span(
+        outline: &[f64], vc: usize, closed: u32, start_index: usize, start_point: Point,
+        end_index: usize, end_point: Point, tolerance_x: f64, tolerance_y: f64,
+    ) -> SpanAnswer {
+        let call = call!(slice_span: outline, vc, closed, start_index, start_point, end_index,
+            end_point, tolerance_x, tolerance_y;);
+        play(call, &mut [], &mut []).into()
+    }
+
+    pub(crate) fn from_slice_points(
+        outline: &[f64], vc: usize, closed: u32, start_index: usize, start_point: Point,
+        end_index: usize, end_point: Point, tolerance_x: f64, tolerance_y: f64, start_split: Split, end_split: Split,
+    ) -> ViewAnswer {
+        let call = call!(from_slice_points: outline, vc, closed, start_index, start_point,
+            end_index, end_point, tolerance_x, tolerance_y, start_split, end_split;);
+        play(call, &mut [], &mut []).into()
+    }
+
+    pub(crate) fn from_new_start(
+        outline: &[f64], vc: usize, closed: u32, start_index: usize, start_point: Point,
+        tolerance_x: f64, tolerance_y: f64, start_split: Split, end_split: Split,
+    ) -> ViewAnswer {
+        let call = call!(from_new_start: outline, vc, closed, start_index, start_point, tolerance_x, tolerance_y,
+            start_split, end_split;);
         play(call, &mut [], &mut []).into()
     }
 

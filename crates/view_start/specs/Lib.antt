@@ -1,0 +1,9 @@
+pub mod Span
+pub mod SlicePoints
+pub mod NewStart
+pub mod Asked
+pub mod SpanLaws
+pub mod SpanTheorems
+pub mod StartTheorems
+pub mod AskedTheorems
+pub mod StartExamples

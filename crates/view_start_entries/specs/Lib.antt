@@ -1,0 +1,9 @@
+pub mod Answers
+pub mod StartRows
+pub mod SpanEntry
+pub mod SliceEntry
+pub mod NewStartEntry
+pub mod RustText
+pub mod RustTheorems
+pub mod StartEntryTheorems
+pub mod StartEntryExamples
