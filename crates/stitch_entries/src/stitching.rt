@@ -109,7 +109,7 @@ pub fn stitched(
     ))
 }
 
-// The slices stitched into closed loops.
+// The slices stitched into closed loops. Each slice must have the edition of its outline.
 pub fn entry(
     outline1: &[f64],
     vc1: usize,
