@@ -13,7 +13,16 @@ returns : tie.Need-returns
 returns c = search (needs, ways)
 
 found-requires : tie.Need-found-requires
-found-requires c κs = let told = c .before .before .before in cand-ready _ _ _ _ (told .before .refusal .ensures) (told .if1 .left)
+found-requires c κs = let told = c .before .before .before in cand-ready _ _ 0 _ _ (told .before .refusal .ensures) (told .if1 .left)
+
+mul-write-editions : tie.Need-mul-write-editions
+mul-write-editions c = search needs
+
+add-write-editions : tie.Need-add-write-editions
+add-write-editions c = search needs
+
+write-editions-requires : tie.Need-write-editions-requires
+write-editions-requires c κs = search (needs, ways)
 
 counted-as-requires : tie.Need-counted-as-requires
 counted-as-requires c κs = search needs
@@ -27,6 +36,9 @@ same-length-2 c = search needs
 same-length-3 : tie.Need-same-length-3
 same-length-3 c = search needs
 
+same-length-4 : tie.Need-same-length-4
+same-length-4 c = search needs
+
 returns-2 : tie.Need-returns-2
 returns-2 c = search (needs, ways)
 
@@ -38,8 +50,12 @@ sliced-spec =
     count-refused-requires
     returns
     found-requires
+    mul-write-editions
+    add-write-editions
+    write-editions-requires
     counted-as-requires
     same-length
     same-length-2
     same-length-3
+    same-length-4
     returns-2)
