@@ -24,9 +24,10 @@ use Rattle.candidate.specs.Candidates as slices
 use Rattle.candidate.specs.Ready.{Rooms, Ready, Written}
 use Rattle.candidate_write.specs.CandidateTheorems.{count-most}
 use Rattle.cut_entries.specs.CutRows.{listRows, valueRows, indexRows}
+use Rattle.cut_entries.specs.CutRowsLaws.{few-passed}
 use Rattle.candidate_entries.specs.declared.slicing.Lengths.{Lengths}
-use Rattle.candidate_entries.specs.Candidates.{alongCuts, Lent, roomsOf, laterRows, candidatesRefusal, candNumber, Sliced, Accepted, frontsOf, InFront, FoundRoom, Few}
-use Rattle.candidate_entries.specs.CandidatesLaws.{splits-pass, along, along-sound, cand-accepted, editions-roomy}
+use Rattle.candidate_entries.specs.Candidates.{alongCuts, Lent, roomsOf, lengths, laterRows, candidatesRefusal, candNumber, Sliced, Accepted, Roomed, Dated, frontsOf, InFront, FoundRoom, Few}
+use Rattle.candidate_entries.specs.CandidatesLaws.{along, along-sound, cand-pass, cand-accepted, editions-roomy}
 
 -- ---- the table in parts
 
@@ -43,12 +44,10 @@ pub ruleset parts = (cand-stops, cand-goes)
 
 -- ---- the two ways out
 module _ (g : Given) (splits : List Float) (edition : ℕ) (l : Lent) (number : ℕ) (is : number ≡ candNumber g splits l) where
-  pub cand-ready : number ≡ 0 → Accepted g splits (roomsOf l)
-  cand-ready z = cand-accepted g splits l (sym is ∙ z)
-
-  -- there are no more candidates than cuts, and an edition for each has its room
-  pub editions-ready : (m : ℕ) (left : Rooms) → number ≡ 0 → Written (alongCuts g splits) (roomsOf l) m left → Stretch (l .edition) m (cutCount g)
-  editions-ready m left z w = record { ordered = omega (arith, w .counted, count-most (alongCuts g splits)); inside = editions-roomy g splits l (sym is ∙ z) }
+  pub cand-ready : number ≡ 0 → Roomed g splits l
+  cand-ready z =
+      let none = sym is ∙ z in
+      record { ok = cand-accepted g splits l none; few = few-passed g (cand-pass g splits (lengths l) none .cuts); editions = editions-roomy g splits l none }
 
   pub cand-refused : (r : CountAnswer) → (number ≡ 0 → ⊥) → r ≡ countRefused number → Sliced g splits edition l r l
   cand-refused r h q =
@@ -60,9 +59,9 @@ module _ (g : Given) (splits : List Float) (edition : ℕ) (l : Lent) (number : 
         editions = answer-no (λ _. l .edition) number _ _ (l .edition) is h refl;
       }
 
-  pub cand-given : (m : ℕ) (r : CountAnswer) (left : Lent) → number ≡ 0 → Written (alongCuts g splits) (roomsOf l) m (roomsOf left)
-      → left .edition ≡ roomOf 0 1 (cutCount g) (replicate m edition) (l .edition) → r ≡ counted m → Sliced g splits edition l r left
-  cand-given m r left z w d q =
+  pub cand-given : (m : ℕ) (r : CountAnswer) (left : Lent) → number ≡ 0 → Dated g splits edition l m left → r ≡ counted m → Sliced g splits edition l r left
+  cand-given m r left z d q =
+      let w = d .written in
       record {
         answers = answer-yes countRefused number _ _ r is z (q ∙ ap (λ (n : ℕ). counted n) (w .counted));
         at = answer-yes (λ _. l .at) number _ _ (left .at) is z (w .at);
@@ -70,10 +69,14 @@ module _ (g : Given) (splits : List Float) (edition : ℕ) (l : Lent) (number : 
         probe = answer-yes (λ _. l .probe) number _ _ (left .probe) is z (w .probe);
         editions =
             answer-yes (λ _. l .edition) number _ _ (left .edition) is z
-            (d ∙ ap (λ (n : ℕ). roomOf 0 1 (cutCount g) (replicate n edition) (l .edition)) (w .counted));
+            (d .editions ∙ ap (λ (n : ℕ). roomOf 0 1 (cutCount g) (replicate n edition) (l .edition)) (w .counted));
       }
 
-pub ruleset ways = (cand-ready, editions-ready, cand-refused, cand-given)
+pub ruleset ways = (cand-ready, cand-refused, cand-given)
+
+-- there are no more candidates than cuts, and an edition for each has its room
+pub editions-ready : (g : Given) (splits : List Float) (l : Lent) (m : ℕ) (left : Rooms) → Roomed g splits l → Written (alongCuts g splits) (roomsOf l) m left → Stretch (l .edition) m (cutCount g)
+editions-ready g splits l m left k w = record { ordered = omega (arith, w .counted, count-most (alongCuts g splits)); inside = k .editions }
 
 -- ---- the cuts in lists of their own
 module _ (g : Given) (splits : List Float) (l : Rooms) (sorted cutAt : List ℕ) (cut : List Float) where

@@ -17,8 +17,8 @@ use Rattle.cut.specs.Cuts.{Given, cutCount}
 use Rattle.cut.specs.Order as order
 use Rattle.cut.specs.Order.{cutNumbers, cutPoints}
 use Rattle.candidate.specs.Candidates as slices
-use Rattle.candidate.specs.Ready.{Rooms, rooms, Roomy, Ready}
-use Rattle.cut_entries.specs.CutRows.{listRows, valueRows, indexRows}
+use Rattle.candidate.specs.Ready.{Rooms, rooms, Roomy, Ready, Written}
+use Rattle.cut_entries.specs.CutRows.{listRows, valueRows, indexRows, FewCuts}
 use Rattle.candidate_entries.specs.declared.slicing.Lengths.{Lengths}
 
 -- what the slices are cut from: the cuts in their order, and the splits along them
@@ -89,6 +89,17 @@ pub record Along (g : Given) (splits : List Float) : Type 0 where
 pub record Accepted (g : Given) (splits : List Float) (l : Rooms) : Type 0 where
   pub along : Along g splits
   pub roomy : Roomy (cutCount g) l
+
+-- with room for the editions
+pub record Roomed (g : Given) (splits : List Float) (l : Lent) : Type 0 where
+  pub ok : Accepted g splits (roomsOf l)
+  pub few : FewCuts (cutCount g)
+  pub editions : cutCount g ≤ length (l .edition)
+
+-- the candidates were written, and the edition beside each
+pub record Dated (g : Given) (splits : List Float) (edition : ℕ) (l : Lent) (m : ℕ) (left : Lent) : Type 0 where
+  pub written : Written (alongCuts g splits) (roomsOf l) m (roomsOf left)
+  pub editions : left .edition ≡ roomOf 0 1 (cutCount g) (replicate m edition) (l .edition)
 
 -- the same over cuts that stand in front of longer lists
 abbrev pub frontsOf : List Float → List ℕ → List Float → List Float → Case → slices.Given

@@ -6,7 +6,7 @@ ghost use Rattle.basis.specs.Refuse.{firstFrom};
 ghost use Rattle.cut.specs.Cuts.{given, caseOf};
 ghost use Rattle.candidate.specs.Ready.{rooms, Written};
 ghost use Rattle.cut_entries.specs.CutRows.{FewCuts};
-ghost use Rattle.candidate_entries.specs.Candidates.{alongCuts, lent, frontsOf, InFront, splitLengthRows, splitRows, candRoomRows, laterRows, candidatesRefusal, Accepted, Sliced, FoundRoom, Few};
+ghost use Rattle.candidate_entries.specs.Candidates.{alongCuts, lent, frontsOf, InFront, splitLengthRows, splitRows, candRoomRows, laterRows, candidatesRefusal, Accepted, Roomed, Dated, Sliced, FoundRoom, Few};
 use basis::answer;
 use basis::answer::CountAnswer;
 use basis::number;
@@ -307,6 +307,40 @@ fn found(
     )
 }
 
+// The same, with the edition beside each.
+fn dated(
+    outline: &[f64],
+    hit_at: &[usize],
+    hit: &[f64],
+    lap_at: &[usize],
+    lap: &[f64],
+    splits: &[f64],
+    s: Case,
+    edition: u32,
+    cand_at: &mut [usize],
+    cand: &mut [f64],
+    probe: &mut [f64],
+    cand_edition: &mut [u32],
+) -> usize
+    requires { ⌜ Roomed (given (now outline) (now «hit_at») (now hit) (now «lap_at») (now lap) s) (now splits) (lent (now «cand_at») (now cand) (now probe) (now «cand_edition»)) ⌝ }
+    ensures { λ r. ⌜ Dated (given (now (outline .entry)) (now («hit_at» .entry)) (now (hit .entry)) (now («lap_at» .entry)) (now (lap .entry)) s) (now (splits .entry)) edition (lent (now («cand_at» .entry)) (now (cand .entry)) (now (probe .entry)) (now («cand_edition» .entry))) r (lent (now («cand_at» .exit)) (now (cand .exit)) (now (probe .exit)) (now («cand_edition» .exit))) ⌝ }
+{
+    let m = found(
+        outline,
+        hit_at,
+        hit,
+        lap_at,
+        lap,
+        splits,
+        s,
+        cand_at,
+        cand,
+        probe,
+    );
+    write::write_editions(cand_edition, m, s.hits + 2 * s.laps, edition);
+    m
+}
+
 // The answer, refused or not.
 fn sliced(
     outline: &[f64],
@@ -334,7 +368,7 @@ fn sliced(
     if number != 0 {
         return answer::count_refused(number);
     }
-    let m = found(
+    answer::counted_as(dated(
         outline,
         hit_at,
         hit,
@@ -342,12 +376,12 @@ fn sliced(
         lap,
         splits,
         s,
+        edition,
         cand_at,
         cand,
         probe,
-    );
-    write::write_editions(cand_edition, m, s.hits + 2 * s.laps, edition);
-    answer::counted_as(m)
+        cand_edition,
+    ))
 }
 
 // The candidates of the outline that the source names: the pieces between neighbouring cuts, and the walks from a segment's last cut to the next segment that has one.

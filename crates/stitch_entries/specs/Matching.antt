@@ -70,14 +70,14 @@ module _ (g : Given) (e : Editions) (l : Lengths) where
           same = clear-left (editionPart g e) (roomPart g l) (clear-right inputs (editionPart g e ++ roomPart g l) ok) .0;
         }
 
-    codes-whole : length (g .sliceAt) ≡ codeWidth * g .slices
-    codes-whole =
+    pub accepted-codes : length (g .sliceAt) ≡ codeWidth * g .slices
+    accepted-codes =
         let shape = clear-right (editionListRows (length (e .slices)) (g .slices)) (shapeRows g) (clear-left inputs (editionPart g e ++ roomPart g l) ok) in
         length-ok codeWidth (length (g .sliceAt)) (g .slices) (clear-left (listPart g) (codePart g ++ (numberPart g ++ indexPart g)) shape .1 .1 .0)
 
     -- each slice has the edition of the outline that it is read with
     pub accepted-edition : (i : ℕ) → i < g .slices → getD (e .slices) i 0 ≡ editionOf (e .first) (e .second) (codesAt (g .sliceAt) i .source)
-    accepted-edition = edition-at e (g .sliceAt) (g .slices) codes-whole (accepted-matched .same)
+    accepted-edition = edition-at e (g .sliceAt) (g .slices) accepted-codes (accepted-matched .same)
 
 -- one edition throughout
 abbrev pub oneEdition : ℕ → ℕ → Editions

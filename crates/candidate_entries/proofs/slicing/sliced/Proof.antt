@@ -12,17 +12,8 @@ count-refused-requires c κs = search needs
 returns : tie.Need-returns
 returns c = search (needs, ways)
 
-found-requires : tie.Need-found-requires
-found-requires c κs = let told = c .before .before .before in cand-ready _ _ 0 _ _ (told .before .refusal .ensures) (told .if1 .left)
-
-mul-write-editions : tie.Need-mul-write-editions
-mul-write-editions c = search needs
-
-add-write-editions : tie.Need-add-write-editions
-add-write-editions c = search needs
-
-write-editions-requires : tie.Need-write-editions-requires
-write-editions-requires c κs = search (needs, ways)
+dated-requires : tie.Need-dated-requires
+dated-requires c κs = let told = c .before .before .before .before in cand-ready _ _ 0 _ _ (told .before .refusal .ensures) (told .if1 .left)
 
 counted-as-requires : tie.Need-counted-as-requires
 counted-as-requires c κs = search needs
@@ -49,10 +40,7 @@ sliced-spec =
     refusal-requires
     count-refused-requires
     returns
-    found-requires
-    mul-write-editions
-    add-write-editions
-    write-editions-requires
+    dated-requires
     counted-as-requires
     same-length
     same-length-2
