@@ -178,15 +178,7 @@ fn of_mode(
         &mut edition,
     );
     let mut room = [0.0; 27];
-    stitch_two(
-        &at,
-        &shape,
-        &edition,
-        starts,
-        selector,
-        numbers,
-        &mut room,
-    );
+    stitch_two(&at, &shape, &edition, starts, selector, numbers, &mut room);
 }
 
 // T3, T4 and T5, each with the room that it needs.
