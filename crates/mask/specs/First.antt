@@ -54,9 +54,10 @@ pub entire-first : (o : List Float) (vc closed : ℕ) → First (entireRows o vc
 unfolding entireRefusal before refusalOrder
 entire-first o vc closed = first-of (entireRows o vc closed) tt
 
-pub validate-first : (o : List Float) (vc : ℕ) (v : View) (startOn endOn : ℕ) → First (validateRows o vc v startOn endOn) (validateRefusal o vc v startOn endOn)
+pub validate-first : (o : List Float) (vc edition : ℕ) (v : View) (viewEdition startOn endOn : ℕ)
+    → First (validateRows o vc edition v viewEdition startOn endOn) (validateRefusal o vc edition v viewEdition startOn endOn)
 unfolding validateRefusal before refusalOrder
-validate-first o vc v startOn endOn = first-of (validateRows o vc v startOn endOn) tt
+validate-first o vc edition v viewEdition startOn endOn = first-of (validateRows o vc edition v viewEdition startOn endOn) tt
 
 pub order-first : (g : cuts.Given) (numbers points : ℕ) → First (cutOrderRows g numbers points) (cutOrderRefusal g numbers points)
 unfolding cutOrderRefusal cutInputRows listRows valueRows indexRows before refusalOrder

@@ -57,8 +57,9 @@ single-one o vc start first end t r s e f = one-answer r s (singleAnswer o vc st
 pub entire-one : (o : List Float) (vc closed : ℕ) (r s : ViewAnswer) → r ≡ entireAnswer o vc closed → s ≡ entireAnswer o vc closed → r ≡ s
 entire-one o vc closed r s e f = one-answer r s (entireAnswer o vc closed) e f
 
-pub validate-one : (o : List Float) (vc : ℕ) (v : View) (startOn endOn : ℕ) (r s : VerdictAnswer) → r ≡ validateAnswer o vc v startOn endOn → s ≡ validateAnswer o vc v startOn endOn → r ≡ s
-validate-one o vc v startOn endOn r s e f = one-answer r s (validateAnswer o vc v startOn endOn) e f
+pub validate-one : (o : List Float) (vc edition : ℕ) (v : View) (viewEdition startOn endOn : ℕ) (r s : VerdictAnswer)
+    → r ≡ validateAnswer o vc edition v viewEdition startOn endOn → s ≡ validateAnswer o vc edition v viewEdition startOn endOn → r ≡ s
+validate-one o vc edition v viewEdition startOn endOn r s e f = one-answer r s (validateAnswer o vc edition v viewEdition startOn endOn) e f
 
 pub order-one : (g : cuts.Given) (cutAt : List ℕ) (cut : List Float) (r s : CountAnswer) (a b : List ℕ) (p q : List Float)
     → CutOrdered g cutAt cut r a p → CutOrdered g cutAt cut s b q → (r ≡ s) × (a ≡ b) × (p ≡ q)
