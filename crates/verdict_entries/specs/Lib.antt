@@ -1,2 +1,3 @@
 pub mod VerdictAnswers
 pub mod ValidateEntry
+pub mod ReopenEntry
