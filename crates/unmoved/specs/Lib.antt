@@ -1,0 +1,2 @@
+pub mod Unmoved
+pub mod UnmovedLaws
