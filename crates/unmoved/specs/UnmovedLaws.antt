@@ -135,19 +135,23 @@ module _ (o1 : List Float) (vc1 : ℕ) (o2 : List Float) (vc2 : ℕ) (v : ViewDa
   unfolding sameVertex sameBits
   same-self a b e = rw e (rw (eq-eqb (toBits binary64 (b .x)) _ refl, eq-eqb (toBits binary64 (b .y)) _ refl, eq-eqb (toBits binary64 (b .bulge)) _ refl))
 
-  pub first-same : vertexOf o1 vc1 v 0 ≡ vertexOf o2 vc2 v 0
+  first-same : vertexOf o1 vc1 v 0 ≡ vertexOf o2 vc2 v 0
   unfolding vertexOf forwardAt invertedAt
   first-same = refl
 
-  pub last-same : vertexOf o1 vc1 v (v .«end_index_offset» + 1) ≡ vertexOf o2 vc2 v (v .«end_index_offset» + 1)
+  last-same : vertexOf o1 vc1 v (v .«end_index_offset» + 1) ≡ vertexOf o2 vc2 v (v .«end_index_offset» + 1)
   unfolding vertexOf forwardAt invertedAt
   last-same =
       let n = v .«end_index_offset» in
       rw (ne-eqb (n + 1) 0 (λ e. omega arith), le-ltb (n + 1) n (omega arith), ne-eqb (n + 1) n (λ e. omega arith))
 
-  last-alike : sameAt o1 vc1 o2 vc2 v (v .«end_index_offset» + 1) ≡ true
+  -- one vertex on both is alike
+  pub alike : (k : ℕ) → vertexOf o1 vc1 v k ≡ vertexOf o2 vc2 v k → sameAt o1 vc1 o2 vc2 v k ≡ true
   unfolding sameAt
-  last-alike = same-self _ _ last-same
+  alike k e = same-self _ _ e
+
+  pub last-alike : sameAt o1 vc1 o2 vc2 v (v .«end_index_offset» + 1) ≡ true
+  last-alike = alike (v .«end_index_offset» + 1) last-same
 
   -- how the loop goes: all below k are the same
   pub moved-begin : eachTo (sameAt o1 vc1 o2 vc2 v) 1 ≡ true
