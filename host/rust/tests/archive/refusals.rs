@@ -204,7 +204,11 @@ fn of_validate_for_source() {
 fn of_reopen() {
     let reopen = |outline: &Outline, view: View| {
         let mut view = view;
-        let found = view.reopen(outline, OnSegment::default());
+        let on = OnSegment {
+            start: true,
+            end: true,
+        };
+        let found = view.reopen(outline, on);
         found.map(|_| view.edition)
     };
     assert_eq!(reopen(&line_of(1).with_edition(3), view()), Ok(0));
