@@ -115,7 +115,7 @@ static inline axes spoiled(axes t, int which, double value)
 /* ---- Memory lent ---- */
 
 enum {
-    MOST_LISTS = 32,
+    MOST_LISTS = 48,
     BEFORE = 8, /* guard values before a list */
     BEYOND = 64 /* at most so many elements beyond the need */
 };
@@ -298,10 +298,15 @@ static inline const uint32_t *lend_editions(int list, const uint32_t *from, size
     return lend_bytes(list, from, 4 * len);
 }
 
+static inline uint32_t guard_edition(size_t i)
+{
+    return (uint32_t)(guard_word(i) ^ guard_word(i) >> 32);
+}
+
 static inline void guard_editions(uint32_t *editions, size_t len)
 {
     for (size_t i = 0; i < BEFORE + len; i++)
-        editions[i] = (uint32_t)(guard_word(i) ^ guard_word(i) >> 32);
+        editions[i] = guard_edition(i);
 }
 
 static inline uint32_t *lend_edition_room(int list, size_t len)
