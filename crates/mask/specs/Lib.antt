@@ -1,5 +1,7 @@
 pub mod Accept
 pub mod Pipeline
+pub mod LateOutline
 pub mod OneAnswer
 pub mod First
 pub mod NoGuards
+pub mod OneTolerance
