@@ -4,3 +4,4 @@ pub mod OneAnswer
 pub mod First
 pub mod NoGuards
 pub mod Reopened
+pub mod OneTolerance
