@@ -4,5 +4,6 @@ pub mod LateOutline
 pub mod OneAnswer
 pub mod First
 pub mod NoGuards
+pub mod Reopened
 pub mod OneTolerance
 pub mod Joins
