@@ -29,7 +29,8 @@ use Rattle.prune_entries.specs.PruneEntry.{inputRows, lentRows, pruneRefusal}
 use Rattle.stitch_run.specs.Stitch as stitch
 use Rattle.stitch_entries.specs.declared.faults.Lengths.{Lengths}
 use Rattle.stitch_entries.specs.StitchEntry as stitched
-use Rattle.stitch_entries.specs.StitchEntry.{shapeRows, roomPart, stitchRefusal}
+use Rattle.slice.specs.Editions.{Editions}
+use Rattle.stitch_entries.specs.StitchEntry.{stitchRows, stitchRefusal}
 use Rattle.area_entries.specs.AreaEntry.{areaRows, areaRefusal}
 use Rattle.straight_entries.specs.WindingEntry.{windingRows, windingRefusal}
 use Rattle.straight_entries.specs.AreaEntry as straight
@@ -76,13 +77,13 @@ pub candidates-first : (g : cuts.Given) (splits : List Float) (lent : candidate.
 unfolding candidatesRefusal listRows laterRows valueRows indexRows before refusalOrder
 candidates-first g splits lent = first-of (candidatesRows g splits lent) tt
 
-pub prune-first : (g : Prune.Given) (at slice : ℕ) → First (inputRows g ++ lentRows g at slice) (pruneRefusal g at slice)
+pub prune-first : (g : Prune.Given) (at slice edition : ℕ) → First (inputRows g ++ lentRows g at slice edition) (pruneRefusal g at slice edition)
 unfolding pruneRefusal inputRows before refusalOrder
-prune-first g at slice = first-of (inputRows g ++ lentRows g at slice) tt
+prune-first g at slice edition = first-of (inputRows g ++ lentRows g at slice edition) tt
 
-pub stitch-first : (g : stitch.Given) (l : Lengths) → First (shapeRows g ++ roomPart g l) (stitchRefusal g l)
+pub stitch-first : (g : stitch.Given) (e : Editions) (l : Lengths) → First (stitchRows g e l) (stitchRefusal g e l)
 unfolding stitchRefusal before refusalOrder
-stitch-first g l = first-of (shapeRows g ++ roomPart g l) tt
+stitch-first g e l = first-of (stitchRows g e l) tt
 
 pub area-first : (areas : List Float) (loops : ℕ) (limit : Float) (kept : ℕ) → First (areaRows areas loops limit kept) (areaRefusal areas loops limit kept)
 unfolding areaRefusal before refusalOrder
