@@ -5,7 +5,7 @@ use oracle::random::Random;
 use oracle::record::{Origin, Record};
 use oracle::tally::{Tally, quiet_caught_panics};
 use oracle::{
-    axes, damaged, findings, hostile, limits, ours, print, realistic, refusal, second, starts,
+    axes, damaged, findings, hostile, late, limits, ours, print, realistic, refusal, second, starts,
     theirs,
 };
 use std::process::ExitCode;
@@ -19,6 +19,7 @@ const USAGE: &str = "usage:
   compare --axes N SEED             N calls of each entry that takes tolerances, with two that differ
   compare --judges N SEED           the same, only the judges beside each other
   compare --starts N SEED           N outlines of few vertices, with all pairs of their points
+  compare --late N SEED             N pairs of outlines, one of them changed after it was cut
   compare --paste 'WORDS'           one call, as a difference prints it, answered both ways
   compare --findings                the known differences, each at its smallest input";
 
@@ -39,6 +40,7 @@ fn main() -> ExitCode {
         ["--axes", count, seed] => alone(count, seed, AXES, axes::scenario),
         ["--judges", count, seed] => alone(count, seed, AXES, axes::judges),
         ["--starts", count, seed] => alone(count, seed, STARTS, starts::scenario),
+        ["--late", count, seed] => alone(count, seed, LATE, late::scenario),
         ["--paste", words] => paste(words),
         ["--findings"] => {
             findings::show();
@@ -64,7 +66,10 @@ fn scenario(tally: &mut Tally, seed: u64, number: u64) {
     // What came after the base is drawn apart, so that the base's calls in a record stay as they are.
     let mut later = rng.apart();
     match number % 10 {
-        0..=4 => realistic::scenario(tally, &mut rng),
+        0..=4 => {
+            realistic::scenario(tally, &mut rng);
+            late::scenario(tally, &mut later);
+        }
         5..=8 => {
             hostile::scenario(tally, &mut rng);
             hostile::later_scenario(tally, &mut later);
@@ -96,6 +101,7 @@ fn compare(count: &str, seed: &str) -> Option<ExitCode> {
 
 const AXES: &str = "calls of each entry that takes tolerances";
 const STARTS: &str = "outlines with all pairs of their points";
+const LATE: &str = "pairs of outlines, one of them changed after it was cut";
 
 /// One family alone.
 fn alone(

@@ -1,7 +1,9 @@
 pub mod Accept
 pub mod Pipeline
+pub mod LateOutline
 pub mod OneAnswer
 pub mod First
 pub mod NoGuards
+pub mod Reopened
 pub mod OneTolerance
 pub mod Joins

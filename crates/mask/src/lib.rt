@@ -2,6 +2,7 @@
 pub mod cutting;
 pub mod measuring;
 pub mod pruning;
+pub mod reopening;
 pub mod starting;
 pub mod stitching;
 pub mod viewing;

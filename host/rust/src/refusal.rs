@@ -39,6 +39,9 @@ pub enum Refusal {
     Starts,
     /// 9: lent room is smaller than the need. Only the calls of [`lent`](crate::lent) can give it.
     Room,
+    /// 14: a view, or a slice, is of another edition than the outline: the outline was changed after
+    /// it was cut.
+    Edition,
     /// 15: on an open outline the start index is above the end index.
     Backward,
     /// 18: a whole coordinate is out of range.
@@ -64,6 +67,7 @@ impl Refusal {
             7 => Refusal::Count,
             8 => Refusal::Starts,
             9 => Refusal::Room,
+            14 => Refusal::Edition,
             15 => Refusal::Backward,
             18 => Refusal::Range,
             19 => Refusal::Loops,
@@ -96,6 +100,7 @@ impl Refusal {
                 "the starts of the classes fall back, or lie past the slices",
             ),
             Refusal::Room => (9, "lent room is smaller than the need"),
+            Refusal::Edition => (14, "a slice is of another edition than its outline"),
             Refusal::Backward => (15, "an open outline's start index is above its end index"),
             Refusal::Range => (18, "a whole coordinate is out of range"),
             Refusal::Loops => (19, "too many outlines in a report"),
@@ -131,7 +136,7 @@ mod tests {
         for number in 1..=40 {
             let refusal = Refusal::from_number(number).unwrap();
             assert_eq!(refusal.number(), number);
-            let known = number <= 9 || [15, 18, 19].contains(&number);
+            let known = number <= 9 || [14, 15, 18, 19].contains(&number);
             assert_eq!(matches!(refusal, Refusal::Other(_)), !known);
         }
     }
@@ -139,7 +144,7 @@ mod tests {
     #[test]
     fn every_refusal_has_a_sentence_of_its_own() {
         let mut sentences: Vec<String> = (1..=11)
-            .chain([15, 18, 19])
+            .chain([14, 15, 18, 19])
             .map(|number| Refusal::from_number(number).unwrap().to_string())
             .collect();
         assert_eq!(
@@ -152,7 +157,7 @@ mod tests {
         );
         sentences.sort();
         sentences.dedup();
-        assert_eq!(sentences.len(), 14);
+        assert_eq!(sentences.len(), 15);
     }
 
     #[test]

@@ -1,6 +1,7 @@
 //! Views that start anywhere: between two points of an outline, and from a new start.
 
 use crate::ffi;
+use crate::view::of_edition;
 use crate::{Host, Outline, Point, Refusal, Split, Tolerance, Vertex, View};
 
 /// A point of an outline, and the segment that it is on.
@@ -112,7 +113,7 @@ impl View {
             start_split,
             end_split,
         );
-        found(&answer)
+        found(&answer, source)
     }
 
     /// The view that starts an outline at a point of it. A closed outline is followed once round, back
@@ -160,7 +161,7 @@ impl View {
             start_split,
             end_split,
         );
-        found(&answer)
+        found(&answer, source)
     }
 }
 
@@ -170,8 +171,8 @@ fn last_place(source: &Outline) -> Place {
     Place::new(source.vertex_count().saturating_sub(1), last.pos())
 }
 
-fn found(answer: &ffi::ViewAnswer) -> Result<Option<View>, Refusal> {
-    let view = (answer.found != 0).then(|| answer.view.into());
+fn found(answer: &ffi::ViewAnswer, source: &Outline) -> Result<Option<View>, Refusal> {
+    let view = (answer.found != 0).then(|| of_edition(answer.view, source));
     Refusal::check(answer.refusal, view)
 }
 
