@@ -23,7 +23,8 @@
  * A list that is not const is room for the answer. Its need is stated beside the
  * entry. Where the call is accepted, the items are written from its start on, then
  * 0 up to the need. What lies beyond the need is left as it was. No two lists of a
- * call may share memory where one of them is room.
+ * call may share memory where one of them is room. The record of settings is read and
+ * written in place; beside its entries stands what is written there.
  *
  * Calls share no state. The library has no variables, keeps nothing from one call to the
  * next, allocates nothing, and calls nothing but memset of the C library. So any number
@@ -32,7 +33,7 @@
  *
  * The entries stand in the order of the work: views and the verdict; cut order,
  * candidates, pruning, stitch and area pass, each of which takes what the one before it
- * gives; then masks without arcs.
+ * gives; then settings by edition; then masks without arcs.
  */
 #ifndef MASK_H
 #define MASK_H
@@ -64,6 +65,7 @@ extern "C" {
 #define MASK_WIDTH_PROBE 6    /* its two vertices to be tested */
 #define MASK_WIDTH_SLICE_AT 4 /* a slice */
 #define MASK_WIDTH_SLICE 6    /* its view */
+#define MASK_WIDTH_SETTINGS 3 /* a setting: tolerance of x, tolerance of y, area limit */
 #define MASK_WIDTH_STRAIGHT 2 /* a vertex in whole microdegrees: x, y */
 
 /* Sizes. A call beyond them is refused. */
@@ -75,6 +77,7 @@ extern "C" {
 #define MASK_MOST_CANDIDATES 768          /* of one outline */
 #define MASK_MOST_SLICES 1792             /* in a stitch */
 #define MASK_MOST_LOOPS 1792              /* in an area pass */
+#define MASK_MOST_SETTINGS 16             /* in a record */
 #define MASK_MOST_NUMBER 1073741824.0     /* magnitude of a coordinate or a bulge: 2^30 */
 #define MASK_MOST_TOLERANCE 1.0           /* of positions, on either axis; it is above 0 */
 #define MASK_MOST_WHOLE 400000000         /* magnitude of a whole coordinate */
@@ -99,6 +102,8 @@ extern "C" {
 #define MASK_STACK_PRUNE 512
 #define MASK_STACK_STITCH 32768
 #define MASK_STACK_AREA_PASS 512
+#define MASK_STACK_SETTINGS_ENTER 512
+#define MASK_STACK_SETTINGS_ASK 512
 #define MASK_STACK_STRAIGHT_WINDING 512
 #define MASK_STACK_STRAIGHT_AREA 512
 #define MASK_STACK_STRAIGHT_REPORT 512
@@ -113,6 +118,8 @@ enum mask_refusal {
     MASK_REFUSED_LENGTH = 1,    /* a list's length disagrees with its count, or that is too high */
     MASK_REFUSED_OUTLINE = 2,   /* fewer than 2 or more than 1024 vertices */
     MASK_REFUSED_CODE = 3,      /* an unknown mode, selector, source (1, 2) or yes/no code (0, 1) */
+    MASK_REFUSED_UNKNOWN_SETTING = 16, /* no setting was entered under the edition */
+    MASK_REFUSED_SETTINGS_FULL = 17, /* the record has its 16 settings */
     MASK_REFUSED_TOLERANCE = 4, /* either is not finite or out of range (area limit: below 0) */
     MASK_REFUSED_NUMBER = 5,    /* not finite, or beyond 2^30 (areas: not finite) */
     MASK_REFUSED_RANGE = 18,    /* a whole coordinate is out of range */
@@ -393,6 +400,44 @@ mask_stitch_answer mask_stitch(const double *outline1, size_t outline1_len, size
  */
 mask_count_answer mask_area_pass(const double *areas, size_t areas_len, size_t loops, double limit,
                                  size_t *kept, size_t kept_len);
+
+/*
+ * Settings by edition: up to 16, each with two tolerances and an area limit, in one record
+ * that is extended and never overwritten. The record is two lists that the host lends and
+ * keeps:
+ *   entered   1: how many settings there are; a number above 16 reads as 16
+ *   settings  48: of each setting the tolerance of x, the tolerance of y, the area limit
+ * Other lengths are refused with 1. Zeros are the empty record, and every content is some
+ * record. Editions count from 1. Numbers 16 and 17 are looked at before 4.
+ */
+
+typedef struct mask_edition_answer {
+    uint32_t refusal;
+    size_t edition;
+} mask_edition_answer;
+
+typedef struct mask_setting_answer {
+    uint32_t refusal;
+    double tolerance_x;
+    double tolerance_y;
+    double area_limit;
+} mask_setting_answer;
+
+/*
+ * Enters a setting and answers its edition. Written are the setting's three numbers and the
+ * count, and no other place; on a refusal nothing. A tolerance is above 0 and at most 1, an
+ * area limit from 0 to any finite number. Refusals 1, 17, 4.
+ */
+mask_edition_answer mask_settings_enter(size_t *entered, size_t entered_len, double *settings,
+                                        size_t settings_len, double tolerance_x,
+                                        double tolerance_y, double area_limit);
+
+/*
+ * The setting of an edition, exactly as it was entered. Refusals 1, 16.
+ */
+mask_setting_answer mask_settings_ask(const size_t *entered, size_t entered_len,
+                                      const double *settings, size_t settings_len,
+                                      size_t edition);
 
 /*
  * Masks without arcs, in whole microdegrees. An outline has two numbers to a vertex: x,

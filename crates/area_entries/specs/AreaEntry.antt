@@ -1,12 +1,12 @@
 -- The entry `mask_area_pass`: its refusals, its answer, and what its lent list holds.
 use Prim.Native.Nat.{ℕ}
-use mathlib.Core.Bool.{Bool, not, _&&_}
+use mathlib.Core.Bool.{not}
 use mathlib.Core.Path.{_≡_}
 use mathlib.Core.List.{List, [], _∷_}
 use lib.ListN.{length}
 use lib.Dec.{ltb}
-use lib.Ieee.{Float, binary64, ofBits, le}
-use Rattle.basis.specs.Number.{+0, absF}
+use lib.Ieee.{Float}
+use Rattle.basis.specs.Number.{finite, limitOk}
 use Rattle.basis.specs.All.{allOf}
 use Rattle.basis.specs.Room.{roomOf}
 use Rattle.basis.specs.Sizes.{mostSlices}
@@ -14,18 +14,6 @@ use Rattle.basis.specs.Refuse.{Row, row, firstOf, answer, lengthFault}
 use Rattle.area.specs.Area.{keptOf}
 use Rattle.basis.specs.declared.answer.CountAnswer.{CountAnswer}
 use Rattle.basis.specs.Answers.{countRefused, counted}
-
--- the largest f64
-abbrev pub largest : Float
-largest = ofBits binary64 0x7fef_ffff_ffff_ffff
-
--- neither a NaN nor an infinity is at most the largest f64 in magnitude
-unfoldable pub finite : Float → Bool
-finite x = le (absF x) largest
-
--- "area limit: 0 to any finite"
-unfoldable pub limitOk : Float → Bool
-limitOk limit = le +0 limit && le limit largest
 
 abbrev pub areaRows : List Float → ℕ → Float → ℕ → List Row
 areaRows areas loops limit kept =

@@ -30,6 +30,9 @@ use Rattle.stitch_entries.specs.declared.faults.Lengths.{Lengths}
 use Rattle.stitch_entries.specs.StitchEntry as stitched
 use Rattle.stitch_entries.specs.StitchEntry.{shapeRows, roomPart, stitchRefusal}
 use Rattle.area_entries.specs.AreaEntry.{areaRows, areaRefusal}
+use Rattle.settings.specs.declared.Setting.{Setting}
+use Rattle.settings.specs.Settings.{Held}
+use Rattle.settings_entries.specs.SettingsEntry.{enterRows, enterRefusal, askRows, askRefusal}
 use Rattle.straight_entries.specs.WindingEntry.{windingRows, windingRefusal}
 use Rattle.straight_entries.specs.AreaEntry as straight
 use Rattle.straight_entries.specs.ReportEntry.{reportRows, reportRefusal}
@@ -77,6 +80,14 @@ stitch-first g l = first-of (shapeRows g ++ roomPart g l) tt
 pub area-first : (areas : List Float) (loops : ℕ) (limit : Float) (kept : ℕ) → First (areaRows areas loops limit kept) (areaRefusal areas loops limit kept)
 unfolding areaRefusal before refusalOrder
 area-first areas loops limit kept = first-of (areaRows areas loops limit kept) tt
+
+pub enter-first : (h : Held) (s : Setting) → First (enterRows h s) (enterRefusal h s)
+unfolding enterRefusal before refusalOrder
+enter-first h s = first-of (enterRows h s) tt
+
+pub ask-first : (h : Held) (e : ℕ) → First (askRows h e) (askRefusal h e)
+unfolding askRefusal before refusalOrder
+ask-first h e = first-of (askRows h e) tt
 
 pub winding-first : (o : List ℤ) (vc : ℕ) (x y : ℤ) → First (windingRows o vc x y) (windingRefusal o vc x y)
 unfolding windingRefusal before refusalOrder

@@ -34,6 +34,11 @@ use Rattle.stitch.specs.Lent.{Lists}
 use Rattle.stitch_entries.specs.declared.answer.StitchAnswer.{StitchAnswer}
 use Rattle.stitch_entries.specs.StitchEntry.{StitchLeft}
 use Rattle.area_entries.specs.AreaEntry.{AreaLeft}
+use Rattle.settings.specs.declared.Setting.{Setting}
+use Rattle.settings.specs.Settings.{Held}
+use Rattle.settings_entries.specs.declared.answer.EditionAnswer.{EditionAnswer}
+use Rattle.settings_entries.specs.declared.answer.SettingAnswer.{SettingAnswer}
+use Rattle.settings_entries.specs.SettingsEntry.{EnterLeft, askAnswer}
 use Rattle.straight_entries.specs.declared.answer.WindingAnswer.{WindingAnswer}
 use Rattle.straight_entries.specs.declared.answer.AreaAnswer.{AreaAnswer}
 use Rattle.straight_entries.specs.declared.answer.ReportAnswer.{ReportAnswer}
@@ -90,6 +95,12 @@ stitch-one g l r s a b x y = (
 pub area-one : (areas : List Float) (loops : ℕ) (limit : Float) (kept : List ℕ) (r s : CountAnswer) (a b : List ℕ)
     → AreaLeft areas loops limit kept r a → AreaLeft areas loops limit kept s b → (r ≡ s) × (a ≡ b)
 area-one areas loops limit kept r s a b x y = (one-answer r s _ (x .answers) (y .answers), one-answer a b _ (x .list) (y .list))
+
+pub enter-one : (h : Held) (s : Setting) (r q : EditionAnswer) (a b : Held) → EnterLeft h s r a → EnterLeft h s q b → (r ≡ q) × (a ≡ b)
+enter-one h s r q a b x y = (one-answer r q _ (x .answers) (y .answers), one-answer a b _ (x .lists) (y .lists))
+
+pub ask-one : (h : Held) (e : ℕ) (r s : SettingAnswer) → r ≡ askAnswer h e → s ≡ askAnswer h e → r ≡ s
+ask-one h e r s p q = one-answer r s (askAnswer h e) p q
 
 pub winding-one : (o : List ℤ) (vc : ℕ) (x y : ℤ) (r s : WindingAnswer) → r ≡ windingAnswer o vc x y → s ≡ windingAnswer o vc x y → r ≡ s
 winding-one o vc x y r s e f = one-answer r s (windingAnswer o vc x y) e f

@@ -2,5 +2,6 @@
 pub mod cutting;
 pub mod measuring;
 pub mod pruning;
+pub mod setting;
 pub mod stitching;
 pub mod viewing;

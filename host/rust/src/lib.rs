@@ -68,6 +68,10 @@
 //! [`WholeOutline`] is an outline without arcs whose coordinates are whole numbers. Its winding
 //! number and its area are exact, and so is [`straight_report`], which totals many of them.
 //!
+//! # Settings by edition
+//!
+//! [`Settings`] is a record of up to 16 settings, which is extended and never overwritten.
+//!
 //! # Masks that do not meet
 //!
 //! Outlines that share no point are not cut, so there are no slices and no loops.
@@ -101,6 +105,7 @@ mod list;
 mod masks;
 mod outline;
 mod refusal;
+mod settings;
 mod slices;
 mod stitch;
 mod straight;
@@ -116,6 +121,7 @@ pub use list::{Iter, List};
 pub use masks::{Combined, Masks};
 pub use outline::{Outline, Source, Tolerance};
 pub use refusal::Refusal;
+pub use settings::{Setting, Settings};
 pub use slices::{prune, Answered, Mode, Slice, Slices};
 pub use stitch::{area_pass, stitch, Chain, ChainEnd, Selector, Stitched};
 pub use straight::{straight_report, StraightReport, WholeOutline};

@@ -39,6 +39,10 @@ pub enum Refusal {
     Starts,
     /// 9: lent room is smaller than the need. Only the calls of [`lent`](crate::lent) can give it.
     Room,
+    /// 16: no setting was entered under the edition.
+    UnknownSetting,
+    /// 17: the record has its 16 settings.
+    SettingsFull,
     /// 18: a whole coordinate is out of range.
     Range,
     /// 19: a report has more than 4,096 outlines.
@@ -62,6 +66,8 @@ impl Refusal {
             7 => Refusal::Count,
             8 => Refusal::Starts,
             9 => Refusal::Room,
+            16 => Refusal::UnknownSetting,
+            17 => Refusal::SettingsFull,
             18 => Refusal::Range,
             19 => Refusal::Loops,
             other => Refusal::Other(other),
@@ -93,6 +99,8 @@ impl Refusal {
                 "the starts of the classes fall back, or lie past the slices",
             ),
             Refusal::Room => (9, "lent room is smaller than the need"),
+            Refusal::UnknownSetting => (16, "no setting was entered under the edition"),
+            Refusal::SettingsFull => (17, "the record has its 16 settings"),
             Refusal::Range => (18, "a whole coordinate is out of range"),
             Refusal::Loops => (19, "too many outlines in a report"),
             Refusal::Other(number) => (number, "a reason that this wrapper does not know"),
@@ -127,7 +135,7 @@ mod tests {
         for number in 1..=40 {
             let refusal = Refusal::from_number(number).unwrap();
             assert_eq!(refusal.number(), number);
-            let known = number <= 9 || number == 18 || number == 19;
+            let known = number <= 9 || (16..=19).contains(&number);
             assert_eq!(matches!(refusal, Refusal::Other(_)), !known);
         }
     }
@@ -135,7 +143,7 @@ mod tests {
     #[test]
     fn every_refusal_has_a_sentence_of_its_own() {
         let mut sentences: Vec<String> = (1..=11)
-            .chain(18..=19)
+            .chain(16..=19)
             .map(|number| Refusal::from_number(number).unwrap().to_string())
             .collect();
         assert_eq!(
@@ -148,7 +156,7 @@ mod tests {
         );
         sentences.sort();
         sentences.dedup();
-        assert_eq!(sentences.len(), 13);
+        assert_eq!(sentences.len(), 15);
     }
 
     #[test]

@@ -150,6 +150,24 @@ pub struct ReportAnswer {
     pub low: u64,
 }
 
+/// `mask_edition_answer`
+#[repr(C)]
+#[derive(Debug, Clone, Copy, Default)]
+pub struct EditionAnswer {
+    pub refusal: u32,
+    pub edition: usize,
+}
+
+/// `mask_setting_answer`
+#[repr(C)]
+#[derive(Debug, Clone, Copy, Default)]
+pub struct SettingAnswer {
+    pub refusal: u32,
+    pub tolerance_x: f64,
+    pub tolerance_y: f64,
+    pub area_limit: f64,
+}
+
 #[cfg(not(test))]
 pub use entries::*;
 
@@ -162,8 +180,8 @@ pub use entries::*;
 #[cfg(not(test))]
 mod entries {
     use super::{
-        AreaAnswer, CountAnswer, Point, PruneAnswer, ReportAnswer, Split, StitchAnswer,
-        VerdictAnswer, Vertex, VertexAnswer, View, ViewAnswer, WindingAnswer,
+        AreaAnswer, CountAnswer, EditionAnswer, Point, PruneAnswer, ReportAnswer, SettingAnswer,
+        Split, StitchAnswer, VerdictAnswer, Vertex, VertexAnswer, View, ViewAnswer, WindingAnswer,
     };
 
     extern "C" {
@@ -362,6 +380,24 @@ mod entries {
             ends_len: usize,
             loops: usize,
         ) -> ReportAnswer;
+
+        pub fn mask_settings_enter(
+            entered: *mut usize,
+            entered_len: usize,
+            settings: *mut f64,
+            settings_len: usize,
+            tolerance_x: f64,
+            tolerance_y: f64,
+            area_limit: f64,
+        ) -> EditionAnswer;
+
+        pub fn mask_settings_ask(
+            entered: *const usize,
+            entered_len: usize,
+            settings: *const f64,
+            settings_len: usize,
+            edition: usize,
+        ) -> SettingAnswer;
     }
 
     #[inline]
@@ -723,6 +759,42 @@ mod entries {
                 ends.as_ptr(),
                 ends.len(),
                 loops,
+            )
+        }
+    }
+    #[inline]
+    pub fn settings_enter(
+        entered: &mut [usize],
+        settings: &mut [f64],
+        tolerance_x: f64,
+        tolerance_y: f64,
+        area_limit: f64,
+    ) -> EditionAnswer {
+        // SAFETY: each pointer and length are those of one slice; both are `&mut`, so nothing
+        // shares them.
+        unsafe {
+            mask_settings_enter(
+                entered.as_mut_ptr(),
+                entered.len(),
+                settings.as_mut_ptr(),
+                settings.len(),
+                tolerance_x,
+                tolerance_y,
+                area_limit,
+            )
+        }
+    }
+
+    #[inline]
+    pub fn settings_ask(entered: &[usize], settings: &[f64], edition: usize) -> SettingAnswer {
+        // SAFETY: each pointer and length are those of one slice, and both are only read.
+        unsafe {
+            mask_settings_ask(
+                entered.as_ptr(),
+                entered.len(),
+                settings.as_ptr(),
+                settings.len(),
+                edition,
             )
         }
     }

@@ -4,8 +4,8 @@
 //! `tests` show.
 
 use super::{
-    AreaAnswer, CountAnswer, PruneAnswer, ReportAnswer, StitchAnswer, VerdictAnswer, VertexAnswer,
-    View, ViewAnswer, WindingAnswer,
+    AreaAnswer, CountAnswer, EditionAnswer, PruneAnswer, ReportAnswer, SettingAnswer, StitchAnswer,
+    VerdictAnswer, VertexAnswer, View, ViewAnswer, WindingAnswer,
 };
 use crate::{Point, Split, Vertex};
 use std::cell::RefCell;
@@ -138,7 +138,9 @@ answers!(
     Stitch StitchAnswer,
     Winding WindingAnswer,
     Area AreaAnswer,
-    Report ReportAnswer
+    Report ReportAnswer,
+    Edition EditionAnswer,
+    Setting SettingAnswer
 );
 
 macro_rules! lent_as {
@@ -187,6 +189,7 @@ pub(crate) mod entries {
     use super::{play, Call, Lent};
     use super::{CountAnswer, PruneAnswer, StitchAnswer, VerdictAnswer, VertexAnswer, ViewAnswer};
     use super::{AreaAnswer, Point, ReportAnswer, Split, Vertex, View, WindingAnswer};
+    use super::{EditionAnswer, SettingAnswer};
 
     pub(crate) fn view_vertex(outline: &[f64], vc: usize, view: View, index: usize) -> VertexAnswer {
         play(call!(view_vertex: outline, vc, view, index;), &mut [], &mut []).into()
@@ -289,5 +292,19 @@ pub(crate) mod entries {
 
     pub(crate) fn straight_report(points: &[i64], ends: &[usize], loops: usize) -> ReportAnswer {
         play(call!(straight_report: points, ends, loops;), &mut [], &mut []).into()
+    }
+
+    pub(crate) fn settings_enter(
+        entered: &mut [usize], settings: &mut [f64],
+        tolerance_x: f64, tolerance_y: f64, area_limit: f64,
+    ) -> EditionAnswer {
+        let call = call!(settings_enter: tolerance_x, tolerance_y, area_limit; entered, settings);
+        play(call, &mut [entered], &mut [settings]).into()
+    }
+
+    pub(crate) fn settings_ask(
+        entered: &[usize], settings: &[f64], edition: usize,
+    ) -> SettingAnswer {
+        play(call!(settings_ask: entered, settings, edition;), &mut [], &mut []).into()
     }
 }

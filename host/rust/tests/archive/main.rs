@@ -3,6 +3,7 @@
 mod masks;
 mod random;
 mod refusals;
+mod settings;
 mod shapes;
 mod sheet;
 mod straight;
