@@ -2,7 +2,7 @@
 use Prim.Native.Nat.{ℕ}
 use mathlib.Core.Bool.{not}
 use mathlib.Core.Path.{_≡_}
-use mathlib.Core.List.{List, [], _∷_}
+use mathlib.Core.List.{List, [], _∷_, _++_}
 use lib.ListN.{length}
 use lib.Dec.{ltb}
 use lib.Ieee.{Float}
@@ -15,19 +15,24 @@ use Rattle.area.specs.Area.{keptOf}
 use Rattle.basis.specs.declared.answer.CountAnswer.{CountAnswer}
 use Rattle.basis.specs.Answers.{countRefused, counted}
 
+-- 1
+abbrev pub areaListRows : List Float → ℕ → List Row
+areaListRows areas loops = row (lengthFault 1 (length areas) loops) 1 ∷ row (ltb mostSlices loops) 1 ∷ []
+
+-- 5 and 9
+abbrev pub areaLastRows : List Float → ℕ → ℕ → List Row
+areaLastRows areas loops kept = row (not (allOf finite areas)) 5 ∷ row (ltb kept loops) 9 ∷ []
+
 abbrev pub areaRows : List Float → ℕ → Float → ℕ → List Row
-areaRows areas loops limit kept =
-    row (lengthFault 1 (length areas) loops) 1
-    ∷ row (ltb mostSlices loops) 1
-    ∷ row (not (limitOk limit)) 4
-    ∷ row (not (allOf finite areas)) 5
-    ∷ row (ltb kept loops) 9
-    ∷ []
+areaRows areas loops limit kept = areaListRows areas loops ++ (row (not (limitOk limit)) 4 ∷ areaLastRows areas loops kept)
 
 unfoldable pub areaRefusal : List Float → ℕ → Float → ℕ → ℕ
 areaRefusal areas loops limit kept = firstOf (areaRows areas loops limit kept)
 
--- the answer, and the lent list at exit: by the room rule where the call is accepted, untouched where it is refused. An accepted call has one area per loop.
-pub record AreaLeft (areas : List Float) (loops : ℕ) (limit : Float) (kept : List ℕ) (r : CountAnswer) (left : List ℕ) : Type 0 where
-  pub answers : r ≡ answer countRefused (areaRefusal areas loops limit (length kept)) (counted (length (keptOf areas limit)))
-  pub list : left ≡ answer (λ _. kept) (areaRefusal areas loops limit (length kept)) (roomOf 0 1 (length areas) (keptOf areas limit) kept)
+-- the answer to a call with this number, and the lent list at exit: by the room rule where the call is accepted, untouched where it is refused. An accepted call has one area per loop.
+pub record AreaBy (number : ℕ) (areas : List Float) (limit : Float) (kept : List ℕ) (r : CountAnswer) (left : List ℕ) : Type 0 where
+  pub answers : r ≡ answer countRefused number (counted (length (keptOf areas limit)))
+  pub list : left ≡ answer (λ _. kept) number (roomOf 0 1 (length areas) (keptOf areas limit) kept)
+
+abbrev pub AreaLeft : List Float → ℕ → Float → List ℕ → CountAnswer → List ℕ → Type 0
+AreaLeft areas loops limit kept r left = AreaBy (areaRefusal areas loops limit (length kept)) areas limit kept r left

@@ -13,7 +13,7 @@ use borrow.Author.Tests.{ltb-true, leb-true, lt-ltb, le-leb, eqb-true, eqb-false
 use Rattle.basis.specs.Number.{+0}
 use Rattle.basis.specs.Choice.{by-test, and-left, and-right, or-left, or-right}
 use Rattle.settings.specs.declared.Setting.{Setting}
-use Rattle.settings.specs.Settings.{Held, Sized, lengthsFault, countOf, settingAt, settingsTo, settingsOf, known, askedOf, full, written, extended, Open}
+use Rattle.settings.specs.Settings.{Held, Sized, lengthsFault, countOf, settingAt, settingsTo, settingsOf, known, askedOf, none, full, written, extended, Open}
 
 -- ---- the lists of a record
 
@@ -82,6 +82,11 @@ held-at h e d k =
     let least = known-least (h .entered) e k in
     let most = known-most (h .entered) e k in
     rw k (settings-at (h .numbers) (countOf (h .entered)) (e - 1) d (omega arith))
+
+-- an unknown edition has no setting
+pub asked-none : (h : Held) (e : ℕ) → known (h .entered) e ≡ false → askedOf h e ≡ none
+unfolding askedOf
+asked-none h e f = rw f
 
 -- ---- a setting written: its three numbers, and no other place
 
