@@ -45,11 +45,14 @@ lengthsOf x = lengths (length (x .room)) (length (x .ends)) (length (x .chain)) 
 abbrev pub stitchNumber : Given → Lists → ℕ
 stitchNumber g x = stitchRefusal g (lengthsOf x)
 
--- the answer, and each lent list at exit: by the room rule where the call is accepted, untouched where it is refused
-pub record StitchLeft (g : Given) (x : Lists) (r : StitchAnswer) (left : Lists) : Type 0 where
-  pub answers : r ≡ answer stitchRefused (stitchNumber g x) (stitchGiven (roundCount g) (loopCount g) (chainCount g))
-  pub room : left .room ≡ answer (λ _. x .room) (stitchNumber g x) (roomOf +0 3 (needOf (g .sliceAt) (g .slices)) (roomItems g) (x .room))
-  pub ends : left .ends ≡ answer (λ _. x .ends) (stitchNumber g x) (roomOf 0 1 (g .slices) (endItems g) (x .ends))
-  pub chain : left .chain ≡ answer (λ _. x .chain) (stitchNumber g x) (roomOf 0 1 (g .slices) (chainItems g) (x .chain))
-  pub chainEnds : left .chainEnds ≡ answer (λ _. x .chainEnds) (stitchNumber g x) (roomOf 0 1 (g .slices) (chainEndItems g) (x .chainEnds))
-  pub chainHow : left .chainHow ≡ answer (λ _. x .chainHow) (stitchNumber g x) (roomOf 0 1 (g .slices) (howItems g) (x .chainHow))
+-- the answer to a call with this number, and each lent list at exit: by the room rule where the call is accepted, untouched where it is refused
+pub record StitchBy (number : ℕ) (g : Given) (x : Lists) (r : StitchAnswer) (left : Lists) : Type 0 where
+  pub answers : r ≡ answer stitchRefused number (stitchGiven (roundCount g) (loopCount g) (chainCount g))
+  pub room : left .room ≡ answer (λ _. x .room) number (roomOf +0 3 (needOf (g .sliceAt) (g .slices)) (roomItems g) (x .room))
+  pub ends : left .ends ≡ answer (λ _. x .ends) number (roomOf 0 1 (g .slices) (endItems g) (x .ends))
+  pub chain : left .chain ≡ answer (λ _. x .chain) number (roomOf 0 1 (g .slices) (chainItems g) (x .chain))
+  pub chainEnds : left .chainEnds ≡ answer (λ _. x .chainEnds) number (roomOf 0 1 (g .slices) (chainEndItems g) (x .chainEnds))
+  pub chainHow : left .chainHow ≡ answer (λ _. x .chainHow) number (roomOf 0 1 (g .slices) (howItems g) (x .chainHow))
+
+abbrev pub StitchLeft : Given → Lists → StitchAnswer → Lists → Type 0
+StitchLeft g x r left = StitchBy (stitchNumber g x) g x r left
