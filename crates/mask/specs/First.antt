@@ -27,9 +27,8 @@ use Rattle.prune.specs.Prune as Prune
 use Rattle.prune_entries.specs.PruneEntry.{inputRows, lentRows, pruneRefusal}
 use Rattle.stitch_run.specs.Stitch as stitch
 use Rattle.stitch_entries.specs.declared.faults.Lengths.{Lengths}
-use Rattle.stitch_entries.specs.StitchEntry as stitched
-use Rattle.stitch_entries.specs.StitchEntry.{shapeRows, roomPart, stitchRefusal}
-use Rattle.area_entries.specs.AreaEntry.{areaRows, areaRefusal}
+use Rattle.named_entries.specs.NamedStitch.{namedStitchRows, namedStitchRefusal}
+use Rattle.named_entries.specs.NamedArea.{namedAreaRows, namedAreaRefusal}
 use Rattle.settings.specs.declared.Setting.{Setting}
 use Rattle.settings.specs.Settings.{Held}
 use Rattle.settings_entries.specs.SettingsEntry.{enterRows, enterRefusal, askRows, askRefusal}
@@ -73,13 +72,13 @@ pub prune-first : (g : Prune.Given) (at slice : ℕ) → First (inputRows g ++ l
 unfolding pruneRefusal inputRows before refusalOrder
 prune-first g at slice = first-of (inputRows g ++ lentRows g at slice) tt
 
-pub stitch-first : (g : stitch.Given) (l : Lengths) → First (shapeRows g ++ roomPart g l) (stitchRefusal g l)
-unfolding stitchRefusal before refusalOrder
-stitch-first g l = first-of (shapeRows g ++ roomPart g l) tt
+pub stitch-first : (h : Held) (e : ℕ) (g : stitch.Given) (l : Lengths) → First (namedStitchRows h e g l) (namedStitchRefusal h e g l)
+unfolding namedStitchRefusal before refusalOrder
+stitch-first h e g l = first-of (namedStitchRows h e g l) tt
 
-pub area-first : (areas : List Float) (loops : ℕ) (limit : Float) (kept : ℕ) → First (areaRows areas loops limit kept) (areaRefusal areas loops limit kept)
-unfolding areaRefusal before refusalOrder
-area-first areas loops limit kept = first-of (areaRows areas loops limit kept) tt
+pub area-first : (h : Held) (e : ℕ) (areas : List Float) (loops kept : ℕ) → First (namedAreaRows h e areas loops kept) (namedAreaRefusal h e areas loops kept)
+unfolding namedAreaRefusal before refusalOrder
+area-first h e areas loops kept = first-of (namedAreaRows h e areas loops kept) tt
 
 pub enter-first : (h : Held) (s : Setting) → First (enterRows h s) (enterRefusal h s)
 unfolding enterRefusal before refusalOrder

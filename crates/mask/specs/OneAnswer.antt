@@ -32,8 +32,8 @@ use Rattle.prune_entries.specs.PruneEntry.{PruneLeft}
 use Rattle.stitch_run.specs.Stitch as stitch
 use Rattle.stitch.specs.Lent.{Lists}
 use Rattle.stitch_entries.specs.declared.answer.StitchAnswer.{StitchAnswer}
-use Rattle.stitch_entries.specs.StitchEntry.{StitchLeft}
-use Rattle.area_entries.specs.AreaEntry.{AreaLeft}
+use Rattle.named_entries.specs.NamedStitch.{NamedStitch}
+use Rattle.named_entries.specs.NamedArea.{NamedArea}
 use Rattle.settings.specs.declared.Setting.{Setting}
 use Rattle.settings.specs.Settings.{Held}
 use Rattle.settings_entries.specs.declared.answer.EditionAnswer.{EditionAnswer}
@@ -80,10 +80,10 @@ pub prune-one : (c : Given) (l : slice.Rooms) (r s : PruneAnswer) (a b : slice.R
 prune-one c l r s a b x y =
     (one-answer r s _ (x .answers) (y .answers), one-answer (a .at) (b .at) _ (x .at) (y .at), one-answer (a .shape) (b .shape) _ (x .shape) (y .shape))
 
-pub stitch-one : (g : stitch.Given) (l : Lists) (r s : StitchAnswer) (a b : Lists)
-    → StitchLeft g l r a → StitchLeft g l s b
+pub stitch-one : (h : Held) (e : ℕ) (g : stitch.Given) (l : Lists) (r s : StitchAnswer) (a b : Lists)
+    → NamedStitch h e g l r a → NamedStitch h e g l s b
     → (r ≡ s) × (a .room ≡ b .room) × (a .ends ≡ b .ends) × (a .chain ≡ b .chain) × (a .chainEnds ≡ b .chainEnds) × (a .chainHow ≡ b .chainHow)
-stitch-one g l r s a b x y = (
+stitch-one h e g l r s a b x y = (
   one-answer r s _ (x .answers) (y .answers),
   one-answer (a .room) (b .room) _ (x .room) (y .room),
   one-answer (a .ends) (b .ends) _ (x .ends) (y .ends),
@@ -92,9 +92,9 @@ stitch-one g l r s a b x y = (
   one-answer (a .chainHow) (b .chainHow) _ (x .chainHow) (y .chainHow),
 )
 
-pub area-one : (areas : List Float) (loops : ℕ) (limit : Float) (kept : List ℕ) (r s : CountAnswer) (a b : List ℕ)
-    → AreaLeft areas loops limit kept r a → AreaLeft areas loops limit kept s b → (r ≡ s) × (a ≡ b)
-area-one areas loops limit kept r s a b x y = (one-answer r s _ (x .answers) (y .answers), one-answer a b _ (x .list) (y .list))
+pub area-one : (h : Held) (e : ℕ) (areas : List Float) (loops : ℕ) (kept : List ℕ) (r s : CountAnswer) (a b : List ℕ)
+    → NamedArea h e areas loops kept r a → NamedArea h e areas loops kept s b → (r ≡ s) × (a ≡ b)
+area-one h e areas loops kept r s a b x y = (one-answer r s _ (x .answers) (y .answers), one-answer a b _ (x .list) (y .list))
 
 pub enter-one : (h : Held) (s : Setting) (r q : EditionAnswer) (a b : Held) → EnterLeft h s r a → EnterLeft h s q b → (r ≡ q) × (a ≡ b)
 enter-one h s r q a b x y = (one-answer r q _ (x .answers) (y .answers), one-answer a b _ (x .lists) (y .lists))

@@ -2,7 +2,7 @@
 -- Each call is taken by its contract, so this holds of the exported entries.
 use Prim.Native.Nat.{ℕ, _+_, _*_, _≤_}
 use mathlib.Core.Bool.{Bool, true}
-use mathlib.Core.Path.{_≡_, ap, subst}
+use mathlib.Core.Path.{_≡_, ap, subst, _∙_}
 use mathlib.Core.List.{List}
 use lib.ListN.{length, take}
 use lib.Ieee.{Float}
@@ -25,7 +25,10 @@ use Rattle.stitch_run.specs.Stitch as stitch
 use Rattle.stitch.specs.Lent.{Lists, Long}
 use Rattle.stitch_entries.specs.declared.answer.StitchAnswer.{StitchAnswer}
 use Rattle.stitch_entries.specs.Answers.{stitchRefused}
-use Rattle.stitch_entries.specs.StitchEntry.{stitchNumber, StitchLeft}
+use Rattle.stitch_entries.specs.StitchEntry.{lengthsOf, stitchNumber}
+use Rattle.settings.specs.Settings.{Held}
+use Rattle.named_entries.specs.NamedStitch.{namedStitchRefusal, Holding, NamedStitch}
+use Rattle.named_entries.specs.NamedTheorems.{stitch-number}
 use Rattle.mask.specs.Accept.{made-pass, cands-made, CandsPass, LapsPass, prune-passes, slices-made, stitch-passes}
 
 -- ---- from the candidates to the slices
@@ -115,7 +118,7 @@ module _ (one : Made 1) (two : Made 2) (same : two .handed .lapAt ≡ one .hande
 
     -- what `mask_prune` returns, `mask_stitch` accepts
     module _ (l : slice.Rooms) (r : PruneAnswer) (left : slice.Rooms) (roomy : slice.Roomy (needOf (call .call)) l) (holds : PruneLeft call l r left) where
-      -- what the host hands on: the outlines, as many slices as were counted, their starts
+      -- what the host hands on: the outlines, as many slices as were counted, their starts. It names a setting that has the tolerances
       abbrev pub stitchCall : ℕ → stitch.Given
       stitchCall selector =
           stitch.given (one .handed .outline) (two .handed .outline) (take (codeWidth * r .slices) (left .at)) (take (shapeWidth * r .slices) (left .shape))
@@ -124,8 +127,8 @@ module _ (one : Made 1) (two : Made 2) (same : two .handed .lapAt ≡ one .hande
       pub pruned : r .refusal ≡ 0
       pruned = ap (λ (a : PruneAnswer). a .refusal) (answer-accepted pruneRefused (pruneNumber call l) _ r (holds .answers) (prune-accepts l roomy))
 
-      pub stitch-accepts : (selector : ℕ) (x : Lists) → selector ≤ 1 → Long (stitchCall selector) x → stitchNumber (stitchCall selector) x ≡ 0
-      stitch-accepts selector x choice long =
+      by-tolerances : (selector : ℕ) (x : Lists) → selector ≤ 1 → Long (stitchCall selector) x → stitchNumber (stitchCall selector) x ≡ 0
+      by-tolerances selector x choice long =
           stitch-passes (stitchCall selector) x
           (record {
             whole1 = whole-of one;
@@ -138,8 +141,12 @@ module _ (one : Made 1) (two : Made 2) (same : two .handed .lapAt ≡ one .hande
             long = long;
           })
 
-      -- so a host that goes by the needs never sees a refusal in the middle
-      pub never-refuses : (selector : ℕ) (x : Lists) (s : StitchAnswer) (y : Lists) → selector ≤ 1 → Long (stitchCall selector) x → StitchLeft (stitchCall selector) x s y
-          → (r .refusal ≡ 0) × (s .refusal ≡ 0)
-      never-refuses selector x s y choice long kept =
-          (pruned, ap (λ (a : StitchAnswer). a .refusal) (answer-accepted stitchRefused (stitchNumber (stitchCall selector) x) _ s (kept .answers) (stitch-accepts selector x choice long)))
+      module _ (h : Held) (e : ℕ) (there : Holding h e (one .handed .tolerance)) where
+        pub stitch-accepts : (selector : ℕ) (x : Lists) → selector ≤ 1 → Long (stitchCall selector) x → namedStitchRefusal h e (stitchCall selector) (lengthsOf x) ≡ 0
+        stitch-accepts selector x choice long = stitch-number h e (there .sized) (there .there) (stitchCall selector) (lengthsOf x) ∙ by-tolerances selector x choice long
+
+        -- so a host that goes by the needs never sees a refusal in the middle
+        pub never-refuses : (selector : ℕ) (x : Lists) (s : StitchAnswer) (y : Lists) → selector ≤ 1 → Long (stitchCall selector) x → NamedStitch h e (stitchCall selector) x s y
+            → (r .refusal ≡ 0) × (s .refusal ≡ 0)
+        never-refuses selector x s y choice long kept =
+            (pruned, ap (λ (a : StitchAnswer). a .refusal) (answer-accepted stitchRefused (namedStitchRefusal h e (stitchCall selector) (lengthsOf x)) _ s (kept .answers) (stitch-accepts selector x choice long)))

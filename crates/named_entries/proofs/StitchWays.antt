@@ -2,7 +2,7 @@
 use Prim.Native.Nat.{ℕ}
 use mathlib.Core.Bool.{Bool, true, false, not}
 use mathlib.Core.Path.{_≡_, refl, sym, ap, subst, _∙_}
-use mathlib.Core.List.{List, _++_}
+use mathlib.Core.List.{List}
 use native.Mathlib.Omega.{arith}
 use lib.Ieee.{Float, neg, lt, le, ofBits}
 use Rattle.basis.specs.Number.{toleranceOf, tolerableOn, tolerable}
@@ -16,10 +16,10 @@ use Rattle.stitch_run.specs.Stitch.{Given, given, planOf}
 use Rattle.stitch.specs.Lent.{Lists}
 use Rattle.stitch_entries.specs.declared.answer.StitchAnswer.{StitchAnswer}
 use Rattle.stitch_entries.specs.Answers.{stitchRefused}
-use Rattle.stitch_entries.specs.StitchEntry.{listPart, codePart, stitchRefusal, lengthsOf, stitchNumber, StitchBy, StitchLeft}
+use Rattle.stitch_entries.specs.StitchEntry.{stitchRefusal, lengthsOf, stitchNumber, StitchBy, StitchLeft}
 use Rattle.named_entries.specs.Named.{unknownFault}
 use Rattle.named_entries.specs.NamedLaws.{is-1, is-16, is-same, was-4, answer-number, answer-same, answer-still}
-use Rattle.named_entries.specs.NamedStitch.{toleranceIn, namedStitchRefusal, NamedStitch}
+use Rattle.named_entries.specs.NamedStitch.{toleranceIn, earlyPart, namedStitchRefusal, NamedStitch}
 
 -- an unknown setting's tolerances are out of range
 tolerance-out : (h : Held) (e : ℕ) → known (h .entered) e ≡ false → not (tolerable (toleranceIn h e)) ≡ true
@@ -30,7 +30,7 @@ module _ (h : Held) (e : ℕ) (g : Given) (x : Lists) where
   pub stitch-length : (b : Bool) (r : StitchAnswer) → b ≡ lengthsFault h → b ≡ true → r ≡ stitchRefused 1 → NamedStitch h e g x r x
   unfolding namedStitchRefusal
   stitch-length b r is bad q =
-      let one = is-1 h e (listPart g ++ codePart g) _ (sym is ∙ bad) in
+      let one = is-1 h e (earlyPart g) _ (sym is ∙ bad) in
       record {
         answers = answer-no stitchRefused 1 _ _ r one (λ z. omega arith) q;
         room = answer-no (λ _. x .room) 1 _ _ (x .room) one (λ z. omega arith) refl;
@@ -55,7 +55,7 @@ module _ (h : Held) (e : ℕ) (g : Given) (x : Lists) where
     by-16 : (r : StitchAnswer) → u ≡ true → r ≡ stitchRefused 16 → NamedStitch h e g x r left
     unfolding stitchRefusal namedStitchRefusal
     by-16 r q w =
-        let n = is-16 h e sized _ (listPart g ++ codePart g) _ tt out number refl u of-number q in
+        let n = is-16 h e sized _ (earlyPart g) _ tt out number refl u of-number q in
         let four = was-4 (h .entered) e number u of-number q in
         record {
           answers = answer-no stitchRefused 16 _ _ r n (λ z. omega arith) w;
@@ -69,7 +69,7 @@ module _ (h : Held) (e : ℕ) (g : Given) (x : Lists) where
     by-same : (r : StitchAnswer) → u ≡ false → r ≡ a → NamedStitch h e g x r left
     unfolding stitchRefusal namedStitchRefusal
     by-same r q w =
-        let n = is-same h e sized _ (listPart g ++ codePart g) _ tt out number refl u of-number q in
+        let n = is-same h e sized _ (earlyPart g) _ tt out number refl u of-number q in
         record {
           answers = answer-same stitchRefused number _ _ r n (w ∙ given .answers);
           room = answer-same (λ _. x .room) number _ _ (left .room) n (given .room);

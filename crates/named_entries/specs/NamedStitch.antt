@@ -1,10 +1,12 @@
 -- The entry `mask_stitch`: it names a setting, whose tolerances it uses.
 use Prim.Native.Nat.{ℕ}
+use mathlib.Core.Bool.{true}
+use mathlib.Core.Path.{_≡_}
 use mathlib.Core.List.{List, _++_}
 use Rattle.basis.specs.Number.{toleranceOf}
 use Rattle.basis.specs.declared.number.Tolerance.{Tolerance}
 use Rattle.basis.specs.Refuse.{Row, firstOf}
-use Rattle.settings.specs.Settings.{Held, askedOf}
+use Rattle.settings.specs.Settings.{Held, Sized, known, askedOf}
 use Rattle.stitch_run.specs.Stitch.{Given}
 use Rattle.stitch.specs.Lent.{Lists}
 use Rattle.stitch_entries.specs.declared.answer.StitchAnswer.{StitchAnswer}
@@ -16,12 +18,24 @@ use Rattle.named_entries.specs.Named.{namedRows}
 abbrev pub toleranceIn : Held → ℕ → Tolerance
 toleranceIn h e = toleranceOf (askedOf h e .«tolerance_x») (askedOf h e .«tolerance_y»)
 
--- the table of a stitch that has these tolerances: 1 to 3, then 16, then from 4 on
+-- the table of a stitch: 1 to 3, and from 4 on
+abbrev pub earlyPart : Given → List Row
+earlyPart g = listPart g ++ codePart g
+
+abbrev pub latePart : Given → Lengths → List Row
+latePart g l = numberPart g ++ (indexPart g ++ roomPart g l)
+
 abbrev pub namedStitchRows : Held → ℕ → Given → Lengths → List Row
-namedStitchRows h e g l = namedRows h e (listPart g ++ codePart g) (numberPart g ++ (indexPart g ++ roomPart g l))
+namedStitchRows h e g l = namedRows h e (earlyPart g) (latePart g l)
 
 unfoldable pub namedStitchRefusal : Held → ℕ → Given → Lengths → ℕ
 namedStitchRefusal h e g l = firstOf (namedStitchRows h e g l)
+
+-- a record that holds a setting with these tolerances
+pub record Holding (h : Held) (e : ℕ) (t : Tolerance) : Type 0 where
+  pub sized : Sized h
+  pub there : known (h .entered) e ≡ true
+  pub tolerances : toleranceIn h e ≡ t
 
 -- the answer and the lent lists, by that number
 abbrev pub NamedStitch : Held → ℕ → Given → Lists → StitchAnswer → Lists → Type 0
