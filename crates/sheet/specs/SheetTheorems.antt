@@ -58,7 +58,10 @@ use Rattle.stitch.specs.Lent.{Lists}
 use Rattle.stitch_entries.specs.StitchRows.{startsFault, lengths}
 use Rattle.stitch_entries.specs.declared.answer.StitchAnswer.{StitchAnswer}
 use Rattle.stitch_entries.specs.Answers.{stitchRefused, stitchGiven}
-use Rattle.stitch_entries.specs.StitchEntry.{stitchRefusal, stitchNumber}
+use Rattle.stitch_entries.specs.StitchEntry.{stitchRefusal, lengthsOf, stitchNumber, StitchBy, StitchLeft}
+use Rattle.settings.specs.Settings.{Held}
+use Rattle.named_entries.specs.NamedStitch.{Holding, NamedStitch}
+use Rattle.named_entries.specs.NamedTheorems.{stitch-number}
 use Rattle.sheet.specs.Sheet.{Said, candidatesAre, verticesAre, slicesAre, loopsAre, refusedWith, apartInBox, LoopRooms, Case, Holds, Answers, sheet}
 
 -- ---- what the computation opens, under one name each
@@ -169,9 +172,14 @@ module _ (g : stitch.Given) (room : ℕ) (x : Lists) (rooms : LoopRooms g room x
   number-is : (n : ℕ) → stitchRefusal g (lengths (3 * room) (g .slices) (g .slices) (g .slices) (g .slices)) ≡ n → stitchNumber g x ≡ n
   number-is n h = rw (rooms .room, rooms .ends, rooms .chain, rooms .chainEnds, rooms .chainHow) h
 
+-- a stitch whose record holds the setting is one by its tolerances
+by-tolerances : (h : Held) (e : ℕ) (g : stitch.Given) (x : Lists) (r : StitchAnswer) (left : Lists) → Holding h e (g .tolerance) → NamedStitch h e g x r left → StitchLeft g x r left
+by-tolerances h e g x r left there named = subst (λ (n : ℕ). StitchBy n g x r left) (stitch-number h e (there .sized) (there .there) g (lengthsOf x)) named
+
 loops-answer : (g : stitch.Given) (n : ℕ) (ends : List ℕ) (loops : List Float) (room : ℕ) → Holds (loopsAre g n ends loops room) → Answers (loopsAre g n ends loops room)
-loops-answer g n ends loops room h x r left rooms holds =
+loops-answer g n ends loops room h kept edition x r left there rooms named =
     let k = stitchNumber g x in
+    let holds = by-tolerances kept edition g x r left there named in
     let none : stitchNumber g x ≡ 0 = number-is g room x rooms 0 (h .4) in
     let told : r ≡ stitchGiven (roundCount g) (stitch.loopCount g) (stitch.chainCount g) = answer-accepted stitchRefused k _ r (holds .answers) none in (
       ap (λ (a : StitchAnswer). a .refusal) told,
@@ -188,8 +196,9 @@ refuses f n zero a r e h some = absurd (omega arith)
 refuses f n (suc m) a r e h some = e ∙ ap (λ (k : ℕ). answer f k a) h
 
 refused-answer : (g : stitch.Given) (room number : ℕ) → Holds (refusedWith g room number) → Answers (refusedWith g room number)
-refused-answer g room number h x r left rooms holds =
+refused-answer g room number h kept edition x r left there rooms named =
     let k = stitchNumber g x in
+    let holds = by-tolerances kept edition g x r left there named in
     let e : stitchNumber g x ≡ number = number-is g room x rooms number (h .0) in (
       refuses stitchRefused k number _ r (holds .answers) e (h .1),
       record {
