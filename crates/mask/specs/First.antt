@@ -27,6 +27,7 @@ use Rattle.prune.specs.Prune as Prune
 use Rattle.prune_entries.specs.PruneEntry.{inputRows, lentRows, pruneRefusal}
 use Rattle.stitch_run.specs.Stitch as stitch
 use Rattle.stitch_entries.specs.declared.faults.Lengths.{Lengths}
+use Rattle.slice.specs.Editions.{Editions}
 use Rattle.named_entries.specs.NamedStitch.{namedStitchRows, namedStitchRefusal}
 use Rattle.named_entries.specs.NamedArea.{namedAreaRows, namedAreaRefusal}
 use Rattle.settings.specs.declared.Setting.{Setting}
@@ -68,13 +69,13 @@ pub candidates-first : (g : cuts.Given) (splits : List Float) (lent : candidate.
 unfolding candidatesRefusal listRows laterRows valueRows indexRows before refusalOrder
 candidates-first g splits lent = first-of (candidatesRows g splits lent) tt
 
-pub prune-first : (g : Prune.Given) (at slice : ℕ) → First (inputRows g ++ lentRows g at slice) (pruneRefusal g at slice)
+pub prune-first : (g : Prune.Given) (at slice edition : ℕ) → First (inputRows g ++ lentRows g at slice edition) (pruneRefusal g at slice edition)
 unfolding pruneRefusal inputRows before refusalOrder
-prune-first g at slice = first-of (inputRows g ++ lentRows g at slice) tt
+prune-first g at slice edition = first-of (inputRows g ++ lentRows g at slice edition) tt
 
-pub stitch-first : (h : Held) (e : ℕ) (g : stitch.Given) (l : Lengths) → First (namedStitchRows h e g l) (namedStitchRefusal h e g l)
+pub stitch-first : (h : Held) (k : ℕ) (g : stitch.Given) (e : Editions) (l : Lengths) → First (namedStitchRows h k g e l) (namedStitchRefusal h k g e l)
 unfolding namedStitchRefusal before refusalOrder
-stitch-first h e g l = first-of (namedStitchRows h e g l) tt
+stitch-first h k g e l = first-of (namedStitchRows h k g e l) tt
 
 pub area-first : (h : Held) (e : ℕ) (areas : List Float) (loops kept : ℕ) → First (namedAreaRows h e areas loops kept) (namedAreaRefusal h e areas loops kept)
 unfolding namedAreaRefusal before refusalOrder

@@ -21,11 +21,11 @@ use Rattle.view_entries.specs.SingleEntry.{singleAnswer}
 use Rattle.view_entries.specs.EntireEntry.{entireAnswer}
 use Rattle.verdict_entries.specs.ValidateEntry.{validateAnswer}
 use Rattle.cut.specs.Cuts as cuts
-use Rattle.candidate.specs.Ready as slices
 use Rattle.basis.specs.declared.answer.CountAnswer.{CountAnswer}
 use Rattle.cut_entries.specs.CutOrder.{CutOrdered}
-use Rattle.candidate_entries.specs.Candidates.{Sliced}
+use Rattle.candidate_entries.specs.Candidates.{Lent, Sliced}
 use Rattle.slice.specs.Ready as slice
+use Rattle.slice.specs.Editions.{Editions}
 use Rattle.prune.specs.Prune.{Given}
 use Rattle.prune_entries.specs.declared.answer.PruneAnswer.{PruneAnswer}
 use Rattle.prune_entries.specs.PruneEntry.{PruneLeft}
@@ -70,20 +70,29 @@ pub order-one : (g : cuts.Given) (cutAt : List ℕ) (cut : List Float) (r s : Co
 order-one g cutAt cut r s a b p q x y =
     (one-answer r s _ (x .answers) (y .answers), one-answer a b _ (x .numbers) (y .numbers), one-answer p q _ (x .points) (y .points))
 
-pub candidates-one : (g : cuts.Given) (splits : List Float) (l : slices.Rooms) (r s : CountAnswer) (a b : slices.Rooms)
-    → Sliced g splits l r a → Sliced g splits l s b → (r ≡ s) × (a .at ≡ b .at) × (a .cand ≡ b .cand) × (a .probe ≡ b .probe)
-candidates-one g splits l r s a b x y =
-    (one-answer r s _ (x .answers) (y .answers), one-answer (a .at) (b .at) _ (x .at) (y .at), one-answer (a .cand) (b .cand) _ (x .cand) (y .cand), one-answer (a .probe) (b .probe) _ (x .probe) (y .probe))
+pub candidates-one : (g : cuts.Given) (splits : List Float) (edition : ℕ) (l : Lent) (r s : CountAnswer) (a b : Lent)
+    → Sliced g splits edition l r a → Sliced g splits edition l s b → (r ≡ s) × (a .at ≡ b .at) × (a .cand ≡ b .cand) × (a .probe ≡ b .probe) × (a .edition ≡ b .edition)
+candidates-one g splits edition l r s a b x y = (
+  one-answer r s _ (x .answers) (y .answers),
+  one-answer (a .at) (b .at) _ (x .at) (y .at),
+  one-answer (a .cand) (b .cand) _ (x .cand) (y .cand),
+  one-answer (a .probe) (b .probe) _ (x .probe) (y .probe),
+  one-answer (a .edition) (b .edition) _ (x .editions) (y .editions),
+)
 
 pub prune-one : (c : Given) (l : slice.Rooms) (r s : PruneAnswer) (a b : slice.Rooms)
-    → PruneLeft c l r a → PruneLeft c l s b → (r ≡ s) × (a .at ≡ b .at) × (a .shape ≡ b .shape)
-prune-one c l r s a b x y =
-    (one-answer r s _ (x .answers) (y .answers), one-answer (a .at) (b .at) _ (x .at) (y .at), one-answer (a .shape) (b .shape) _ (x .shape) (y .shape))
+    → PruneLeft c l r a → PruneLeft c l s b → (r ≡ s) × (a .at ≡ b .at) × (a .shape ≡ b .shape) × (a .edition ≡ b .edition)
+prune-one c l r s a b x y = (
+  one-answer r s _ (x .answers) (y .answers),
+  one-answer (a .at) (b .at) _ (x .at) (y .at),
+  one-answer (a .shape) (b .shape) _ (x .shape) (y .shape),
+  one-answer (a .edition) (b .edition) _ (x .edition) (y .edition),
+)
 
-pub stitch-one : (h : Held) (e : ℕ) (g : stitch.Given) (l : Lists) (r s : StitchAnswer) (a b : Lists)
-    → NamedStitch h e g l r a → NamedStitch h e g l s b
+pub stitch-one : (h : Held) (k : ℕ) (g : stitch.Given) (e : Editions) (l : Lists) (r s : StitchAnswer) (a b : Lists)
+    → NamedStitch h k g e l r a → NamedStitch h k g e l s b
     → (r ≡ s) × (a .room ≡ b .room) × (a .ends ≡ b .ends) × (a .chain ≡ b .chain) × (a .chainEnds ≡ b .chainEnds) × (a .chainHow ≡ b .chainHow)
-stitch-one h e g l r s a b x y = (
+stitch-one h k g e l r s a b x y = (
   one-answer r s _ (x .answers) (y .answers),
   one-answer (a .room) (b .room) _ (x .room) (y .room),
   one-answer (a .ends) (b .ends) _ (x .ends) (y .ends),

@@ -12,6 +12,7 @@ use Rattle.settings.specs.declared.Setting.{Setting}
 use Rattle.settings.specs.Settings.{Held, lengthsFault, known, askedOf}
 use Rattle.settings.specs.SettingsLaws.{asked-none}
 use Rattle.select.specs.declared.class.Starts.{Starts}
+use Rattle.slice.specs.Editions.{Editions}
 use Rattle.stitch_run.specs.Stitch.{Given, given, planOf}
 use Rattle.stitch.specs.Lent.{Lists}
 use Rattle.stitch_entries.specs.declared.answer.StitchAnswer.{StitchAnswer}
@@ -22,15 +23,15 @@ use Rattle.named_entries.specs.NamedLaws.{is-1, is-16, is-same, was-4, a
 use Rattle.named_entries.specs.NamedStitch.{toleranceIn, earlyPart, namedStitchRefusal, NamedStitch}
 
 -- an unknown setting's tolerances are out of range
-tolerance-out : (h : Held) (e : ℕ) → known (h .entered) e ≡ false → not (tolerable (toleranceIn h e)) ≡ true
+tolerance-out : (h : Held) (k : ℕ) → known (h .entered) k ≡ false → not (tolerable (toleranceIn h k)) ≡ true
 unfolding tolerable tolerableOn neg lt le ofBits
-tolerance-out h e f = ap (λ (s : Setting). not (tolerable (toleranceOf (s .«tolerance_x») (s .«tolerance_y»)))) (asked-none h e f)
+tolerance-out h k f = ap (λ (s : Setting). not (tolerable (toleranceOf (s .«tolerance_x») (s .«tolerance_y»)))) (asked-none h k f)
 
-module _ (h : Held) (e : ℕ) (g : Given) (x : Lists) where
-  pub stitch-length : (b : Bool) (r : StitchAnswer) → b ≡ lengthsFault h → b ≡ true → r ≡ stitchRefused 1 → NamedStitch h e g x r x
+module _ (h : Held) (k : ℕ) (g : Given) (e : Editions) (x : Lists) where
+  pub stitch-length : (b : Bool) (r : StitchAnswer) → b ≡ lengthsFault h → b ≡ true → r ≡ stitchRefused 1 → NamedStitch h k g e x r x
   unfolding namedStitchRefusal
   stitch-length b r is bad q =
-      let one = is-1 h e (earlyPart g) _ (sym is ∙ bad) in
+      let one = is-1 h k (earlyPart g e) _ (sym is ∙ bad) in
       record {
         answers = answer-no stitchRefused 1 _ _ r one (λ z. omega arith) q;
         room = answer-no (λ _. x .room) 1 _ _ (x .room) one (λ z. omega arith) refl;
@@ -41,22 +42,22 @@ module _ (h : Held) (e : ℕ) (g : Given) (x : Lists) where
       }
 
   -- the stitch with the setting's tolerances, as it was answered
-  module _ (by : g .tolerance ≡ toleranceIn h e) (sized : lengthsFault h ≡ false) (a : StitchAnswer) (left : Lists) (given : StitchLeft g x a left)
-      (u : Bool) (told : u ≡ unknownFault (h .entered) e (a .refusal)) where
+  module _ (by : g .tolerance ≡ toleranceIn h k) (sized : lengthsFault h ≡ false) (a : StitchAnswer) (left : Lists) (given : StitchLeft g e x a left)
+      (u : Bool) (told : u ≡ unknownFault (h .entered) k (a .refusal)) where
     abbrev number : ℕ
-    number = stitchNumber g x
+    number = stitchNumber g e x
 
-    out : known (h .entered) e ≡ false → not (tolerable (g .tolerance)) ≡ true
-    out f = ap (λ (t : Tolerance). not (tolerable t)) by ∙ tolerance-out h e f
+    out : known (h .entered) k ≡ false → not (tolerable (g .tolerance)) ≡ true
+    out f = ap (λ (t : Tolerance). not (tolerable t)) by ∙ tolerance-out h k f
 
-    of-number : u ≡ unknownFault (h .entered) e number
-    of-number = told ∙ ap (λ (n : ℕ). unknownFault (h .entered) e n) (answer-number stitchRefused (λ (y : StitchAnswer). y .refusal) number _ a (λ k. refl) refl (given .answers))
+    of-number : u ≡ unknownFault (h .entered) k number
+    of-number = told ∙ ap (λ (n : ℕ). unknownFault (h .entered) k n) (answer-number stitchRefused (λ (y : StitchAnswer). y .refusal) number _ a (λ n. refl) refl (given .answers))
 
-    by-16 : (r : StitchAnswer) → u ≡ true → r ≡ stitchRefused 16 → NamedStitch h e g x r left
+    by-16 : (r : StitchAnswer) → u ≡ true → r ≡ stitchRefused 16 → NamedStitch h k g e x r left
     unfolding stitchRefusal namedStitchRefusal
     by-16 r q w =
-        let n = is-16 h e sized _ (earlyPart g) _ tt out number refl u of-number q in
-        let four = was-4 (h .entered) e number u of-number q in
+        let n = is-16 h k sized _ (earlyPart g e) _ tt out number refl u of-number q in
+        let four = was-4 (h .entered) k number u of-number q in
         record {
           answers = answer-no stitchRefused 16 _ _ r n (λ z. omega arith) w;
           room = answer-still (x .room) _ (left .room) number _ four n (given .room);
@@ -66,10 +67,10 @@ module _ (h : Held) (e : ℕ) (g : Given) (x : Lists) where
           chainHow = answer-still (x .chainHow) _ (left .chainHow) number _ four n (given .chainHow);
         }
 
-    by-same : (r : StitchAnswer) → u ≡ false → r ≡ a → NamedStitch h e g x r left
+    by-same : (r : StitchAnswer) → u ≡ false → r ≡ a → NamedStitch h k g e x r left
     unfolding stitchRefusal namedStitchRefusal
     by-same r q w =
-        let n = is-same h e sized _ (earlyPart g) _ tt out number refl u of-number q in
+        let n = is-same h k sized _ (earlyPart g e) _ tt out number refl u of-number q in
         record {
           answers = answer-same stitchRefused number _ _ r n (w ∙ given .answers);
           room = answer-same (λ _. x .room) number _ _ (left .room) n (given .room);
@@ -80,19 +81,19 @@ module _ (h : Held) (e : ℕ) (g : Given) (x : Lists) where
         }
 
 -- the same of the parameters of a function
-module _ (h : Held) (e : ℕ) (o1 o2 : List Float) (at : List ℕ) (numbers : List Float) (vc1 vc2 slices : ℕ) (starts : Starts) (selector : ℕ) (x : Lists) where
+module _ (h : Held) (k : ℕ) (o1 o2 : List Float) (at : List ℕ) (numbers : List Float) (vc1 vc2 slices : ℕ) (starts : Starts) (selector : ℕ) (e : Editions) (x : Lists) where
   abbrev with : Tolerance → Given
   with t = given o1 o2 at numbers (planOf vc1 vc2 slices starts selector t)
 
-  module _ (b : Bool) (s : Setting) (a : StitchAnswer) (left : Lists) (u : Bool) (r : StitchAnswer) (is : b ≡ lengthsFault h) (good : b ≡ false) (asked : s ≡ askedOf h e)
-      (base : StitchLeft (with (toleranceOf (s .«tolerance_x») (s .«tolerance_y»))) x a left) (told : u ≡ unknownFault (h .entered) e (a .refusal)) where
-    base' : StitchLeft (with (toleranceIn h e)) x a left
-    base' = subst (λ (t : Setting). StitchLeft (with (toleranceOf (t .«tolerance_x») (t .«tolerance_y»))) x a left) asked base
+  module _ (b : Bool) (s : Setting) (a : StitchAnswer) (left : Lists) (u : Bool) (r : StitchAnswer) (is : b ≡ lengthsFault h) (good : b ≡ false) (asked : s ≡ askedOf h k)
+      (base : StitchLeft (with (toleranceOf (s .«tolerance_x») (s .«tolerance_y»))) e x a left) (told : u ≡ unknownFault (h .entered) k (a .refusal)) where
+    base' : StitchLeft (with (toleranceIn h k)) e x a left
+    base' = subst (λ (t : Setting). StitchLeft (with (toleranceOf (t .«tolerance_x») (t .«tolerance_y»))) e x a left) asked base
 
-    pub stitch-unknown : u ≡ true → r ≡ stitchRefused 16 → NamedStitch h e (with (toleranceIn h e)) x r left
-    stitch-unknown q w = by-16 h e (with (toleranceIn h e)) x refl (sym is ∙ good) a left base' u told r q w
+    pub stitch-unknown : u ≡ true → r ≡ stitchRefused 16 → NamedStitch h k (with (toleranceIn h k)) e x r left
+    stitch-unknown q w = by-16 h k (with (toleranceIn h k)) e x refl (sym is ∙ good) a left base' u told r q w
 
-    pub stitch-named : u ≡ false → r ≡ a → NamedStitch h e (with (toleranceIn h e)) x r left
-    stitch-named q w = by-same h e (with (toleranceIn h e)) x refl (sym is ∙ good) a left base' u told r q w
+    pub stitch-named : u ≡ false → r ≡ a → NamedStitch h k (with (toleranceIn h k)) e x r left
+    stitch-named q w = by-same h k (with (toleranceIn h k)) e x refl (sym is ∙ good) a left base' u told r q w
 
 pub ruleset ways = (stitch-length, stitch-unknown, stitch-named)

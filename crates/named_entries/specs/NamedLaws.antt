@@ -3,6 +3,7 @@ use Prim.Native.Nat.{ℕ, zero, suc, _<_}
 use mathlib.Core.Bool.{Bool, true, false, not, cond, _&&_}
 use mathlib.Core.Path.{_≡_, refl, sym, ap, _∙_}
 use mathlib.Core.List.{List, [], _∷_, _++_}
+use mathlib.Core.Logic.{_⊎_, inl, inr}
 use native.Mathlib.Omega.{arith}
 use lib.Dec.{T, eqb, ltb}
 use borrow.Author.Tests.{ltb-true, eqb-true, ne-eqb}
@@ -75,6 +76,13 @@ was-4 entered e n u told q = eqb-true n 4 (and-left (eqb n 4) (not (known entere
 pub is-1 : (h : Held) (e : ℕ) (front back : List Row) → lengthsFault h ≡ true → 1 ≡ firstOf (namedRows h e front back)
 unfolding firstOf
 is-1 h e front back f = rw f
+
+-- where the setting is unknown, the number is 16 or one before it
+pub unknown-number : (front back : List Row) → T (early front) → (firstOf (front ++ (row true 16 ∷ back)) ≡ 16) ⊎ (firstOf (front ++ (row true 16 ∷ back)) < 4)
+unfolding firstOf
+unknown-number [] back own = inl refl
+unknown-number (row true n ∷ front) back own = inr (ltb-true n 4 (true-of (ltb n 4) (T-right (ltb 0 n) (ltb n 4) (T-left (ltb 0 n && ltb n 4) (early front) own))))
+unknown-number (row false n ∷ front) back own = unknown-number front back (T-right (ltb 0 n && ltb n 4) (early front) own)
 
 -- ---- the answer and the lent memory, by the one number or the other
 

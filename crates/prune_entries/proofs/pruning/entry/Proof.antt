@@ -16,8 +16,8 @@ returns c = search (needs, pruning)
 need-of-requires : tie.Need-need-of-requires
 need-of-requires c κs = input-few _ _ (c .before .input-refusal .ensures) (c .if1 .left)
 
-room-refusal-requires : tie.Need-room-refusal-requires
-room-refusal-requires c κs = search (needs, pruning)
+lent-refusal-requires : tie.Need-lent-refusal-requires
+lent-refusal-requires c κs = search (needs, pruning)
 
 prune-refused-requires-2 : tie.Need-prune-refused-requires-2
 prune-refused-requires-2 c κs = search needs
@@ -32,7 +32,7 @@ write-both-requires c κs =
     let need = lent .before in
     let first = need .before in
     let input = first .before in
-    fit-both _ _ _ _ _ (accepted-ready _ _ _ _ _ (input .input-refusal .ensures) (first .if1 .left) (need .need-of .ensures) (lent .room-refusal .ensures) (second .if2 .left))
+    fit-both _ _ _ _ _ (accepted-ready _ _ _ _ _ (input .input-refusal .ensures) (first .if1 .left) (need .need-of .ensures) (lent .lent-refusal .ensures) (second .if2 .left))
 
 finish-requires : tie.Need-finish-requires
 finish-requires c κs =
@@ -43,7 +43,7 @@ finish-requires c κs =
     let need = lent .before in
     let first = need .before in
     let input = first .before in
-    fit-finish _ _ _ _ _ _ _ (accepted-ready _ _ _ _ _ (input .input-refusal .ensures) (first .if1 .left) (need .need-of .ensures) (lent .room-refusal .ensures) (second .if2 .left)) (kept .write-both .ensures)
+    fit-finish _ _ _ _ _ _ _ (accepted-ready _ _ _ _ _ (input .input-refusal .ensures) (first .if1 .left) (need .need-of .ensures) (lent .lent-refusal .ensures) (second .if2 .left)) (kept .write-both .ensures)
 
 prune-given-requires : tie.Need-prune-given-requires
 prune-given-requires c κs = search needs
@@ -53,6 +53,9 @@ same-length c = search needs
 
 same-length-2 : tie.Need-same-length-2
 same-length-2 c = search needs
+
+same-length-3 : tie.Need-same-length-3
+same-length-3 c = search needs
 
 returns-3 : tie.Need-returns-3
 returns-3 c =
@@ -65,7 +68,7 @@ returns-3 c =
     let need = lent .before in
     let first = need .before in
     let input = first .before in
-    accepted-given _ _ _ _ _ (input .input-refusal .ensures) (first .if1 .left) (need .need-of .ensures) (lent .room-refusal .ensures) _ _ _ (second .if2 .left)
+    accepted-given _ _ _ _ _ (input .input-refusal .ensures) (first .if1 .left) (need .need-of .ensures) (lent .lent-refusal .ensures) _ _ _ (second .if2 .left)
     (written-of _ _ _ _ _ _ _ _ _ (kept .write-both .ensures) (done .finish .ensures)) (c .prune-given .ensures)
 
 pub entry-spec : {M : Type 1} → statement M
@@ -76,7 +79,7 @@ entry-spec =
     prune-refused-requires
     returns
     need-of-requires
-    room-refusal-requires
+    lent-refusal-requires
     prune-refused-requires-2
     returns-2
     write-both-requires
@@ -84,4 +87,5 @@ entry-spec =
     prune-given-requires
     same-length
     same-length-2
+    same-length-3
     returns-3)
