@@ -2,7 +2,8 @@
 //! parameters of each function, the number of each code. No compiler compares the two.
 
 use super::{
-    AreaAnswer, CountAnswer, EditionAnswer, PruneAnswer, ReportAnswer, SettingAnswer, StitchAnswer,
+    AreaAnswer, CountAnswer, EditionAnswer, PruneAnswer, ReopenAnswer, ReportAnswer, SettingAnswer,
+    StitchAnswer, UnmovedAnswer,
     VerdictAnswer, VertexAnswer, View, ViewAnswer, WindingAnswer,
 };
 use crate::cuts::MOST_CUTS;
@@ -137,6 +138,15 @@ fn structs_lie_as_in_the_header() {
                 updated_bulge, expected),
         ),
         (
+            "mask_reopen_answer",
+            layout_here!(ReopenAnswer: refusal, verdict, offset, source_length, point, vertex,
+                updated_bulge, expected, edition),
+        ),
+        (
+            "mask_unmoved_answer",
+            layout_here!(UnmovedAnswer: refusal, unmoved, first),
+        ),
+        (
             "mask_count_answer",
             layout_here!(CountAnswer: refusal, count),
         ),
@@ -179,6 +189,8 @@ fn sizes_that_were_reckoned_by_hand() {
     assert_eq!(size_of::<Vertex>(), 24);
     assert_eq!(size_of::<View>(), 72);
     assert_eq!(size_of::<VerdictAnswer>(), 80);
+    assert_eq!(size_of::<ReopenAnswer>(), 88);
+    assert_eq!(size_of::<UnmovedAnswer>(), 16);
     assert_eq!(size_of::<PruneAnswer>(), 40);
     assert_eq!(size_of::<AreaAnswer>(), 24);
 }
@@ -300,6 +312,7 @@ fn assert_codes(name: &str, prefix: &str, here: impl IntoIterator<Item = (String
 #[test]
 fn codes_are_those_of_the_header() {
     let refusals = (1..=9)
+        .chain([14])
         .chain(16..=19)
         .map(|n| (header_name(Refusal::from_number(n).unwrap()), n));
     assert_codes("mask_refusal", "MASK_REFUSED_", refusals);
