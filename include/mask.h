@@ -437,14 +437,17 @@ typedef struct mask_stitch_answer {
 /*
  * The loops that the slices make. `edition1` and `edition2` are those of the outlines;
  * each slice must have its outline's (14). The three starts are those of `mask_starts`;
- * `selector` is one of `mask_selector`. Written:
+ * `selector` is one of `mask_selector`. The tolerances are those of the edition `setting`
+ * of the record `entered`, `settings` (settings by edition, below); number 4 looks at these
+ * two and at no other number of the record. Written:
  *   room        3 to a vertex: x, y, bulge; loop after loop. Its need is 3 numbers for
  *               each of 1 + the sum of (offset + 1) vertices; 0 where there are no slices
  *   ends        1 to a loop: how many vertices all loops up to and with it have
  *   chain       1 to a slice: its number; chain after chain
  *   chain_ends  1 to a chain: how many slices all chains up to and with it have
  *   chain_how   1 to a chain: how it ended, of `mask_chain_end`
- * The need of each of the last four is one entry per slice. Refusals 1 to 8, 14, 9.
+ * The need of each of the last four is one entry per slice. Refusals 1 to 8, 14,
+ * 9, and 16 before 4.
  */
 mask_stitch_answer mask_stitch(const double *outline1, size_t outline1_len, size_t vc1,
                                uint32_t edition1, const double *outline2, size_t outline2_len,
@@ -452,18 +455,23 @@ mask_stitch_answer mask_stitch(const double *outline1, size_t outline1_len, size
                                size_t slice_at_len, const double *slice, size_t slice_len,
                                const uint32_t *slice_edition, size_t slice_edition_len,
                                size_t slices, size_t pline2, size_t pline1_overlapping,
-                               size_t pline2_overlapping, uint32_t selector, double tolerance_x,
-                               double tolerance_y, double *room, size_t room_len, size_t *ends,
-                               size_t ends_len, size_t *chain, size_t chain_len,
+                               size_t pline2_overlapping, uint32_t selector,
+                               const size_t *entered, size_t entered_len, const double *settings,
+                               size_t settings_len, size_t setting, double *room, size_t room_len,
+                               size_t *ends, size_t ends_len, size_t *chain, size_t chain_len,
                                size_t *chain_ends, size_t chain_ends_len, size_t *chain_how,
                                size_t chain_how_len);
 
 /*
- * The loops whose area, whatever its sign, is not less than `limit`, by number, in
- * order. `areas` has one signed area per loop, of at most 1792. `count` is how many are
- * kept; the need of `kept` is one entry per loop. Refusals 1, 4, 5, 9.
+ * The loops whose area, whatever its sign, is not less than the limit, by number, in
+ * order. The limit is that of the edition `setting` of the record `entered`, `settings`;
+ * number 4 looks at it alone. `areas` has one signed area per loop, of at most 1792.
+ * `count` is how many are kept; the need of `kept` is one entry per loop. Refusals 1, 16,
+ * 4, 5, 9.
  */
-mask_count_answer mask_area_pass(const double *areas, size_t areas_len, size_t loops, double limit,
+mask_count_answer mask_area_pass(const double *areas, size_t areas_len, size_t loops,
+                                 const size_t *entered, size_t entered_len,
+                                 const double *settings, size_t settings_len, size_t setting,
                                  size_t *kept, size_t kept_len);
 
 /*
@@ -473,7 +481,8 @@ mask_count_answer mask_area_pass(const double *areas, size_t areas_len, size_t l
  *   entered   1: how many settings there are; a number above 16 reads as 16
  *   settings  48: of each setting the tolerance of x, the tolerance of y, the area limit
  * Other lengths are refused with 1. Zeros are the empty record, and every content is some
- * record. Editions count from 1. Numbers 16 and 17 are looked at before 4.
+ * record. Editions count from 1. Numbers 16 and 17 are looked at before 4. A stitch and an
+ * area pass name an edition; they only read the record.
  */
 
 typedef struct mask_edition_answer {

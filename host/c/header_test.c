@@ -91,6 +91,9 @@ static void make_inputs(void)
     }
     for (size_t i = 0; i < OUTLINES; i++)
         many_ends[i] = 2 * (i + 1);
+    entered[0] = 1;
+    settings[0] = settings[1] = 1;
+    settings[2] = 2;
 }
 
 /* ---- A call of each entry, accepted ---- */
@@ -170,12 +173,16 @@ static void prune(void)
 static void stitch(void)
 {
     refusal = mask_stitch(ALL(outline), VC, 0, ALL(outline), VC, 0, ALL(slice_at), ALL(slice),
-                          ALL(slice_edition), SLICES, 0, SLICES, SLICES, MASK_SELECTOR_OR_AND, 1,
-                          1, ALL(room), ALL(ends), ALL(chain), ALL(chain_ends), ALL(chain_how))
+                          ALL(slice_edition), SLICES, 0, SLICES, SLICES, MASK_SELECTOR_OR_AND,
+                          ALL(entered), ALL(settings), 1, ALL(room), ALL(ends), ALL(chain),
+                          ALL(chain_ends), ALL(chain_how))
                   .refusal;
 }
 
-static void area_pass(void) { refusal = mask_area_pass(ALL(areas), SLICES, 2, ALL(kept)).refusal; }
+static void area_pass(void)
+{
+    refusal = mask_area_pass(ALL(areas), SLICES, ALL(entered), ALL(settings), 1, ALL(kept)).refusal;
+}
 
 static void settings_enter(void)
 {
