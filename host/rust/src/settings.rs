@@ -1,17 +1,31 @@
 //! Settings by edition: one record of up to 16, which is extended and never overwritten.
 
-use crate::{ffi, Refusal};
+use crate::{ffi, Refusal, Tolerance};
 
 /// A setting: both tolerances, each above 0 and at most 1, and an area limit, from 0 to any finite
 /// number.
 #[derive(Debug, Clone, Copy, PartialEq)]
 pub struct Setting {
-    /// The tolerance of x.
-    pub tolerance_x: f64,
-    /// The tolerance of y.
-    pub tolerance_y: f64,
-    /// Loops below this area are dropped.
+    /// How near two points lie that count as one, on each axis.
+    pub tolerance: Tolerance,
+    /// Loops whose area is less than this, in magnitude, are dropped. 0 keeps all.
     pub area_limit: f64,
+}
+
+/// A setting that a stitch or an area pass names: an edition of a record.
+#[derive(Debug, Clone, Copy, PartialEq)]
+pub struct Named<'a> {
+    /// The record.
+    pub settings: &'a Settings,
+    /// The edition. The call that names it asks whether it is known.
+    pub edition: usize,
+}
+
+impl Named<'_> {
+    /// The setting: [`Settings::ask`].
+    pub fn ask(self) -> Result<Setting, Refusal> {
+        self.settings.ask(self.edition)
+    }
 }
 
 /// The most settings of a record.
@@ -24,18 +38,20 @@ const NUMBERS: usize = 3 * MOST;
 /// edition gives exactly what was entered under it. No call takes a setting away or changes it.
 ///
 /// ```
-/// use mask_tools::{Refusal, Setting, Settings};
+/// use mask_tools::{area_pass, Refusal, Setting, Settings, Tolerance};
 ///
 /// # fn main() -> Result<(), Refusal> {
 /// let mut settings = Settings::new();
 /// let fine = Setting {
-///     tolerance_x: 1.0 / 1024.0,
-///     tolerance_y: 1.0 / 2048.0,
+///     tolerance: Tolerance { x: 1.0 / 1024.0, y: 1.0 / 2048.0 },
 ///     area_limit: 0.5,
 /// };
 /// assert_eq!(settings.enter(fine)?, 1);
 /// assert_eq!(settings.ask(1)?, fine);
 /// assert_eq!(settings.ask(2), Err(Refusal::UnknownSetting));
+///
+/// // A stitch and an area pass name the edition that they use.
+/// assert_eq!(area_pass(&[2.0, 0.25, -0.5], settings.named(1))?, [0, 2]);
 ///
 /// // A host keeps the record in its own files. Every 392 bytes are some record.
 /// let kept = settings.to_bytes();
@@ -43,7 +59,7 @@ const NUMBERS: usize = 3 * MOST;
 /// # Ok(())
 /// # }
 /// ```
-#[derive(Debug, Clone)]
+#[derive(Debug, Clone, PartialEq)]
 pub struct Settings {
     entered: [usize; 1],
     numbers: [f64; NUMBERS],
@@ -71,8 +87,8 @@ impl Settings {
         let answer = ffi::settings_enter(
             &mut self.entered,
             &mut self.numbers,
-            setting.tolerance_x,
-            setting.tolerance_y,
+            setting.tolerance.x,
+            setting.tolerance.y,
             setting.area_limit,
         );
         Refusal::check(answer.refusal, answer.edition)
@@ -86,11 +102,26 @@ impl Settings {
     pub fn ask(&self, edition: usize) -> Result<Setting, Refusal> {
         let answer = ffi::settings_ask(&self.entered, &self.numbers, edition);
         let setting = Setting {
-            tolerance_x: answer.tolerance_x,
-            tolerance_y: answer.tolerance_y,
+            tolerance: Tolerance {
+                x: answer.tolerance_x,
+                y: answer.tolerance_y,
+            },
             area_limit: answer.area_limit,
         };
         Refusal::check(answer.refusal, setting)
+    }
+
+    /// An edition, to be named by a call. Whether it is known the call says.
+    pub fn named(&self, edition: usize) -> Named<'_> {
+        Named {
+            settings: self,
+            edition,
+        }
+    }
+
+    /// The two lists that a call is lent.
+    pub(crate) fn lists(&self) -> (&[usize], &[f64]) {
+        (&self.entered, &self.numbers)
     }
 
     /// How many settings there are: the last edition.
@@ -145,8 +176,7 @@ mod tests {
     use crate::ffi::{EditionAnswer, SettingAnswer};
 
     const FINE: Setting = Setting {
-        tolerance_x: 0.25,
-        tolerance_y: 0.125,
+        tolerance: Tolerance { x: 0.25, y: 0.125 },
         area_limit: 3.0,
     };
 

@@ -402,8 +402,11 @@ mod entries {
             pline1_overlapping: usize,
             pline2_overlapping: usize,
             selector: u32,
-            tolerance_x: f64,
-            tolerance_y: f64,
+            entered: *const usize,
+            entered_len: usize,
+            settings: *const f64,
+            settings_len: usize,
+            setting: usize,
             room: *mut f64,
             room_len: usize,
             ends: *mut usize,
@@ -420,7 +423,11 @@ mod entries {
             areas: *const f64,
             areas_len: usize,
             loops: usize,
-            limit: f64,
+            entered: *const usize,
+            entered_len: usize,
+            settings: *const f64,
+            settings_len: usize,
+            setting: usize,
             kept: *mut usize,
             kept_len: usize,
         ) -> CountAnswer;
@@ -812,8 +819,9 @@ mod entries {
         pline1_overlapping: usize,
         pline2_overlapping: usize,
         selector: u32,
-        tolerance_x: f64,
-        tolerance_y: f64,
+        entered: &[usize],
+        settings: &[f64],
+        setting: usize,
         room: &mut [f64],
         ends: &mut [usize],
         chain: &mut [usize],
@@ -843,8 +851,11 @@ mod entries {
                 pline1_overlapping,
                 pline2_overlapping,
                 selector,
-                tolerance_x,
-                tolerance_y,
+                entered.as_ptr(),
+                entered.len(),
+                settings.as_ptr(),
+                settings.len(),
+                setting,
                 room.as_mut_ptr(),
                 room.len(),
                 ends.as_mut_ptr(),
@@ -860,7 +871,14 @@ mod entries {
     }
 
     #[inline]
-    pub fn area_pass(areas: &[f64], loops: usize, limit: f64, kept: &mut [usize]) -> CountAnswer {
+    pub fn area_pass(
+        areas: &[f64],
+        loops: usize,
+        entered: &[usize],
+        settings: &[f64],
+        setting: usize,
+        kept: &mut [usize],
+    ) -> CountAnswer {
         // SAFETY: each pointer and length are those of one slice; the one that is written is
         // `&mut`, so nothing shares it.
         unsafe {
@@ -868,7 +886,11 @@ mod entries {
                 areas.as_ptr(),
                 areas.len(),
                 loops,
-                limit,
+                entered.as_ptr(),
+                entered.len(),
+                settings.as_ptr(),
+                settings.len(),
+                setting,
                 kept.as_mut_ptr(),
                 kept.len(),
             )
@@ -900,6 +922,7 @@ mod entries {
             )
         }
     }
+
     #[inline]
     pub fn settings_enter(
         entered: &mut [usize],

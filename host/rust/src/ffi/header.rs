@@ -3,8 +3,7 @@
 
 use super::{
     AreaAnswer, CountAnswer, EditionAnswer, PruneAnswer, ReopenAnswer, ReportAnswer, SettingAnswer,
-    StitchAnswer, UnmovedAnswer,
-    VerdictAnswer, VertexAnswer, View, ViewAnswer, WindingAnswer,
+    StitchAnswer, UnmovedAnswer, VerdictAnswer, VertexAnswer, View, ViewAnswer, WindingAnswer,
 };
 use crate::cuts::MOST_CUTS;
 use crate::slices::MOST_SLICES;
