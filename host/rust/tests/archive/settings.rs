@@ -1,12 +1,15 @@
 //! The record of settings: the archive beside a plain list that only grows.
 
 use crate::shapes::Draw;
-use mask_tools::{Refusal, Setting, Settings};
+use crate::shapes::{a, b};
+use mask_tools::{area_pass, stitch, Refusal, Selector, Setting, Settings, Slices, Tolerance};
 
 fn setting(i: usize) -> Setting {
     Setting {
-        tolerance_x: 1.0 / (i + 1) as f64,
-        tolerance_y: 1.0 / (2 * i + 3) as f64,
+        tolerance: Tolerance {
+            x: 1.0 / (i + 1) as f64,
+            y: 1.0 / (2 * i + 3) as f64,
+        },
         area_limit: i as f64 / 4.0,
     }
 }
@@ -22,7 +25,7 @@ fn sixteen_and_no_more() {
     let kept = settings.to_bytes();
     assert_eq!(settings.enter(setting(16)), Err(Refusal::SettingsFull));
     let bad = Setting {
-        tolerance_x: f64::NAN,
+        tolerance: Tolerance::new(f64::NAN),
         ..setting(0)
     };
     assert_eq!(settings.enter(bad), Err(Refusal::SettingsFull));
@@ -40,8 +43,7 @@ fn what_is_out_of_range_changes_nothing() {
     let bad = |x, y, limit| {
         let mut settings = Settings::new();
         let answer = settings.enter(Setting {
-            tolerance_x: x,
-            tolerance_y: y,
+            tolerance: Tolerance { x, y },
             area_limit: limit,
         });
         assert_eq!(settings.is_empty(), answer.is_err());
@@ -92,5 +94,28 @@ fn drawn_histories_as_a_plain_list() {
             }
             assert_eq!(settings.len(), plain.len());
         }
+    }
+}
+
+/// Calls that name an edition answer as they did when the record was entered, and a kept record
+/// serves as the one that was kept.
+#[test]
+fn a_call_names_an_edition() {
+    let mut settings = Settings::new();
+    let areas = [0.0f64, 0.25, -0.5, 2.0];
+    for i in 0..16 {
+        let edition = settings.enter(setting(i)).unwrap();
+        for named in 1..=edition {
+            let limit = (named - 1) as f64 / 4.0;
+            let kept: Vec<usize> = (0..4).filter(|k| areas[*k].abs() >= limit).collect();
+            assert_eq!(area_pass(&areas, settings.named(named)), Ok(kept));
+            let none = Slices::default();
+            let found = stitch(&a(), &b(), &none, Selector::OrAnd, settings.named(named));
+            assert!(found.is_ok());
+        }
+        let next = settings.named(edition + 1);
+        assert_eq!(area_pass(&areas, next), Err(Refusal::UnknownSetting));
+        settings = Settings::from_bytes(&settings.to_bytes());
+        assert_eq!(settings.named(edition).ask(), Ok(setting(i)));
     }
 }
