@@ -17,7 +17,8 @@ use Rattle.view_entries.specs.ViewVertices.{viewVerticesRows, viewVerticesRefus
 use Rattle.view_entries.specs.CreateEntry.{createRows, createRefusal}
 use Rattle.view_entries.specs.SingleEntry.{singleRows, singleRefusal}
 use Rattle.view_entries.specs.EntireEntry.{entireRows, entireRefusal}
-use Rattle.verdict_entries.specs.ValidateEntry.{validateRows, validateRefusal}
+use Rattle.verdict_entries.specs.ValidateEntry.{askRows, askRefusal, validateRows, validateRefusal}
+use Rattle.unmoved_entries.specs.UnmovedEntry.{unmovedRows, unmovedRefusal}
 use Rattle.cut.specs.Cuts as cuts
 use Rattle.cut_entries.specs.CutRows.{listRows, valueRows, indexRows}
 use Rattle.cut_entries.specs.CutOrder.{cutInputRows, cutOrderRows, cutOrderRefusal}
@@ -57,9 +58,18 @@ pub entire-first : (o : List Float) (vc closed : ℕ) → First (entireRows o vc
 unfolding entireRefusal before refusalOrder
 entire-first o vc closed = first-of (entireRows o vc closed) tt
 
-pub validate-first : (o : List Float) (vc : ℕ) (v : View) (startOn endOn : ℕ) → First (validateRows o vc v startOn endOn) (validateRefusal o vc v startOn endOn)
+pub validate-first : (o : List Float) (vc edition : ℕ) (v : View) (viewEdition startOn endOn : ℕ)
+    → First (validateRows o vc edition v viewEdition startOn endOn) (validateRefusal o vc edition v viewEdition startOn endOn)
 unfolding validateRefusal before refusalOrder
-validate-first o vc v startOn endOn = first-of (validateRows o vc v startOn endOn) tt
+validate-first o vc edition v viewEdition startOn endOn = first-of (validateRows o vc edition v viewEdition startOn endOn) tt
+
+pub reopen-first : (o : List Float) (vc : ℕ) (v : View) (startOn endOn : ℕ) → First (askRows o vc v startOn endOn) (askRefusal o vc v startOn endOn)
+unfolding askRefusal before refusalOrder
+reopen-first o vc v startOn endOn = first-of (askRows o vc v startOn endOn) tt
+
+pub unmoved-first : (o1 : List Float) (vc1 : ℕ) (o2 : List Float) (vc2 : ℕ) (v : View) → First (unmovedRows o1 vc1 o2 vc2 v) (unmovedRefusal o1 vc1 o2 vc2 v)
+unfolding unmovedRefusal before refusalOrder
+unmoved-first o1 vc1 o2 vc2 v = first-of (unmovedRows o1 vc1 o2 vc2 v) tt
 
 pub order-first : (g : cuts.Given) (numbers points : ℕ) → First (cutOrderRows g numbers points) (cutOrderRefusal g numbers points)
 unfolding cutOrderRefusal cutInputRows listRows valueRows indexRows before refusalOrder

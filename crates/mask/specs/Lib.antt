@@ -5,3 +5,4 @@ pub mod OneAnswer
 pub mod First
 pub mod NoGuards
 pub mod OneTolerance
+pub mod Reopened

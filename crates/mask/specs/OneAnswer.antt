@@ -14,12 +14,16 @@ use Rattle.view_entries.specs.declared.input.Split.{Split}
 use Rattle.view_entries.specs.declared.answer.VertexAnswer.{VertexAnswer}
 use Rattle.view_entries.specs.declared.answer.ViewAnswer.{ViewAnswer}
 use Rattle.verdict_entries.specs.declared.answer.VerdictAnswer.{VerdictAnswer}
+use Rattle.verdict_entries.specs.declared.answer.ReopenAnswer.{ReopenAnswer}
+use Rattle.unmoved_entries.specs.declared.answer.UnmovedAnswer.{UnmovedAnswer}
 use Rattle.view_entries.specs.ViewVertex.{viewVertexAnswer}
 use Rattle.view_entries.specs.ViewVertices.{VerticesLeft}
 use Rattle.view_entries.specs.CreateEntry.{createAnswer}
 use Rattle.view_entries.specs.SingleEntry.{singleAnswer}
 use Rattle.view_entries.specs.EntireEntry.{entireAnswer}
 use Rattle.verdict_entries.specs.ValidateEntry.{validateAnswer}
+use Rattle.verdict_entries.specs.ReopenEntry.{reopenAnswer}
+use Rattle.unmoved_entries.specs.UnmovedEntry.{unmovedAnswer}
 use Rattle.cut.specs.Cuts as cuts
 use Rattle.basis.specs.declared.answer.CountAnswer.{CountAnswer}
 use Rattle.cut_entries.specs.CutOrder.{CutOrdered}
@@ -62,8 +66,16 @@ single-one o vc start first end t r s e f = one-answer r s (singleAnswer o vc st
 pub entire-one : (o : List Float) (vc closed : ℕ) (r s : ViewAnswer) → r ≡ entireAnswer o vc closed → s ≡ entireAnswer o vc closed → r ≡ s
 entire-one o vc closed r s e f = one-answer r s (entireAnswer o vc closed) e f
 
-pub validate-one : (o : List Float) (vc : ℕ) (v : View) (startOn endOn : ℕ) (r s : VerdictAnswer) → r ≡ validateAnswer o vc v startOn endOn → s ≡ validateAnswer o vc v startOn endOn → r ≡ s
-validate-one o vc v startOn endOn r s e f = one-answer r s (validateAnswer o vc v startOn endOn) e f
+pub validate-one : (o : List Float) (vc edition : ℕ) (v : View) (viewEdition startOn endOn : ℕ) (r s : VerdictAnswer)
+    → r ≡ validateAnswer o vc edition v viewEdition startOn endOn → s ≡ validateAnswer o vc edition v viewEdition startOn endOn → r ≡ s
+validate-one o vc edition v viewEdition startOn endOn r s e f = one-answer r s (validateAnswer o vc edition v viewEdition startOn endOn) e f
+
+pub reopen-one : (o : List Float) (vc edition : ℕ) (v : View) (viewEdition startOn endOn : ℕ) (r s : ReopenAnswer)
+    → r ≡ reopenAnswer o vc edition v viewEdition startOn endOn → s ≡ reopenAnswer o vc edition v viewEdition startOn endOn → r ≡ s
+reopen-one o vc edition v viewEdition startOn endOn r s e f = one-answer r s (reopenAnswer o vc edition v viewEdition startOn endOn) e f
+
+pub unmoved-one : (o1 : List Float) (vc1 : ℕ) (o2 : List Float) (vc2 : ℕ) (v : View) (r s : UnmovedAnswer) → r ≡ unmovedAnswer o1 vc1 o2 vc2 v → s ≡ unmovedAnswer o1 vc1 o2 vc2 v → r ≡ s
+unmoved-one o1 vc1 o2 vc2 v r s e f = one-answer r s (unmovedAnswer o1 vc1 o2 vc2 v) e f
 
 pub order-one : (g : cuts.Given) (cutAt : List ℕ) (cut : List Float) (r s : CountAnswer) (a b : List ℕ) (p q : List Float)
     → CutOrdered g cutAt cut r a p → CutOrdered g cutAt cut s b q → (r ≡ s) × (a ≡ b) × (p ≡ q)

@@ -2,6 +2,7 @@
 pub mod cutting;
 pub mod measuring;
 pub mod pruning;
+pub mod reopening;
 pub mod setting;
 pub mod stitching;
 pub mod viewing;
