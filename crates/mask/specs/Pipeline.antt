@@ -177,9 +177,8 @@ module _ (one : Made 1) (two : Made 2) (same : two .handed .lapAt ≡ one .hande
         -- so a host that goes by the needs never sees a refusal in the middle
         pub never-refuses : (selector : ℕ) (x : Lists) (s : StitchAnswer) (y : Lists) → selector ≤ 1 → Long (stitchCall selector) x
             → NamedStitch h k (stitchCall selector) (carried (one .edition) (two .edition)) x s y → (r .refusal ≡ 0) × (s .refusal ≡ 0)
-        never-refuses selector x s y choice long kept =
-            (
-              pruned,
-              ap (λ (a : StitchAnswer). a .refusal)
+        never-refuses selector x s y choice long kept = (
+          pruned,
+          ap (λ (a : StitchAnswer). a .refusal)
               (answer-accepted stitchRefused (namedStitchRefusal h k (stitchCall selector) (carried (one .edition) (two .edition)) (lengthsOf x)) _ s (kept .answers) (stitch-accepts selector x choice long)),
-            )
+        )
