@@ -2,7 +2,7 @@
 use Prim.Native.Nat.{ℕ, _*_, _≤_, _<_}
 use mathlib.Core.Bool.{Bool, true, false, not, cond, true≢false}
 use mathlib.Core.Path.{_≡_, refl, sym, ap, subst, _∙_}
-use mathlib.Core.List.{List, [], _∷_, _++_}
+use mathlib.Core.List.{List, [], _∷_}
 use native.Mathlib.Omega.{arith}
 use lib.Dec.{eqb}
 use lib.ListN.{length}
@@ -15,8 +15,10 @@ use Rattle.slice.specs.Faults.{startInside, offsetInside}
 use Rattle.slice.specs.SliceLaws.{at-slice}
 use Rattle.stitch_run.specs.Stitch.{Given}
 use Rattle.stitch_entries.specs.declared.faults.Lengths.{Lengths}
-use Rattle.stitch_entries.specs.StitchEntry.{shapeRows, roomPart, stitchRefusal}
 use Rattle.view.specs.View.{Fit}
+use Rattle.slice.specs.Editions.{Editions}
+use Rattle.settings.specs.Settings.{Held}
+use Rattle.named_entries.specs.NamedStitch.{namedStitchRows, namedStitchRefusal}
 use Rattle.view_entries.specs.declared.input.View.{View}
 use Rattle.view_entries.specs.Inputs.{viewData}
 use Rattle.verdict_entries.specs.declared.answer.ReopenAnswer.{ReopenAnswer}
@@ -80,21 +82,21 @@ module _ (g : Given) (i : ℕ) (re : Reopened g i) where
   reopened-offset = le-leb (codesAt (g .sliceAt) i .offset) (countFor (g .vc1) (g .vc2) source) (subst (λ (n : ℕ). n ≤ countFor (g .vc1) (g .vc2) source) (sym (re .offset)) (fit .reaches))
 
   -- so where the other slices are inside their outlines, the stitch is not refused with 6 or 7
-  module _ (l : Lengths) (whole : length (g .sliceAt) ≡ codeWidth * g .slices) where
+  module _ (h : Held) (setting : ℕ) (e : Editions) (l : Lengths) (whole : length (g .sliceAt) ≡ codeWidth * g .slices) where
     abbrev Others : (ℕ → Bool) → Type 0
     Others q = (j : ℕ) → j < g .slices → (j ≡ i → ⊥) → q j ≡ true
 
     with-others : (q : ℕ → Bool) → q i ≡ true → Others q → (j : ℕ) → j < g .slices → q j ≡ true
     with-others q mine others j h = by-test (eqb j i) (λ t. ap q (eqb-true j i t) ∙ mine) (λ f. others j h (eqb-false j i f))
 
-    pub never-6 : Others (λ j. startInside (g .vc1) (g .vc2) (codesAt (g .sliceAt) j)) → stitchRefusal g l ≡ 6 → ⊥
-    unfolding stitchRefusal
-    never-6 others e =
-        not-given 6 (shapeRows g ++ roomPart g l) (λ z. omega arith)
-        (ap not (at-slice (g .sliceAt) (g .slices) whole (startInside (g .vc1) (g .vc2)) (with-others (λ j. startInside (g .vc1) (g .vc2) (codesAt (g .sliceAt) j)) reopened-start others)), tt) e
+    pub never-6 : Others (λ j. startInside (g .vc1) (g .vc2) (codesAt (g .sliceAt) j)) → namedStitchRefusal h setting g e l ≡ 6 → ⊥
+    unfolding namedStitchRefusal
+    never-6 others q =
+        not-given 6 (namedStitchRows h setting g e l) (λ z. omega arith)
+        (ap not (at-slice (g .sliceAt) (g .slices) whole (startInside (g .vc1) (g .vc2)) (with-others (λ j. startInside (g .vc1) (g .vc2) (codesAt (g .sliceAt) j)) reopened-start others)), tt) q
 
-    pub never-7 : Others (λ j. offsetInside (g .vc1) (g .vc2) (codesAt (g .sliceAt) j)) → stitchRefusal g l ≡ 7 → ⊥
-    unfolding stitchRefusal
-    never-7 others e =
-        not-given 7 (shapeRows g ++ roomPart g l) (λ z. omega arith)
-        (ap not (at-slice (g .sliceAt) (g .slices) whole (offsetInside (g .vc1) (g .vc2)) (with-others (λ j. offsetInside (g .vc1) (g .vc2) (codesAt (g .sliceAt) j)) reopened-offset others)), tt) e
+    pub never-7 : Others (λ j. offsetInside (g .vc1) (g .vc2) (codesAt (g .sliceAt) j)) → namedStitchRefusal h setting g e l ≡ 7 → ⊥
+    unfolding namedStitchRefusal
+    never-7 others q =
+        not-given 7 (namedStitchRows h setting g e l) (λ z. omega arith)
+        (ap not (at-slice (g .sliceAt) (g .slices) whole (offsetInside (g .vc1) (g .vc2)) (with-others (λ j. offsetInside (g .vc1) (g .vc2) (codesAt (g .sliceAt) j)) reopened-offset others)), tt) q
