@@ -27,9 +27,10 @@ use Rattle.stitch.specs.Lent.{Lists, lists}
 use Rattle.stitch_entries.specs.declared.answer.StitchAnswer.{StitchAnswer}
 use Rattle.stitch_entries.specs.Answers.{stitchRefused, stitchGiven}
 use Rattle.slice.specs.Slice.{codesAt}
+use Rattle.slice.specs.Editions.{Editions, editions, editionSame, editionFault, editionListRows}
 use Rattle.slice.specs.Faults.{sourceKnown, startInside, offsetInside, eachSlice}
 use Rattle.stitch_entries.specs.StitchRows.{startsFault}
-use Rattle.stitch_entries.specs.StitchEntry.{listPart, codePart, numberPart, indexPart, shapeRows, roomPart, stitchRefusal, lengthsOf, stitchNumber, StitchLeft}
+use Rattle.stitch_entries.specs.StitchEntry.{listPart, codePart, numberPart, indexPart, shapeRows, inputRows, editionPart, roomPart, stitchRefusal, lengthsOf, stitchNumber, StitchLeft}
 
 -- What a call returned: its loops, which the answer counts, whose vertices and ends are in the lent lists; and behind each of them a chain of the run.
 pub record Returned (excess : ℕ) (g : Given) (r : StitchAnswer) (left : Lists) : Type 0 where
@@ -72,29 +73,31 @@ module _ (g : Given) (doubles : Doubles g) where
 
 -- ---- the theorem
 
-module _ (g : Given) (x : Lists) (r : StitchAnswer) (left : Lists) (doubles : Doubles g) (holds : StitchLeft g x r left) (accepted : r .refusal ≡ 0) where
-  number-zero : stitchNumber g x ≡ 0
-  number-zero = answer-zero stitchRefused (λ a. a .refusal) (stitchNumber g x) _ r (λ k. refl) (holds .answers) accepted
+module _ (g : Given) (e : Editions) (x : Lists) (r : StitchAnswer) (left : Lists) (doubles : Doubles g) (holds : StitchLeft g e x r left) (accepted : r .refusal ≡ 0) where
+  number-zero : stitchNumber g e x ≡ 0
+  number-zero = answer-zero stitchRefused (λ a. a .refusal) (stitchNumber g e x) _ r (λ k. refl) (holds .answers) accepted
 
   stitch-ranged : Ranged 30 g
   unfolding stitchRefusal
   stitch-ranged =
-      let rooms = roomPart g (lengthsOf x) in
-      ranged g doubles (clear-left (shapeRows g) rooms (clear (shapeRows g ++ rooms) tt number-zero))
+      let inputs = inputRows g (length (e .slices)) in
+      let later = editionPart g e ++ roomPart g (lengthsOf x) in
+      ranged g doubles
+      (clear-right (editionListRows (length (e .slices)) (g .slices)) (shapeRows g) (clear-left inputs later (clear (inputs ++ later) tt number-zero)))
 
   returned : (excess : ℕ) → All (Behind g excess) (loopsOf (runOf g)) → Returned excess g r left
   unfolding loopCount roomItems endItems
   returned excess behind =
-      let n : r .loops ≡ length (loopsOf (runOf g)) = ap (λ (a : StitchAnswer). a .loops) (answer-accepted stitchRefused (stitchNumber g x) _ r (holds .answers) number-zero) in
+      let n : r .loops ≡ length (loopsOf (runOf g)) = ap (λ (a : StitchAnswer). a .loops) (answer-accepted stitchRefused (stitchNumber g e x) _ r (holds .answers) number-zero) in
       record {
         loops = loopsOf (runOf g);
         count = n;
         vertices =
             room-front +0 3 (needOf (g .sliceAt) (g .slices)) (roomItems g) (x .room) (left .room) (3 * sumOver length (loopsOf (runOf g)))
-            (answer-accepted (λ _. x .room) (stitchNumber g x) _ (left .room) (holds .room) number-zero) (flat-loops (loopsOf (runOf g)));
+            (answer-accepted (λ _. x .room) (stitchNumber g e x) _ (left .room) (holds .room) number-zero) (flat-loops (loopsOf (runOf g)));
         ends =
             room-front 0 1 (g .slices) (endItems g) (x .ends) (left .ends) (r .loops)
-            (answer-accepted (λ _. x .ends) (stitchNumber g x) _ (left .ends) (holds .ends) number-zero)
+            (answer-accepted (λ _. x .ends) (stitchNumber g e x) _ (left .ends) (holds .ends) number-zero)
             (totals-length 0 (map length (loopsOf (runOf g))) ∙ length-map (loopsOf (runOf g)) length ∙ sym n);
         behind = behind;
       }
@@ -113,30 +116,33 @@ module _ (g : Given) (x : Lists) (r : StitchAnswer) (left : Lists) (doubles : Do
 
 -- ---- no figure is smaller
 
--- the stitch `tight` is accepted, with room for the 4 vertices of its need
+-- the stitch `tight` is accepted, in one edition throughout and with room for the 4 vertices of its need
+abbrev dated : Editions
+dated = editions 0 0 (0 ∷ [])
+
 abbrev lent : Lists
 lent = lists (replicate 12 +0) (0 ∷ []) (0 ∷ []) (0 ∷ []) (0 ∷ [])
 
-pub tight-accepted : stitchNumber tight lent ≡ 0
-unfolding stitchRefusal firstOf lengthFault sizeFault sourceFault eachSlice sourceKnown startInside offsetInside eachTo placesAtMost tolerable tolerableOn allOf within absF ofBits lt le startsFault needOf needFor sumBelow weightAt codesAt
+pub tight-accepted : stitchNumber tight dated lent ≡ 0
+unfolding stitchRefusal firstOf lengthFault sizeFault sourceFault editionFault editionSame eachSlice sourceKnown startInside offsetInside eachTo placesAtMost tolerable tolerableOn allOf within absF ofBits lt le startsFault needOf needFor sumBelow weightAt codesAt
 tight-accepted = refl
 
 -- whatever a call of it answers and leaves: the contract itself, with its right-hand sides
 abbrev given : StitchAnswer
-given = answer stitchRefused (stitchNumber tight lent) (stitchGiven (roundCount tight) (loopCount tight) (chainCount tight))
+given = answer stitchRefused (stitchNumber tight dated lent) (stitchGiven (roundCount tight) (loopCount tight) (chainCount tight))
 
 abbrev after : Lists
 after =
-    lists (answer (λ _. lent .room) (stitchNumber tight lent) (roomOf +0 3 (needOf (tight .sliceAt) (tight .slices)) (roomItems tight) (lent .room)))
-    (answer (λ _. lent .ends) (stitchNumber tight lent) (roomOf 0 1 (tight .slices) (endItems tight) (lent .ends)))
-    (answer (λ _. lent .chain) (stitchNumber tight lent) (roomOf 0 1 (tight .slices) (chainItems tight) (lent .chain)))
-    (answer (λ _. lent .chainEnds) (stitchNumber tight lent) (roomOf 0 1 (tight .slices) (chainEndItems tight) (lent .chainEnds)))
-    (answer (λ _. lent .chainHow) (stitchNumber tight lent) (roomOf 0 1 (tight .slices) (howItems tight) (lent .chainHow)))
+    lists (answer (λ _. lent .room) (stitchNumber tight dated lent) (roomOf +0 3 (needOf (tight .sliceAt) (tight .slices)) (roomItems tight) (lent .room)))
+    (answer (λ _. lent .ends) (stitchNumber tight dated lent) (roomOf 0 1 (tight .slices) (endItems tight) (lent .ends)))
+    (answer (λ _. lent .chain) (stitchNumber tight dated lent) (roomOf 0 1 (tight .slices) (chainItems tight) (lent .chain)))
+    (answer (λ _. lent .chainEnds) (stitchNumber tight dated lent) (roomOf 0 1 (tight .slices) (chainEndItems tight) (lent .chainEnds)))
+    (answer (λ _. lent .chainHow) (stitchNumber tight dated lent) (roomOf 0 1 (tight .slices) (howItems tight) (lent .chainHow)))
 
 -- So no figure below 2^-24 holds of every accepted call.
-pub none-less : (excess : ℕ) → ((g : Given) (x : Lists) (r : StitchAnswer) (left : Lists) → Doubles g → StitchLeft g x r left → r .refusal ≡ 0 → Returned excess g r left) → twoToMinus 24 ≤ excess
+pub none-less : (excess : ℕ) → ((g : Given) (e : Editions) (x : Lists) (r : StitchAnswer) (left : Lists) → Doubles g → StitchLeft g e x r left → r .refusal ≡ 0 → Returned excess g r left) → twoToMinus 24 ≤ excess
 unfolding loopCount
 none-less excess h =
-    let told : given ≡ stitchGiven (roundCount tight) (loopCount tight) (chainCount tight) = answer-accepted stitchRefused (stitchNumber tight lent) _ given refl tight-accepted in
-    let r = h tight lent given after tight-doubles (record { answers = refl; room = refl; ends = refl; chain = refl; chainEnds = refl; chainHow = refl }) (ap (λ (a : StitchAnswer). a .refusal) told) in
+    let told : given ≡ stitchGiven (roundCount tight) (loopCount tight) (chainCount tight) = answer-accepted stitchRefused (stitchNumber tight dated lent) _ given refl tight-accepted in
+    let r = h tight dated lent given after tight-doubles (record { answers = refl; room = refl; ends = refl; chain = refl; chainEnds = refl; chainHow = refl }) (ap (λ (a : StitchAnswer). a .refusal) told) in
     first-least excess (r .loops) (sym (r .count) ∙ ap (λ (a : StitchAnswer). a .loops) told ∙ tight-loops) (r .behind)
