@@ -4,5 +4,5 @@ pub mod LateOutline
 pub mod OneAnswer
 pub mod First
 pub mod NoGuards
-pub mod OneTolerance
 pub mod Reopened
+pub mod OneTolerance
