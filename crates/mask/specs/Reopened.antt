@@ -1,12 +1,11 @@
 -- K3: what a reopened slice is in a stitch. "Only "valid" gives the slice the new edition": from then on it is a slice of the new outline, and no number of the indexes comes of it.
-use Prim.Native.Nat.{ℕ, suc, _*_, _<_}
+use Prim.Native.Nat.{ℕ, _*_, _≤_, _<_}
 use mathlib.Core.Bool.{Bool, true, false, not, cond, true≢false}
 use mathlib.Core.Path.{_≡_, refl, sym, ap, subst, _∙_}
 use mathlib.Core.List.{List, [], _∷_}
 use native.Mathlib.Omega.{arith}
 use lib.Dec.{eqb}
 use lib.ListN.{length}
-use lib.Ieee.{Float}
 use borrow.Author.Tests.{lt-ltb, le-leb, eqb-true, eqb-false}
 use Rattle.basis.specs.Choice.{by-test}
 use Rattle.basis.specs.Refuse.{Row, row, firstOf, bySource, countFor}
@@ -19,7 +18,9 @@ use Rattle.stitch_entries.specs.declared.faults.Lengths.{Lengths}
 use Rattle.slice.specs.Editions.{Editions}
 use Rattle.settings.specs.Settings.{Held}
 use Rattle.named_entries.specs.NamedStitch.{namedStitchRows, namedStitchRefusal}
+use Rattle.view.specs.View.{Fit}
 use Rattle.view_entries.specs.declared.input.View.{View}
+use Rattle.view_entries.specs.Inputs.{viewData}
 use Rattle.verdict_entries.specs.declared.answer.ReopenAnswer.{ReopenAnswer}
 use Rattle.verdict_entries.specs.ReopenEntry.{reopenAnswer}
 use Rattle.verdict_entries.specs.ReopenTheorems.{valid-edition, valid-fit}
@@ -53,22 +54,32 @@ not-given n (row false m ∷ t) z c e = not-given n t z (later (eqb m n) c) e
 not-given n (row true m ∷ t) z c e = fault (eqb m n) refl c
   where
     fault : (b : Bool) → eqb m n ≡ b → Clear (cond b (row true m ∷ rowsOf n t) (rowsOf n t)) → ⊥
-    fault true q c = let w = c .0 in true≢false w
+    fault true q c = true≢false (c .0)
     fault false q c = eqb-false m n q e
 
 module _ (g : Given) (i : ℕ) (re : Reopened g i) where
+  abbrev source : ℕ
+  source = codesAt (g .sliceAt) i .source
+
   -- the edition that the slice has from then on is its outline's
   pub reopened-edition : re .given .edition ≡ re .edition
-  reopened-edition = valid-edition _ _ _ _ _ _ _ (re .given) (re .answers) (re .valid)
+  reopened-edition =
+      valid-edition (bySource (g .outline1) (g .outline2) source) (countFor (g .vc1) (g .vc2) source) (re .view) (re .startOn) (re .endOn) (re .edition) (re .viewEdition) (re .given) (re .answers)
+      (re .valid)
+
+  fit : Fit (bySource (g .outline1) (g .outline2) source) (countFor (g .vc1) (g .vc2) source) (viewData (re .view))
+  fit =
+      valid-fit (bySource (g .outline1) (g .outline2) source) (countFor (g .vc1) (g .vc2) source) (re .view) (re .startOn) (re .endOn) (re .edition) (re .viewEdition) (re .given) (re .answers)
+      (re .valid)
 
   -- its start and its offset are those of a view of that outline
   pub reopened-start : startInside (g .vc1) (g .vc2) (codesAt (g .sliceAt) i) ≡ true
   unfolding startInside
-  reopened-start = let fit = valid-fit _ _ _ _ _ _ _ (re .given) (re .answers) (re .valid) in lt-ltb _ _ (rw (re .start) (fit .starts))
+  reopened-start = lt-ltb (codesAt (g .sliceAt) i .start) (countFor (g .vc1) (g .vc2) source) (subst (λ (n : ℕ). n < countFor (g .vc1) (g .vc2) source) (sym (re .start)) (fit .starts))
 
   pub reopened-offset : offsetInside (g .vc1) (g .vc2) (codesAt (g .sliceAt) i) ≡ true
   unfolding offsetInside
-  reopened-offset = let fit = valid-fit _ _ _ _ _ _ _ (re .given) (re .answers) (re .valid) in le-leb _ _ (rw (re .offset) (fit .reaches))
+  reopened-offset = le-leb (codesAt (g .sliceAt) i .offset) (countFor (g .vc1) (g .vc2) source) (subst (λ (n : ℕ). n ≤ countFor (g .vc1) (g .vc2) source) (sym (re .offset)) (fit .reaches))
 
   -- so where the other slices are inside their outlines, the stitch is not refused with 6 or 7
   module _ (h : Held) (setting : ℕ) (e : Editions) (l : Lengths) (whole : length (g .sliceAt) ≡ codeWidth * g .slices) where
