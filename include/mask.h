@@ -32,7 +32,8 @@
  * A list that is not const is room for the answer. Its need is stated beside the
  * entry. Where the call is accepted, the items are written from its start on, then
  * 0 up to the need. What lies beyond the need is left as it was. No two lists of a
- * call may share memory where one of them is room.
+ * call may share memory where one of them is room. The record of settings is read and
+ * written in place; beside its entries stands what is written there.
  *
  * Calls share no state. The library has no variables, keeps nothing from one call to the
  * next, allocates nothing, and calls nothing but memset of the C library. So any number
@@ -41,7 +42,7 @@
  *
  * The entries stand in the order of the work: views, the verdict and reopening; cut order,
  * candidates, pruning, stitch and area pass, each of which takes what the one before it
- * gives; then masks without arcs.
+ * gives; then settings by edition; then masks without arcs.
  */
 #ifndef MASK_H
 #define MASK_H
@@ -73,6 +74,7 @@ extern "C" {
 #define MASK_WIDTH_PROBE 6    /* its two vertices to be tested */
 #define MASK_WIDTH_SLICE_AT 4 /* a slice */
 #define MASK_WIDTH_SLICE 6    /* its view */
+#define MASK_WIDTH_SETTINGS 3 /* a setting: tolerance of x, tolerance of y, area limit */
 #define MASK_WIDTH_STRAIGHT 2 /* a vertex in whole microdegrees: x, y */
 
 /* Sizes. A call beyond them is refused. */
@@ -84,6 +86,7 @@ extern "C" {
 #define MASK_MOST_CANDIDATES 768          /* of one outline */
 #define MASK_MOST_SLICES 1792             /* in a stitch */
 #define MASK_MOST_LOOPS 1792              /* in an area pass */
+#define MASK_MOST_SETTINGS 16             /* in a record */
 #define MASK_MOST_NUMBER 1073741824.0     /* magnitude of a coordinate or a bulge: 2^30 */
 #define MASK_MOST_TOLERANCE 1.0           /* of positions, on either axis; it is above 0 */
 #define MASK_MOST_WHOLE 400000000         /* magnitude of a whole coordinate */
@@ -113,6 +116,8 @@ extern "C" {
 #define MASK_STACK_PRUNE 512
 #define MASK_STACK_STITCH 32768
 #define MASK_STACK_AREA_PASS 512
+#define MASK_STACK_SETTINGS_ENTER 512
+#define MASK_STACK_SETTINGS_ASK 512
 #define MASK_STACK_STRAIGHT_WINDING 512
 #define MASK_STACK_STRAIGHT_AREA 512
 #define MASK_STACK_STRAIGHT_REPORT 512
@@ -127,6 +132,8 @@ enum mask_refusal {
     MASK_REFUSED_LENGTH = 1,    /* a list's length disagrees with its count, or that is too high */
     MASK_REFUSED_OUTLINE = 2,   /* fewer than 2 or more than 1024 vertices */
     MASK_REFUSED_CODE = 3,      /* an unknown mode, selector, source (1, 2) or yes/no code (0, 1) */
+    MASK_REFUSED_UNKNOWN_SETTING = 16, /* no setting was entered under the edition */
+    MASK_REFUSED_SETTINGS_FULL = 17, /* the record has its 16 settings */
     MASK_REFUSED_TOLERANCE = 4, /* either is not finite or out of range (area limit: below 0) */
     MASK_REFUSED_NUMBER = 5,    /* not finite, or beyond 2^30 (areas: not finite) */
     MASK_REFUSED_RANGE = 18,    /* a whole coordinate is out of range */
@@ -489,14 +496,17 @@ typedef struct mask_stitch_answer {
 /*
  * The loops that the slices make. `edition1` and `edition2` are those of the outlines;
  * each slice must have its outline's (14). The three starts are those of `mask_starts`;
- * `selector` is one of `mask_selector`. Written:
+ * `selector` is one of `mask_selector`. The tolerances are those of the edition `setting`
+ * of the record `entered`, `settings` (settings by edition, below); number 4 looks at these
+ * two and at no other number of the record. Written:
  *   room        3 to a vertex: x, y, bulge; loop after loop. Its need is 3 numbers for
  *               each of 1 + the sum of (offset + 1) vertices; 0 where there are no slices
  *   ends        1 to a loop: how many vertices all loops up to and with it have
  *   chain       1 to a slice: its number; chain after chain
  *   chain_ends  1 to a chain: how many slices all chains up to and with it have
  *   chain_how   1 to a chain: how it ended, of `mask_chain_end`
- * The need of each of the last four is one entry per slice. Refusals 1 to 8, 14, 9.
+ * The need of each of the last four is one entry per slice. Refusals 1 to 8, 14,
+ * 9, and 16 before 4.
  */
 mask_stitch_answer mask_stitch(const double *outline1, size_t outline1_len, size_t vc1,
                                uint32_t edition1, const double *outline2, size_t outline2_len,
@@ -504,19 +514,63 @@ mask_stitch_answer mask_stitch(const double *outline1, size_t outline1_len, size
                                size_t slice_at_len, const double *slice, size_t slice_len,
                                const uint32_t *slice_edition, size_t slice_edition_len,
                                size_t slices, size_t pline2, size_t pline1_overlapping,
-                               size_t pline2_overlapping, uint32_t selector, double tolerance_x,
-                               double tolerance_y, double *room, size_t room_len, size_t *ends,
-                               size_t ends_len, size_t *chain, size_t chain_len,
+                               size_t pline2_overlapping, uint32_t selector,
+                               const size_t *entered, size_t entered_len, const double *settings,
+                               size_t settings_len, size_t setting, double *room, size_t room_len,
+                               size_t *ends, size_t ends_len, size_t *chain, size_t chain_len,
                                size_t *chain_ends, size_t chain_ends_len, size_t *chain_how,
                                size_t chain_how_len);
 
 /*
- * The loops whose area, whatever its sign, is not less than `limit`, by number, in
- * order. `areas` has one signed area per loop, of at most 1792. `count` is how many are
- * kept; the need of `kept` is one entry per loop. Refusals 1, 4, 5, 9.
+ * The loops whose area, whatever its sign, is not less than the limit, by number, in
+ * order. The limit is that of the edition `setting` of the record `entered`, `settings`;
+ * number 4 looks at it alone. `areas` has one signed area per loop, of at most 1792.
+ * `count` is how many are kept; the need of `kept` is one entry per loop. Refusals 1, 16,
+ * 4, 5, 9.
  */
-mask_count_answer mask_area_pass(const double *areas, size_t areas_len, size_t loops, double limit,
+mask_count_answer mask_area_pass(const double *areas, size_t areas_len, size_t loops,
+                                 const size_t *entered, size_t entered_len,
+                                 const double *settings, size_t settings_len, size_t setting,
                                  size_t *kept, size_t kept_len);
+
+/*
+ * Settings by edition: up to 16, each with two tolerances and an area limit, in one record
+ * that is extended and never overwritten. The record is two lists that the host lends and
+ * keeps:
+ *   entered   1: how many settings there are; a number above 16 reads as 16
+ *   settings  48: of each setting the tolerance of x, the tolerance of y, the area limit
+ * Other lengths are refused with 1. Zeros are the empty record, and every content is some
+ * record. Editions count from 1. Numbers 16 and 17 are looked at before 4. A stitch and an
+ * area pass name an edition; they only read the record.
+ */
+
+typedef struct mask_edition_answer {
+    uint32_t refusal;
+    size_t edition;
+} mask_edition_answer;
+
+typedef struct mask_setting_answer {
+    uint32_t refusal;
+    double tolerance_x;
+    double tolerance_y;
+    double area_limit;
+} mask_setting_answer;
+
+/*
+ * Enters a setting and answers its edition. Written are the setting's three numbers and the
+ * count, and no other place; on a refusal nothing. A tolerance is above 0 and at most 1, an
+ * area limit from 0 to any finite number. Refusals 1, 17, 4.
+ */
+mask_edition_answer mask_settings_enter(size_t *entered, size_t entered_len, double *settings,
+                                        size_t settings_len, double tolerance_x,
+                                        double tolerance_y, double area_limit);
+
+/*
+ * The setting of an edition, exactly as it was entered. Refusals 1, 16.
+ */
+mask_setting_answer mask_settings_ask(const size_t *entered, size_t entered_len,
+                                      const double *settings, size_t settings_len,
+                                      size_t edition);
 
 /*
  * Masks without arcs, in whole microdegrees. An outline has two numbers to a vertex: x,

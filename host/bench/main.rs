@@ -23,7 +23,7 @@ mod tree {
 
 use archive::{Point, StitchAnswer, Vertex, View};
 use cavalier_contours::polyline::{PlineSource, PlineVertex, PlineViewData, Polyline};
-use ours::{CutRoom, Pair, Slices, StitchRoom};
+use ours::{CutRoom, Pair, Record, Slices, StitchRoom};
 use shapes::Outlines;
 use std::hint::black_box;
 use std::process::Command;
@@ -320,11 +320,12 @@ fn stitch() {
             let job = make(size);
             assert_eq!(job.slices.count(), size);
             let mut room = StitchRoom::new(&job.slices);
+            let record = Record::new(TOLERANCE, 0.0);
             let with_list = scan::Stitch::new(&job.outlines, &job.slices, TOLERANCE);
             let with_tree = tree::Stitch::new(&job.outlines, &job.slices, TOLERANCE);
             let mut ours = || {
                 let slices = black_box(&job.slices);
-                ours::stitch(&job.outlines, slices, job.selector, TOLERANCE, &mut room)
+                ours::stitch(&job.outlines, slices, job.selector, &record, &mut room)
             };
             let answer = ours();
             assert_eq!(answer.rounds, size);
@@ -345,8 +346,9 @@ fn area_pass() {
     for size in SLICE_SIZES {
         let areas: Vec<f64> = (0..size).map(|i| (i * 7 % 5) as f64).collect();
         let (mut kept, mut list) = (vec![0; size], Vec::with_capacity(size));
+        let record = Record::new(TOLERANCE, 2.0);
         let times = measure(&mut [
-            &mut || done(ours::area_pass(black_box(&areas), 2.0, &mut kept)),
+            &mut || done(ours::area_pass(black_box(&areas), &record, &mut kept)),
             &mut || {
                 list.clear();
                 let areas = black_box(&areas).iter().enumerate();
@@ -477,10 +479,11 @@ fn repeat(stage: &str, input: &str, size: usize, calls: Option<usize>) {
         let job = pruned(make(size), UNION);
         let mut room = StitchRoom::new(&job.slices);
         let slices = &job.slices;
+        let record = Record::new(TOLERANCE, 0.0);
         let theirs = scan::Stitch::new(&job.outlines, slices, TOLERANCE);
         match stage {
             "stitch" => {
-                many(&mut || done(ours::stitch(&job.outlines, slices, 0, TOLERANCE, &mut room)));
+                many(&mut || done(ours::stitch(&job.outlines, slices, 0, &record, &mut room)));
             }
             "rust-stitch" => many(&mut || done(theirs.run(0))),
             _ => panic!("there is no stage {stage}"),

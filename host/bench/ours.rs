@@ -202,11 +202,32 @@ impl StitchRoom {
     }
 }
 
+/// A record of settings with one of them entered, the same tolerance on both axes.
+pub struct Record {
+    entered: [usize; 1],
+    settings: [f64; 48],
+    edition: usize,
+}
+
+impl Record {
+    pub fn new(tolerance: f64, limit: f64) -> Record {
+        let (mut entered, mut settings) = ([0], [0.0; 48]);
+        let answer =
+            archive::settings_enter(&mut entered, &mut settings, tolerance, tolerance, limit);
+        assert_eq!(answer.refusal, 0);
+        Record {
+            entered,
+            settings,
+            edition: answer.edition,
+        }
+    }
+}
+
 pub fn stitch(
     outlines: &[Vec<f64>; 2],
     slices: &Slices,
     selector: u32,
-    tolerance: f64,
+    record: &Record,
     room: &mut StitchRoom,
 ) -> StitchAnswer {
     let [pline2, overlaps1, overlaps2] = slices.starts;
@@ -225,8 +246,9 @@ pub fn stitch(
         overlaps1,
         overlaps2,
         selector,
-        tolerance,
-        tolerance,
+        &record.entered,
+        &record.settings,
+        record.edition,
         &mut room.vertices,
         &mut room.ends,
         &mut room.chain,
@@ -237,8 +259,15 @@ pub fn stitch(
     answer
 }
 
-pub fn area_pass(areas: &[f64], limit: f64, kept: &mut [usize]) -> usize {
-    let answer = archive::area_pass(areas, areas.len(), limit, kept);
+pub fn area_pass(areas: &[f64], record: &Record, kept: &mut [usize]) -> usize {
+    let answer = archive::area_pass(
+        areas,
+        areas.len(),
+        &record.entered,
+        &record.settings,
+        record.edition,
+        kept,
+    );
     assert_eq!(answer.refusal, 0);
     answer.count
 }

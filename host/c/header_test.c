@@ -24,12 +24,12 @@ static void numbers(void)
               MASK_WIDTH_LAP_AT == 7 && MASK_WIDTH_LAP == 6 && MASK_WIDTH_CUT_AT == 3 &&
               MASK_WIDTH_CUT == 2 && MASK_WIDTH_SPLITS == 9 && MASK_WIDTH_CAND_AT == 2 &&
               MASK_WIDTH_CAND == 6 && MASK_WIDTH_PROBE == 6 && MASK_WIDTH_SLICE_AT == 4 &&
-              MASK_WIDTH_SLICE == 6 && MASK_WIDTH_STRAIGHT == 2,
+              MASK_WIDTH_SLICE == 6 && MASK_WIDTH_SETTINGS == 3 && MASK_WIDTH_STRAIGHT == 2,
           "mask.h: the widths of the lists");
     check(MASK_LEAST_VERTICES == LEAST_VERTICES && MASK_MOST_VERTICES == MOST_VERTICES &&
               MASK_MOST_HITS == 512 && MASK_MOST_LAPS == MOST_LAPS && MASK_MOST_CANDIDATES == 768 &&
               MASK_MOST_SLICES == 1792 && MASK_MOST_LOOPS == 1792 && MASK_MOST_NUMBER == LIMIT &&
-              MASK_MOST_TOLERANCE == 1,
+              MASK_MOST_SETTINGS == 16 && MASK_MOST_TOLERANCE == 1,
           "mask.h: the sizes of document 01");
     check(MASK_MOST_CUTS == MASK_MOST_HITS + 2 * MASK_MOST_LAPS &&
               MASK_MOST_SLICES == 2 * MASK_MOST_CANDIDATES + 2 * MASK_MOST_LAPS,
@@ -63,6 +63,8 @@ static double vertices[3 * (VC + 2)];
 static double slice[6 * SLICES], room[3 * (1 + 2 * SLICES)], areas[SLICES];
 static int64_t points[2 * VC], many[2 * 2 * OUTLINES];
 static size_t many_ends[OUTLINES];
+static size_t entered[1];
+static double settings[MASK_WIDTH_SETTINGS * MASK_MOST_SETTINGS];
 
 static void make_inputs(void)
 {
@@ -89,6 +91,9 @@ static void make_inputs(void)
     }
     for (size_t i = 0; i < OUTLINES; i++)
         many_ends[i] = 2 * (i + 1);
+    entered[0] = 1;
+    settings[0] = settings[1] = 1;
+    settings[2] = 2;
 }
 
 /* ---- A call of each entry, accepted ---- */
@@ -188,12 +193,27 @@ static void prune(void)
 static void stitch(void)
 {
     refusal = mask_stitch(ALL(outline), VC, 0, ALL(outline), VC, 0, ALL(slice_at), ALL(slice),
-                          ALL(slice_edition), SLICES, 0, SLICES, SLICES, MASK_SELECTOR_OR_AND, 1,
-                          1, ALL(room), ALL(ends), ALL(chain), ALL(chain_ends), ALL(chain_how))
+                          ALL(slice_edition), SLICES, 0, SLICES, SLICES, MASK_SELECTOR_OR_AND,
+                          ALL(entered), ALL(settings), 1, ALL(room), ALL(ends), ALL(chain),
+                          ALL(chain_ends), ALL(chain_how))
                   .refusal;
 }
 
-static void area_pass(void) { refusal = mask_area_pass(ALL(areas), SLICES, 2, ALL(kept)).refusal; }
+static void area_pass(void)
+{
+    refusal = mask_area_pass(ALL(areas), SLICES, ALL(entered), ALL(settings), 1, ALL(kept)).refusal;
+}
+
+static void settings_enter(void)
+{
+    entered[0] = MASK_MOST_SETTINGS - 1;
+    refusal = mask_settings_enter(ALL(entered), ALL(settings), T, T, 1).refusal;
+}
+
+static void settings_ask(void)
+{
+    refusal = mask_settings_ask(ALL(entered), ALL(settings), MASK_MOST_SETTINGS).refusal;
+}
 
 static void straight_winding(void)
 {
@@ -274,6 +294,8 @@ int main(void)
     measure("mask_candidates", candidates, MASK_STACK_CANDIDATES);
     measure("mask_prune", prune, MASK_STACK_PRUNE);
     measure("mask_area_pass", area_pass, MASK_STACK_AREA_PASS);
+    measure("mask_settings_enter", settings_enter, MASK_STACK_SETTINGS_ENTER);
+    measure("mask_settings_ask", settings_ask, MASK_STACK_SETTINGS_ASK);
     measure("mask_straight_winding", straight_winding, MASK_STACK_STRAIGHT_WINDING);
     measure("mask_straight_area", straight_area, MASK_STACK_STRAIGHT_AREA);
     measure("mask_straight_report", straight_report, MASK_STACK_STRAIGHT_REPORT);

@@ -76,6 +76,7 @@ static struct {
     uint32_t source, mode, selector;
     uint32_t edition, cand_edition1[2], cand_edition2[2], lap_edition[1], slice_edition[2];
     double tolerance_x, tolerance_y, limit;
+    size_t entered;
     size_t len[LISTS], need[LISTS];
 } c;
 
@@ -121,6 +122,7 @@ static void begin(void)
     c.source = 1;
     c.tolerance_x = c.tolerance_y = T;
     c.limit = 2;
+    c.entered = 2;
     memcpy(c.len, lengths, sizeof lengths);
     memcpy(c.need, needs, sizeof needs);
     for (int i = FIRST_ROOM; i < LISTS; i++)
@@ -168,19 +170,34 @@ static uint32_t prune(void)
         .refusal;
 }
 
+/* A record whose second setting has these numbers. All others are NaN: nothing looks at them. */
+static const double *setting(double x, double y, double limit)
+{
+    static double settings[48];
+    for (int i = 0; i < 48; i++)
+        settings[i] = NAN;
+    settings[3] = x;
+    settings[4] = y;
+    settings[5] = limit;
+    return settings;
+}
+
 static uint32_t stitch(void)
 {
     return mask_stitch(READ(OUTLINE1, outline1), c.vc1, c.edition, READ(OUTLINE2, outline2), c.vc2,
                        c.edition, READ(SLICE_AT, slice_at), READ(SLICE, slice),
                        READ_EDITIONS(SLICE_EDITION, slice_edition), 2, c.pline2, 2, 2, c.selector,
-                       c.tolerance_x, c.tolerance_y, WRITTEN(ROOM), WRITTEN(ENDS), WRITTEN(CHAIN),
-                       WRITTEN(CHAIN_ENDS), WRITTEN(CHAIN_HOW))
+                       &c.entered, 1, setting(c.tolerance_x, c.tolerance_y, NAN), 48, 2,
+                       WRITTEN(ROOM), WRITTEN(ENDS), WRITTEN(CHAIN), WRITTEN(CHAIN_ENDS),
+                       WRITTEN(CHAIN_HOW))
         .refusal;
 }
 
 static uint32_t area_pass(void)
 {
-    return mask_area_pass(READ(AREAS, areas), 3, c.limit, WRITTEN(KEPT)).refusal;
+    return mask_area_pass(READ(AREAS, areas), 3, &c.entered, 1, setting(NAN, NAN, c.limit), 48, 2,
+                          WRITTEN(KEPT))
+        .refusal;
 }
 
 /* Of each entry: its rooms from one list to another, and the numbers that it is handed. */
@@ -297,6 +314,9 @@ static int spoil(int e, uint32_t number)
     case 14:
         c.slice_edition[1] = 1;
         return ENTRIES[e].call == stitch;
+    case 16:
+        c.entered = 1;
+        return ENTRIES[e].call == stitch || ENTRIES[e].call == area_pass;
     default:
         return 0;
     }
@@ -305,7 +325,7 @@ static int spoil(int e, uint32_t number)
 static int faults(int e)
 {
     int tried = 0;
-    for (uint32_t number = 1; number <= 14; number++)
+    for (uint32_t number = 1; number <= 16; number++)
         if (spoil(e, number)) {
             if (!is_refused(e, number))
                 return 0;

@@ -70,7 +70,9 @@ enum {
     SLICE_EDITION,
     CAND_EDITION1,
     CAND_EDITION2,
-    LAP_EDITION, /* read */
+    LAP_EDITION,
+    ENTERED,
+    SETTINGS, /* read */
     VERTEX_ROOM,
     ENDS,
     CHAIN,
@@ -90,6 +92,42 @@ static void make_room(void)
     watch("FAIL an entry wrote to a list lent to be read, or left a list\n");
 }
 
+/* ---- The record of settings, of which a call names one ---- */
+
+enum { MOST_SETTINGS = 16, RECORD = 3 * MOST_SETTINGS };
+
+typedef struct named {
+    size_t entered, entered_len, settings_len, setting;
+} named;
+
+/* A setting among others. */
+static const named SECOND = {3, 1, RECORD, 2};
+
+/* "16 edition unknown": editions count from 1, and a count above 16 reads as 16 */
+static int known(const named *n)
+{
+    return n->setting >= 1 && n->setting <= n->entered && n->setting <= MOST_SETTINGS;
+}
+
+/* The record's numbers, with these in the place of the setting that is named. All others are NaN:
+   nothing looks at them. */
+static const void *lend_settings(const named *n, double x, double y, double limit)
+{
+    const double these[] = {x, y, limit};
+    double numbers[RECORD + 1];
+    for (int i = 0; i <= RECORD; i++)
+        numbers[i] = NAN;
+    if (n->setting >= 1 && n->setting <= MOST_SETTINGS)
+        memcpy(numbers + 3 * (n->setting - 1), these, sizeof these);
+    return lend(SETTINGS, numbers, n->settings_len);
+}
+
+static const void *lend_entered(const named *n)
+{
+    const size_t entered[] = {n->entered, n->entered};
+    return lend(ENTERED, entered, n->entered_len);
+}
+
 /* ---- A stitch: what the host has, and how much room it lends ---- */
 
 typedef struct call {
@@ -102,6 +140,7 @@ typedef struct call {
     uint32_t edition[2];
     mask_starts starts;
     uint32_t selector;
+    named named;
     axes tolerance;
     size_t room_len, ends_len, chain_len, chain_ends_len, chain_how_len;
 } call;
@@ -155,6 +194,7 @@ static void measure(size_t beyond)
     c.slice_at_len = 4 * c.slices;
     c.slice_len = 6 * c.slices;
     c.slice_edition_len = c.slices;
+    c.named = SECOND;
     c.room_len = 3 * vertices_needed() + beyond;
     c.ends_len = c.chain_len = c.chain_ends_len = c.chain_how_len = c.slices + beyond;
 }
@@ -169,9 +209,12 @@ static mask_stitch_answer stitch(void)
                        lend_editions(SLICE_EDITION, c.slice_edition, c.slice_edition_len),
                        c.slice_edition_len, c.slices, c.starts.pline2,
                        c.starts.pline1_overlapping, c.starts.pline2_overlapping, c.selector,
-                       c.tolerance.x, c.tolerance.y, lend_room(VERTEX_ROOM, c.room_len), c.room_len,
-                       lend_room(ENDS, c.ends_len), c.ends_len, lend_room(CHAIN, c.chain_len),
-                       c.chain_len, lend_room(CHAIN_ENDS, c.chain_ends_len), c.chain_ends_len,
+                       lend_entered(&c.named), c.named.entered_len,
+                       lend_settings(&c.named, c.tolerance.x, c.tolerance.y, NAN),
+                       c.named.settings_len, c.named.setting, lend_room(VERTEX_ROOM, c.room_len),
+                       c.room_len, lend_room(ENDS, c.ends_len), c.ends_len,
+                       lend_room(CHAIN, c.chain_len), c.chain_len,
+                       lend_room(CHAIN_ENDS, c.chain_ends_len), c.chain_ends_len,
                        lend_room(CHAIN_HOW, c.chain_how_len), c.chain_how_len);
 }
 
@@ -231,7 +274,7 @@ static uint32_t refused(void)
     if (!right_length(c.outline_len[0], 3, c.vc[0]) ||
         !right_length(c.outline_len[1], 3, c.vc[1]) || !right_length(c.slice_at_len, 4, c.slices) ||
         !right_length(c.slice_len, 6, c.slices) || c.slice_edition_len != c.slices ||
-        c.slices > MOST_SLICES)
+        c.slices > MOST_SLICES || c.named.entered_len != 1 || c.named.settings_len != RECORD)
         return 1;
     for (int o = 0; o < 2; o++)
         if (c.vc[o] < LEAST_VERTICES || c.vc[o] > MOST_VERTICES)
@@ -241,6 +284,8 @@ static uint32_t refused(void)
     for (size_t i = 0; i < c.slices; i++)
         if (c.slice_at[4 * i] < 1 || c.slice_at[4 * i] > 2 || c.slice_at[4 * i + 1] > 1)
             return 3;
+    if (!known(&c.named))
+        return 16;
     if (!right_tolerances(c.tolerance))
         return 4;
     if (!small_list(c.outline[0], c.outline_len[0]) ||
@@ -899,7 +944,10 @@ enum {
     F_CHAIN,
     F_CHAIN_ENDS,
     F_CHAIN_HOW,
-    F_EDITION_LEN
+    F_EDITION_LEN,
+    F_ENTERED,
+    F_SETTINGS,
+    F_SETTING
 };
 
 static const fault FAULTS[] = {
@@ -979,6 +1027,16 @@ static const fault FAULTS[] = {
     {1, F_EDITION_LEN, "slice_edition one long"},
     {1, F_EDITION_LEN, "slice_edition one short"},
     {1, F_EDITION_LEN, "no slice_edition"},
+    {1, F_ENTERED, "entered empty"},
+    {1, F_ENTERED, "entered one long"},
+    {1, F_SETTINGS, "settings one short"},
+    {1, F_SETTINGS, "settings one long"},
+    {1, F_SETTINGS, "no settings"},
+    {16, F_SETTING, "setting 0"},
+    {16, F_SETTING, "the setting after the last"},
+    {16, F_SETTING, "setting 17 of a count above 16"},
+    {16, F_SETTING, "setting SIZE_MAX"},
+    {16, F_SETTING, "an empty record"},
 };
 enum { FAULT_COUNT = sizeof FAULTS / sizeof *FAULTS };
 
@@ -1065,12 +1123,23 @@ static void spoil(int f)
     case 73: c.slice_edition_len++; break;
     case 74: c.slice_edition_len--; break;
     case 75: c.slice_edition_len = 0; break;
+    case 76: c.named.entered_len = 0; break;
+    case 77: c.named.entered_len = 2; break;
+    case 78: c.named.settings_len--; break;
+    case 79: c.named.settings_len++; break;
+    case 80: c.named.settings_len = 0; break;
+    case 81: c.named.setting = 0; break;
+    case 82: c.named.setting = c.named.entered + 1; break;
+    case 83: c.named.entered = SIZE_MAX, c.named.setting = MOST_SETTINGS + 1; break;
+    case 84: c.named.setting = SIZE_MAX; break;
+    case 85: c.named.entered = 0; break;
     default: abort();
     }
 }
 
-/* Where a number stands among the refusals: 14 comes after 8 and before 9, the others in their order. */
-static unsigned rank(uint32_t number) { return number == 14 ? 17 : 2 * number; }
+/* Where a number stands among the refusals: 14 after 8 and before 9, 16 before 4, the others in their
+   order. */
+static unsigned rank(uint32_t number) { return number == 14 ? 17 : number == 16 ? 7 : 2 * number; }
 
 static void refusals(void)
 {
@@ -1099,7 +1168,7 @@ static void refusals(void)
                            got.refusal, first);
             }
         }
-    check(bad == 0, "stitch: the first of two refusals, 14 after 8 and before 9: %u pairs, %u differ",
+    check(bad == 0, "stitch: the first of two refusals, 14 before 9 and 16 before 4: %u pairs, %u differ",
           pairs, bad);
 
     /* Just within. */
@@ -1249,6 +1318,10 @@ static void drawn_call(void)
             }
     classes(s[0], s[1], s[2]);
     measure(pick(2) * pick(9));
+    c.named.entered = pick(20);
+    c.named.setting = pick(24) ? 1 + pick(c.named.entered ? c.named.entered : 1) : pick(20);
+    if (c.named.entered == 0 && pick(8))
+        c.named.entered = SIZE_MAX;
     if (pick(10) == 0 && n > 0)
         c.slice_edition[pick(n)] = EDITIONS[pick(EDITION_COUNT)];
     if (pick(10) == 0) { /* something short, long or out of range */
@@ -1264,9 +1337,12 @@ static void drawn_call(void)
                              &c.chain_how_len,
                              &c.starts.pline2,
                              &c.starts.pline1_overlapping,
-                             &c.starts.pline2_overlapping};
+                             &c.starts.pline2_overlapping,
+                             &c.named.entered_len,
+                             &c.named.settings_len,
+                             &c.named.setting};
         for (size_t k = 1 + pick(2); k > 0; k--) {
-            size_t *length = lengths[pick(13)];
+            size_t *length = lengths[pick(16)];
             if (pick(2) && n > 0)
                 c.slice_at[4 * pick(n) + pick(4)] = pick(8);
             else if (pick(4) == 0 && n > 0)
@@ -1283,7 +1359,7 @@ static void drawn(unsigned cases)
 {
     static call least;
     static char what[32];
-    unsigned bad = 0, other = 0, by_number[15] = {0};
+    unsigned bad = 0, other = 0, by_number[17] = {0};
     memset(met, 0, sizeof met);
     memset(chosen, 0, sizeof chosen);
     for (unsigned k = 0; k < cases; k++) {
@@ -1294,7 +1370,7 @@ static void drawn(unsigned cases)
                 snprintf(what, sizeof what, "%s", difference);
             }
         }
-        if (got.refusal <= 9 || got.refusal == 14)
+        if (got.refusal <= 9 || got.refusal == 14 || got.refusal == 16)
             by_number[got.refusal]++;
         else
             other++;
@@ -1304,9 +1380,9 @@ static void drawn(unsigned cases)
         printf("     the smallest, in %s:\n", what);
         show(&least);
     }
-    check(other == 0, "stitch: drawn: no number above 9 but 14");
-    for (int n = 1; n < 15; n++)
-        if (n != 2 && (n < 10 || n == 14))
+    check(other == 0, "stitch: drawn: no number above 9 but 14 and 16");
+    for (int n = 1; n < 17; n++)
+        if (n != 2 && (n < 10 || n == 14 || n == 16))
             check(by_number[n] > 0, "stitch: drawn: refusal %d: %u", n, by_number[n]);
     for (int kind = 0; kind < KINDS; kind++)
         check(met[kind] > 0, "stitch: drawn: %s: %u", KIND[kind], met[kind]);
@@ -1327,6 +1403,7 @@ static void drawn(unsigned cases)
 static struct {
     double areas[SLICES];
     size_t areas_len, loops, kept_len;
+    named named;
     double limit;
 } p;
 
@@ -1340,8 +1417,11 @@ static int area_passed(void)
     if (p.areas_len == p.loops)
         for (size_t i = 0; i < p.loops; i++)
             areas_ok = areas_ok && isfinite(p.areas[i]);
-    if (p.areas_len != p.loops || p.loops > MOST_SLICES)
+    if (p.areas_len != p.loops || p.loops > MOST_SLICES || p.named.entered_len != 1 ||
+        p.named.settings_len != RECORD)
         a.refusal = 1;
+    else if (!known(&p.named))
+        a.refusal = 16;
     else if (!isfinite(p.limit) || p.limit < 0)
         a.refusal = 4;
     else if (!areas_ok)
@@ -1355,8 +1435,10 @@ static int area_passed(void)
         a.count = want[KEPT].used;
         fill(KEPT, p.loops);
     }
-    passed = mask_area_pass(lend(AREAS, p.areas, p.areas_len), p.areas_len, p.loops, p.limit,
-                            lend_room(KEPT, p.kept_len), p.kept_len);
+    passed = mask_area_pass(lend(AREAS, p.areas, p.areas_len), p.areas_len, p.loops,
+                            lend_entered(&p.named), p.named.entered_len,
+                            lend_settings(&p.named, NAN, NAN, p.limit), p.named.settings_len,
+                            p.named.setting, lend_room(KEPT, p.kept_len), p.kept_len);
     return passed.refusal == a.refusal && passed.count == a.count && as_expected(KEPT);
 }
 
@@ -1364,6 +1446,7 @@ static void pass(const double *areas, size_t loops, double limit, size_t beyond)
 {
     memcpy(p.areas, areas, loops * sizeof *areas);
     p.areas_len = p.loops = loops;
+    p.named = SECOND;
     p.limit = limit;
     p.kept_len = loops + beyond;
 }
@@ -1451,10 +1534,34 @@ static void area(void)
     check_pass(1, 0, "1,793 loops: 1");
     p.areas[0] = NAN, p.kept_len = 0;
     check_pass(1, 0, "1,793 loops: 1 before 5 and 9");
+    pass(areas, 6, 1, 0);
+    p.named = (named){1, 1, RECORD, 1};
+    check_pass(0, 4, "the first setting");
+    p.named = (named){SIZE_MAX, 1, RECORD, 16};
+    check_pass(0, 4, "the sixteenth, of a count above 16");
+    p.limit = -1, p.areas[5] = NAN, p.kept_len = 0;
+    p.named.setting = 17;
+    check_pass(16, 0, "setting 17: 16 before 4, 5 and 9");
+    p.named.setting = 0;
+    check_pass(16, 0, "setting 0: 16");
+    p.named = (named){0, 1, RECORD, 1};
+    check_pass(16, 0, "an empty record: 16");
+    p.named = (named){0, 0, RECORD, 1};
+    check_pass(1, 0, "entered empty: 1 before 16");
+    p.named = (named){0, 2, RECORD, 1};
+    check_pass(1, 0, "entered one long: 1");
+    p.named = (named){0, 1, RECORD - 1, 1};
+    check_pass(1, 0, "settings one short: 1");
+    p.named = (named){0, 1, RECORD + 1, 1};
+    check_pass(1, 0, "settings one long: 1");
+    p.named = (named){0, 1, RECORD, 1}, p.loops = 5;
+    check_pass(1, 0, "areas one long: 1 before 16");
+    p.named = SECOND;
     for (int k = 0; k < 5000; k++) {
         p.loops = p.areas_len = pick(k % 50 ? 12 : MOST_SLICES + 1);
         p.limit = pick(20) ? (double)pick(5) : (double[]){NAN, -1, -0.0, INFINITY}[pick(4)];
         p.kept_len = p.loops + pick(2) * pick(6);
+        p.named = (named){pick(20), 1, RECORD, 1 + pick(17)};
         for (size_t i = 0; i < p.loops; i++)
             p.areas[i] = pick(3) ? (double)pick(5) : (double)pick(9) - 4.5;
         if (p.loops != 0 && pick(12) == 0)

@@ -112,6 +112,71 @@ impl Guarded {
     }
 }
 
+/// The numbers of a record of settings.
+const RECORD: usize = 48;
+
+/// A record of settings that has the numbers of a call under some edition, which the call names. The
+/// settings before it are others. Behind it are NaNs: nothing looks at them.
+struct Record {
+    entered: Guarded,
+    settings: Guarded,
+    edition: usize,
+}
+
+impl Record {
+    /// A setting in range is entered, as a host enters it. One that is not stands there all the same:
+    /// any numbers are some record.
+    fn of(setting: [f64; 3]) -> Record {
+        let mut record = Record {
+            entered: Guarded::new(&[0], Kind::Counts),
+            settings: Guarded::new(&[f64::NAN.to_bits(); RECORD], Kind::Numbers),
+            edition: edition_for(setting),
+        };
+        for other in 1..record.edition {
+            let small = 1.0 / (other + 1) as f64;
+            assert_eq!(record.enter([small, small / 2.0, small]), 0);
+        }
+        if record.enter(setting) != 0 {
+            record.put(setting);
+        }
+        record
+    }
+
+    fn enter(&mut self, [x, y, limit]: [f64; 3]) -> u32 {
+        let (entered, settings) = (self.entered.start(), self.settings.start());
+        // Both lists live until the call is over; nothing else is lent.
+        unsafe { mask_settings_enter(entered, 1, settings, RECORD, x, y, limit) }.refusal
+    }
+
+    fn put(&mut self, setting: [f64; 3]) {
+        let mut words = self.settings.content();
+        for (place, number) in words[3 * (self.edition - 1)..].iter_mut().zip(setting) {
+            *place = number.to_bits();
+        }
+        self.settings = Guarded::new(&words, Kind::Numbers);
+        self.entered = Guarded::new(&[self.edition as u64], Kind::Counts);
+    }
+
+    /// Lends the record to a call, which may only read it.
+    fn lend<A>(mut self, call: impl FnOnce(*const usize, *const f64, usize) -> A) -> A {
+        let before = (self.entered.content(), self.settings.content());
+        let (entered, settings) = (self.entered.start::<usize>(), self.settings.start::<f64>());
+        let answer = call(entered, settings, self.edition);
+        let after = (self.entered.content(), self.settings.content());
+        assert!(before == after && self.entered.guards_hold() && self.settings.guards_hold());
+        answer
+    }
+}
+
+/// An edition from 1 to 16. It follows from the numbers, so that nothing is drawn for it.
+fn edition_for(setting: [f64; 3]) -> usize {
+    let word = setting.iter().fold(1, |word: u64, number| {
+        let mixed = (word ^ number.to_bits()).wrapping_mul(0x9e37_79b9_7f4a_7c15);
+        mixed.rotate_left(29)
+    });
+    1 + (word % 16) as usize
+}
+
 fn point(r: &mut Reader) -> Point {
     let [x, y] = r.some();
     Point { x, y }
@@ -484,39 +549,45 @@ fn enter(call: &Call, inputs: &mut [Guarded], lent: &mut [Guarded]) -> Vec<u64> 
                 let (chain, chain_len) = room!();
                 let (chain_ends, chain_ends_len) = room!();
                 let (chain_how, chain_how_len) = room!();
-                let a = mask_stitch(
-                    outline1,
-                    outline1_len,
-                    vc1,
-                    edition1,
-                    outline2,
-                    outline2_len,
-                    vc2,
-                    edition2,
-                    slice_at,
-                    slice_at_len,
-                    slice,
-                    slice_len,
-                    slice_edition,
-                    slice_edition_len,
-                    slices,
-                    pline2,
-                    pline1_overlapping,
-                    pline2_overlapping,
-                    selector,
-                    tolerance.x,
-                    tolerance.y,
-                    room,
-                    room_len,
-                    ends,
-                    ends_len,
-                    chain,
-                    chain_len,
-                    chain_ends,
-                    chain_ends_len,
-                    chain_how,
-                    chain_how_len,
-                );
+                let record = Record::of([tolerance.x, tolerance.y, 0.0]);
+                let a = record.lend(|entered, settings, setting| {
+                    mask_stitch(
+                        outline1,
+                        outline1_len,
+                        vc1,
+                        edition1,
+                        outline2,
+                        outline2_len,
+                        vc2,
+                        edition2,
+                        slice_at,
+                        slice_at_len,
+                        slice,
+                        slice_len,
+                        slice_edition,
+                        slice_edition_len,
+                        slices,
+                        pline2,
+                        pline1_overlapping,
+                        pline2_overlapping,
+                        selector,
+                        entered,
+                        1,
+                        settings,
+                        RECORD,
+                        setting,
+                        room,
+                        room_len,
+                        ends,
+                        ends_len,
+                        chain,
+                        chain_len,
+                        chain_ends,
+                        chain_ends_len,
+                        chain_how,
+                        chain_how_len,
+                    )
+                });
                 vec![
                     u64::from(a.refusal),
                     a.rounds as u64,
@@ -541,9 +612,13 @@ fn enter(call: &Call, inputs: &mut [Guarded], lent: &mut [Guarded]) -> Vec<u64> 
                 let (areas, areas_len) = list!();
                 let (loops, limit) = (r.count(), r.number());
                 let (kept, kept_len) = room!();
-                count_words(&mask_area_pass(
-                    areas, areas_len, loops, limit, kept, kept_len,
-                ))
+                let record = Record::of([1.0, 1.0, limit]);
+                count_words(&record.lend(|entered, settings, setting| {
+                    mask_area_pass(
+                        areas, areas_len, loops, entered, 1, settings, RECORD, setting, kept,
+                        kept_len,
+                    )
+                }))
             }
             Entry::SliceSpan => {
                 let (outline, length) = list!();

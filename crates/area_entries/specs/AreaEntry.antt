@@ -1,12 +1,12 @@
 -- The entry `mask_area_pass`: its refusals, its answer, and what its lent list holds.
 use Prim.Native.Nat.{ℕ}
-use mathlib.Core.Bool.{Bool, not, _&&_}
+use mathlib.Core.Bool.{not}
 use mathlib.Core.Path.{_≡_}
-use mathlib.Core.List.{List, [], _∷_}
+use mathlib.Core.List.{List, [], _∷_, _++_}
 use lib.ListN.{length}
 use lib.Dec.{ltb}
-use lib.Ieee.{Float, binary64, ofBits, le}
-use Rattle.basis.specs.Number.{+0, absF}
+use lib.Ieee.{Float}
+use Rattle.basis.specs.Number.{finite, limitOk}
 use Rattle.basis.specs.All.{allOf}
 use Rattle.basis.specs.Room.{roomOf}
 use Rattle.basis.specs.Sizes.{mostSlices}
@@ -15,31 +15,24 @@ use Rattle.area.specs.Area.{keptOf}
 use Rattle.basis.specs.declared.answer.CountAnswer.{CountAnswer}
 use Rattle.basis.specs.Answers.{countRefused, counted}
 
--- the largest f64
-abbrev pub largest : Float
-largest = ofBits binary64 0x7fef_ffff_ffff_ffff
+-- 1
+abbrev pub areaListRows : List Float → ℕ → List Row
+areaListRows areas loops = row (lengthFault 1 (length areas) loops) 1 ∷ row (ltb mostSlices loops) 1 ∷ []
 
--- neither a NaN nor an infinity is at most the largest f64 in magnitude
-unfoldable pub finite : Float → Bool
-finite x = le (absF x) largest
-
--- "area limit: 0 to any finite"
-unfoldable pub limitOk : Float → Bool
-limitOk limit = le +0 limit && le limit largest
+-- 5 and 9
+abbrev pub areaLastRows : List Float → ℕ → ℕ → List Row
+areaLastRows areas loops kept = row (not (allOf finite areas)) 5 ∷ row (ltb kept loops) 9 ∷ []
 
 abbrev pub areaRows : List Float → ℕ → Float → ℕ → List Row
-areaRows areas loops limit kept =
-    row (lengthFault 1 (length areas) loops) 1
-    ∷ row (ltb mostSlices loops) 1
-    ∷ row (not (limitOk limit)) 4
-    ∷ row (not (allOf finite areas)) 5
-    ∷ row (ltb kept loops) 9
-    ∷ []
+areaRows areas loops limit kept = areaListRows areas loops ++ (row (not (limitOk limit)) 4 ∷ areaLastRows areas loops kept)
 
 unfoldable pub areaRefusal : List Float → ℕ → Float → ℕ → ℕ
 areaRefusal areas loops limit kept = firstOf (areaRows areas loops limit kept)
 
--- the answer, and the lent list at exit: by the room rule where the call is accepted, untouched where it is refused. An accepted call has one area per loop.
-pub record AreaLeft (areas : List Float) (loops : ℕ) (limit : Float) (kept : List ℕ) (r : CountAnswer) (left : List ℕ) : Type 0 where
-  pub answers : r ≡ answer countRefused (areaRefusal areas loops limit (length kept)) (counted (length (keptOf areas limit)))
-  pub list : left ≡ answer (λ _. kept) (areaRefusal areas loops limit (length kept)) (roomOf 0 1 (length areas) (keptOf areas limit) kept)
+-- the answer to a call with this number, and the lent list at exit: by the room rule where the call is accepted, untouched where it is refused. An accepted call has one area per loop.
+pub record AreaBy (number : ℕ) (areas : List Float) (limit : Float) (kept : List ℕ) (r : CountAnswer) (left : List ℕ) : Type 0 where
+  pub answers : r ≡ answer countRefused number (counted (length (keptOf areas limit)))
+  pub list : left ≡ answer (λ _. kept) number (roomOf 0 1 (length areas) (keptOf areas limit) kept)
+
+abbrev pub AreaLeft : List Float → ℕ → Float → List ℕ → CountAnswer → List ℕ → Type 0
+AreaLeft areas loops limit kept r left = AreaBy (areaRefusal areas loops limit (length kept)) areas limit kept r left

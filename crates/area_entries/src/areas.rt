@@ -1,21 +1,12 @@
 ghost use mathlib.Core.Path.{_≡_};
 ghost use Rattle.basis.specs.All.{allOf};
-ghost use Rattle.area_entries.specs.AreaEntry.{finite, limitOk, areaRefusal, AreaLeft};
+ghost use Rattle.basis.specs.Number.{finite};
+ghost use Rattle.area_entries.specs.AreaEntry.{areaRefusal, AreaLeft};
 use basis::answer;
 use basis::answer::CountAnswer;
 use basis::number;
 use basis::refuse;
 use basis::sizes::MOST_SLICES;
-
-// The largest f64.
-const LARGEST: f64 = 1.7976931348623157e308;
-
-// Neither a NaN nor an infinity.
-fn is_finite(x: f64) -> bool
-    ensures { λ r. ⌜ r ≡ finite x ⌝ }
-{
-    number::magnitude(x) <= LARGEST
-}
 
 // Every area is finite.
 fn all_finite(areas: &[f64]) -> bool
@@ -24,17 +15,10 @@ fn all_finite(areas: &[f64]) -> bool
     let mut ok = true;
     let mut i = 0;
     while i < areas.len() {
-        ok = ok & is_finite(areas[i]);
+        ok = ok & number::is_finite(areas[i]);
         i += 1;
     }
     ok
-}
-
-// Number 4 where it fails: from 0 to any finite limit.
-fn good_limit(limit: f64) -> bool
-    ensures { λ r. ⌜ r ≡ limitOk limit ⌝ }
-{
-    0.0 <= limit && limit <= LARGEST
 }
 
 fn refusal(areas: &[f64], loops: usize, limit: f64, kept: usize) -> u32
@@ -42,7 +26,7 @@ fn refusal(areas: &[f64], loops: usize, limit: f64, kept: usize) -> u32
 {
     let r = refuse::or_else(0, refuse::bad_length(areas.len(), 1, loops), 1);
     let r = refuse::or_else(r, MOST_SLICES < loops, 1);
-    let r = refuse::or_else(r, !good_limit(limit), 4);
+    let r = refuse::or_else(r, !number::good_limit(limit), 4);
     let r = refuse::or_else(r, !all_finite(areas), 5);
     refuse::or_else(r, kept < loops, 9)
 }

@@ -32,10 +32,12 @@ use Rattle.prune.specs.Prune as Prune
 use Rattle.prune_entries.specs.PruneEntry.{inputRows, lentRows, pruneRefusal}
 use Rattle.stitch_run.specs.Stitch as stitch
 use Rattle.stitch_entries.specs.declared.faults.Lengths.{Lengths}
-use Rattle.stitch_entries.specs.StitchEntry as stitched
 use Rattle.slice.specs.Editions.{Editions}
-use Rattle.stitch_entries.specs.StitchEntry.{stitchRows, stitchRefusal}
-use Rattle.area_entries.specs.AreaEntry.{areaRows, areaRefusal}
+use Rattle.named_entries.specs.NamedStitch.{namedStitchRows, namedStitchRefusal}
+use Rattle.named_entries.specs.NamedArea.{namedAreaRows, namedAreaRefusal}
+use Rattle.settings.specs.declared.Setting.{Setting}
+use Rattle.settings.specs.Settings.{Held}
+use Rattle.settings_entries.specs.SettingsEntry as settings
 use Rattle.straight_entries.specs.WindingEntry.{windingRows, windingRefusal}
 use Rattle.straight_entries.specs.AreaEntry as straight
 use Rattle.straight_entries.specs.ReportEntry.{reportRows, reportRefusal}
@@ -98,13 +100,21 @@ pub prune-first : (g : Prune.Given) (at slice edition : ℕ) → First (inputRow
 unfolding pruneRefusal inputRows before refusalOrder
 prune-first g at slice edition = first-of (inputRows g ++ lentRows g at slice edition) tt
 
-pub stitch-first : (g : stitch.Given) (e : Editions) (l : Lengths) → First (stitchRows g e l) (stitchRefusal g e l)
-unfolding stitchRefusal before refusalOrder
-stitch-first g e l = first-of (stitchRows g e l) tt
+pub stitch-first : (h : Held) (k : ℕ) (g : stitch.Given) (e : Editions) (l : Lengths) → First (namedStitchRows h k g e l) (namedStitchRefusal h k g e l)
+unfolding namedStitchRefusal before refusalOrder
+stitch-first h k g e l = first-of (namedStitchRows h k g e l) tt
 
-pub area-first : (areas : List Float) (loops : ℕ) (limit : Float) (kept : ℕ) → First (areaRows areas loops limit kept) (areaRefusal areas loops limit kept)
-unfolding areaRefusal before refusalOrder
-area-first areas loops limit kept = first-of (areaRows areas loops limit kept) tt
+pub area-first : (h : Held) (e : ℕ) (areas : List Float) (loops kept : ℕ) → First (namedAreaRows h e areas loops kept) (namedAreaRefusal h e areas loops kept)
+unfolding namedAreaRefusal before refusalOrder
+area-first h e areas loops kept = first-of (namedAreaRows h e areas loops kept) tt
+
+pub enter-first : (h : Held) (s : Setting) → First (settings.enterRows h s) (settings.enterRefusal h s)
+unfolding settings.enterRefusal before refusalOrder
+enter-first h s = first-of (settings.enterRows h s) tt
+
+pub ask-first : (h : Held) (e : ℕ) → First (settings.askRows h e) (settings.askRefusal h e)
+unfolding settings.askRefusal before refusalOrder
+ask-first h e = first-of (settings.askRows h e) tt
 
 pub winding-first : (o : List ℤ) (vc : ℕ) (x y : ℤ) → First (windingRows o vc x y) (windingRefusal o vc x y)
 unfolding windingRefusal before refusalOrder

@@ -1,6 +1,7 @@
 -- Request K13, from the contract of `mask_stitch`: whatever it answers and leaves in the lent lists, where it accepts.
 use Prim.Native.Nat.{ℕ, _-_, _*_, _≤_}
-use mathlib.Core.Path.{_≡_, refl, sym, ap, _∙_}
+use mathlib.Core.Bool.{true}
+use mathlib.Core.Path.{_≡_, refl, sym, ap, subst, _∙_}
 use mathlib.Core.List.{List, [], _∷_, _++_, map, flatMap}
 use lib.ListN.{length, take, replicate, length-map}
 use lib.Ieee.{ofBits, lt, le}
@@ -31,6 +32,9 @@ use Rattle.slice.specs.Editions.{Editions, editions, editionSame, editionFault,
 use Rattle.slice.specs.Faults.{sourceKnown, startInside, offsetInside, eachSlice}
 use Rattle.stitch_entries.specs.StitchRows.{startsFault}
 use Rattle.stitch_entries.specs.StitchEntry.{listPart, codePart, numberPart, indexPart, shapeRows, inputRows, editionPart, roomPart, stitchRefusal, lengthsOf, stitchNumber, StitchLeft}
+use Rattle.settings.specs.Settings.{Held, held, countOf, settingAt, known, askedOf}
+use Rattle.named_entries.specs.NamedStitch.{toleranceIn, NamedStitch}
+use Rattle.named_entries.specs.NamedTheorems.{stitch-as-before, accepted-stitch}
 
 -- What a call returned: its loops, which the answer counts, whose vertices and ends are in the lent lists; and behind each of them a chain of the run.
 pub record Returned (excess : ℕ) (g : Given) (r : StitchAnswer) (left : Lists) : Type 0 where
@@ -71,7 +75,7 @@ module _ (g : Given) (doubles : Doubles g) where
         tolerances = tolerances-in g doubles (not-false _ (c .0));
       }
 
--- ---- the theorem
+-- ---- a stitch by tolerances
 
 module _ (g : Given) (e : Editions) (x : Lists) (r : StitchAnswer) (left : Lists) (doubles : Doubles g) (holds : StitchLeft g e x r left) (accepted : r .refusal ≡ 0) where
   number-zero : stitchNumber g e x ≡ 0
@@ -102,17 +106,32 @@ module _ (g : Given) (e : Editions) (x : Lists) (r : StitchAnswer) (left : Lists
         behind = behind;
       }
 
+  within-two-to-minus-23 : Returned (twoToMinus 23) g r left
+  within-two-to-minus-23 = returned (twoToMinus 23) (loops-within g stitch-ranged)
+
+  within-two-to-minus-24 : Returned (twoToMinus 24) g r left
+  within-two-to-minus-24 = returned (twoToMinus 24) (loops-near g stitch-ranged)
+
+  within-size : (n : ℕ) → n ≤ 30 → AllSmall n g → Returned (twoToMinus (54 - n)) g r left
+  within-size n few small = returned (twoToMinus (54 - n)) (loops-sized n few g (ranged-small n g stitch-ranged small))
+
+-- ---- the theorem, of `mask_stitch`, which names a setting
+
+module _ (h : Held) (k : ℕ) (g : Given) (e : Editions) (x : Lists) (r : StitchAnswer) (left : Lists) (doubles : Doubles g) (holds : NamedStitch h k g e x r left) (accepted : r .refusal ≡ 0) where
+  stitched : StitchLeft g e x r left
+  stitched = accepted-stitch h k g e x r left holds accepted
+
   -- "at every join and at the closing, the chosen slice's start differs from the vertex before it [..] by at most the axis tolerance plus 2^-23, on each axis"
   pub joins-within : Returned (twoToMinus 23) g r left
-  joins-within = returned (twoToMinus 23) (loops-within g stitch-ranged)
+  joins-within = within-two-to-minus-23 g e x r left doubles stitched accepted
 
   -- The sharper figure, half of that.
   pub joins-near : Returned (twoToMinus 24) g r left
-  joins-near = returned (twoToMinus 24) (loops-near g stitch-ranged)
+  joins-near = within-two-to-minus-24 g e x r left doubles stitched accepted
 
   -- Where no number that was handed in is above 2^n in magnitude: the axis tolerance plus 2^(n - 54).
   pub joins-sized : (n : ℕ) → n ≤ 30 → AllSmall n g → Returned (twoToMinus (54 - n)) g r left
-  joins-sized n few small = returned (twoToMinus (54 - n)) (loops-sized n few g (ranged-small n g stitch-ranged small))
+  joins-sized n few small = within-size g e x r left doubles stitched accepted n few small
 
 -- ---- no figure is smaller
 
@@ -127,6 +146,21 @@ pub tight-accepted : stitchNumber tight dated lent ≡ 0
 unfolding stitchRefusal firstOf lengthFault sizeFault sourceFault editionFault editionSame eachSlice sourceKnown startInside offsetInside eachTo placesAtMost tolerable tolerableOn allOf within absF ofBits lt le startsFault needOf needFor sumBelow weightAt codesAt
 tight-accepted = refl
 
+-- a record whose first setting has its two tolerances
+abbrev record1 : Held
+record1 = held (1 ∷ []) (tight .tolerance .x ∷ tight .tolerance .y ∷ replicate 46 +0)
+
+record1-known : known (record1 .entered) 1 ≡ true
+unfolding known countOf
+record1-known = refl
+
+record1-tolerances : toleranceIn record1 1 ≡ tight .tolerance
+unfolding askedOf known countOf settingAt
+record1-tolerances = refl
+
+record1-as-before : (x : Lists) (r : StitchAnswer) (left : Lists) → NamedStitch record1 1 tight dated x r left ≡ StitchLeft tight dated x r left
+record1-as-before x r left = stitch-as-before record1 1 (record { one = refl; all = refl }) record1-known tight dated x r left
+
 -- whatever a call of it answers and leaves: the contract itself, with its right-hand sides
 abbrev given : StitchAnswer
 given = answer stitchRefused (stitchNumber tight dated lent) (stitchGiven (roundCount tight) (loopCount tight) (chainCount tight))
@@ -140,9 +174,13 @@ after =
     (answer (λ _. lent .chainHow) (stitchNumber tight dated lent) (roomOf 0 1 (tight .slices) (howItems tight) (lent .chainHow)))
 
 -- So no figure below 2^-24 holds of every accepted call.
-pub none-less : (excess : ℕ) → ((g : Given) (e : Editions) (x : Lists) (r : StitchAnswer) (left : Lists) → Doubles g → StitchLeft g e x r left → r .refusal ≡ 0 → Returned excess g r left) → twoToMinus 24 ≤ excess
+pub none-less : (excess : ℕ)
+    → ((h : Held) (k : ℕ) (g : Given) (e : Editions) (x : Lists) (r : StitchAnswer) (left : Lists) → Doubles g → toleranceIn h k ≡ g .tolerance → NamedStitch h k g e x r left → r .refusal ≡ 0 → Returned excess g r left)
+    → twoToMinus 24 ≤ excess
 unfolding loopCount
-none-less excess h =
+none-less excess f =
     let told : given ≡ stitchGiven (roundCount tight) (loopCount tight) (chainCount tight) = answer-accepted stitchRefused (stitchNumber tight dated lent) _ given refl tight-accepted in
-    let r = h tight dated lent given after tight-doubles (record { answers = refl; room = refl; ends = refl; chain = refl; chainEnds = refl; chainHow = refl }) (ap (λ (a : StitchAnswer). a .refusal) told) in
+    let before : StitchLeft tight dated lent given after = record { answers = refl; room = refl; ends = refl; chain = refl; chainEnds = refl; chainHow = refl } in
+    let now : NamedStitch record1 1 tight dated lent given after = subst (λ (A : Type 0). A) (sym (record1-as-before lent given after)) before in
+    let r = f record1 1 tight dated lent given after tight-doubles record1-tolerances now (ap (λ (a : StitchAnswer). a .refusal) told) in
     first-least excess (r .loops) (sym (r .count) ∙ ap (λ (a : StitchAnswer). a .loops) told ∙ tight-loops) (r .behind)

@@ -16,8 +16,11 @@ use Rattle.stitch_run.specs.Stitch as stitch
 use Rattle.stitch.specs.Lent.{Lists}
 use Rattle.stitch_entries.specs.declared.answer.StitchAnswer.{StitchAnswer}
 use Rattle.stitch_entries.specs.Answers.{stitchRefused}
-use Rattle.stitch_entries.specs.StitchEntry.{lengthsOf, stitchNumber, StitchLeft}
-use Rattle.stitch_entries.specs.Matching.{Matched, never-14, accepted-codes, accepted-edition}
+use Rattle.stitch_entries.specs.StitchEntry.{lengthsOf, stitchNumber}
+use Rattle.stitch_entries.specs.Matching.{Matched, accepted-codes, accepted-edition}
+use Rattle.settings.specs.Settings.{Held}
+use Rattle.named_entries.specs.NamedStitch.{namedStitchRefusal, NamedStitch}
+use Rattle.named_entries.specs.NamedTheorems.{accepted-stitch, never-14}
 use Rattle.mask.specs.Pipeline.{Made, Told, pruneCall, carried, carried-match}
 
 module _ (one : Made 1) (two : Made 2) (same : two .handed .lapAt ≡ one .handed .lapAt) (mode opposing : ℕ) (inside1 inside2 : List ℕ) (known : mode ≤ 3) (choice : opposing ≤ 1)
@@ -31,14 +34,16 @@ module _ (one : Made 1) (two : Made 2) (same : two .handed .lapAt ≡ one .hande
     matched : Matched g (dated (one .edition) (two .edition))
     matched = carried-match one two same mode opposing inside1 inside2 known choice told1 told2 l r left roomy holds g n at
 
-    -- with the editions of when the outlines were cut 14 is never given, whatever else the call has
-    pub same-never-14 : (x : Lists) → stitchNumber g (dated (one .edition) (two .edition)) x ≡ 14 → ⊥
-    same-never-14 x h = never-14 g (dated (one .edition) (two .edition)) (lengthsOf x) matched h
+    -- with the editions of when the outlines were cut 14 is never given, whatever else the call has, and whatever record and setting it names
+    pub same-never-14 : (h : Held) (k : ℕ) (x : Lists) → namedStitchRefusal h k g (dated (one .edition) (two .edition)) (lengthsOf x) ≡ 14 → ⊥
+    same-never-14 h k x q = never-14 h k g (dated (one .edition) (two .edition)) (lengthsOf x) matched q
 
     -- with any editions of the outlines: a slice of an accepted stitch is of an outline that has the edition of when it was cut
-    module _ (first second : ℕ) (x : Lists) (s : StitchAnswer) (y : Lists) (kept : StitchLeft g (dated first second) x s y) (accepted : s .refusal ≡ 0) (i : ℕ) (below : i < g .slices) where
+    module _ (h : Held) (setting first second : ℕ) (x : Lists) (s : StitchAnswer) (y : Lists) (kept : NamedStitch h setting g (dated first second) x s y) (accepted : s .refusal ≡ 0) (i : ℕ)
+        (below : i < g .slices) where
       number : stitchNumber g (dated first second) x ≡ 0
-      number = answer-zero stitchRefused (λ a. a .refusal) (stitchNumber g (dated first second) x) _ s (λ k. refl) (kept .answers) accepted
+      number =
+          answer-zero stitchRefused (λ a. a .refusal) (stitchNumber g (dated first second) x) _ s (λ k. refl) (accepted-stitch h setting g (dated first second) x s y kept accepted .answers) accepted
 
       abbrev source : ℕ
       source = codesAt (g .sliceAt) i .source

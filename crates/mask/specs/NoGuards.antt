@@ -25,9 +25,10 @@ use Rattle.slice.specs.Editions.{Editions}
 use Rattle.stitch_run.specs.Stitch as stitch
 use Rattle.stitch.specs.Lent.{Lists}
 use Rattle.stitch_entries.specs.declared.answer.StitchAnswer.{StitchAnswer}
-use Rattle.stitch_entries.specs.StitchEntry.{StitchLeft}
 use Rattle.stitch_entries.specs.Demand.{chainsIn}
-use Rattle.stitch_entries.specs.DemandTheorems.{stitch-demand}
+use Rattle.settings.specs.Settings.{Held}
+use Rattle.named_entries.specs.NamedStitch.{NamedStitch}
+use Rattle.named_entries.specs.NamedTheorems.{named-demand}
 use Rattle.mask.specs.Accept.{made-pass}
 
 -- ---- a walk: "the segment where a walk began has a cut"
@@ -53,9 +54,9 @@ unfolding flatten
 each-within n [] h = tt
 each-within n (c ∷ l) h = let e = length-append c (flatten l) in (omega (arith, e), each-within n l (omega (arith, e)))
 
--- The chains that an accepted stitch of n slices lists hold each slice once (`stitch-demand`), and a round lists one slice: so no chain takes more than n rounds.
-module _ (g : stitch.Given) (e : Editions) (x : Lists) (r : StitchAnswer) (left : Lists) (holds : StitchLeft g e x r left) (accepted : r .refusal ≡ 0) where
+-- The chains that an accepted stitch of n slices lists hold each slice once (`named-demand`), and a round lists one slice: so no chain takes more than n rounds.
+module _ (h : Held) (k : ℕ) (g : stitch.Given) (e : Editions) (x : Lists) (r : StitchAnswer) (left : Lists) (holds : NamedStitch h k g e x r left) (accepted : r .refusal ≡ 0) where
   pub rounds-at-most : All (λ c. length c ≤ g .slices) (chainsIn (r .chains) left)
   rounds-at-most =
-      let d = stitch-demand g e x r left holds accepted in
+      let d = named-demand h k g e x r left holds accepted in
       each-within (g .slices) (chainsIn (r .chains) left) (le-of-eq (ap length (d .whole) ∙ d .permutation .size))

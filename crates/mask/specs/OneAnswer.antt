@@ -41,8 +41,13 @@ use Rattle.prune_entries.specs.PruneEntry.{PruneLeft}
 use Rattle.stitch_run.specs.Stitch as stitch
 use Rattle.stitch.specs.Lent.{Lists}
 use Rattle.stitch_entries.specs.declared.answer.StitchAnswer.{StitchAnswer}
-use Rattle.stitch_entries.specs.StitchEntry.{StitchLeft}
-use Rattle.area_entries.specs.AreaEntry.{AreaLeft}
+use Rattle.named_entries.specs.NamedStitch.{NamedStitch}
+use Rattle.named_entries.specs.NamedArea.{NamedArea}
+use Rattle.settings.specs.declared.Setting.{Setting}
+use Rattle.settings.specs.Settings.{Held}
+use Rattle.settings_entries.specs.declared.answer.EditionAnswer.{EditionAnswer}
+use Rattle.settings_entries.specs.declared.answer.SettingAnswer.{SettingAnswer}
+use Rattle.settings_entries.specs.SettingsEntry.{EnterLeft, askAnswer}
 use Rattle.straight_entries.specs.declared.answer.WindingAnswer.{WindingAnswer}
 use Rattle.straight_entries.specs.declared.answer.AreaAnswer.{AreaAnswer}
 use Rattle.straight_entries.specs.declared.answer.ReportAnswer.{ReportAnswer}
@@ -111,10 +116,10 @@ prune-one c l r s a b x y = (
   one-answer (a .edition) (b .edition) _ (x .edition) (y .edition),
 )
 
-pub stitch-one : (g : stitch.Given) (e : Editions) (l : Lists) (r s : StitchAnswer) (a b : Lists)
-    → StitchLeft g e l r a → StitchLeft g e l s b
+pub stitch-one : (h : Held) (k : ℕ) (g : stitch.Given) (e : Editions) (l : Lists) (r s : StitchAnswer) (a b : Lists)
+    → NamedStitch h k g e l r a → NamedStitch h k g e l s b
     → (r ≡ s) × (a .room ≡ b .room) × (a .ends ≡ b .ends) × (a .chain ≡ b .chain) × (a .chainEnds ≡ b .chainEnds) × (a .chainHow ≡ b .chainHow)
-stitch-one g e l r s a b x y = (
+stitch-one h k g e l r s a b x y = (
   one-answer r s _ (x .answers) (y .answers),
   one-answer (a .room) (b .room) _ (x .room) (y .room),
   one-answer (a .ends) (b .ends) _ (x .ends) (y .ends),
@@ -123,9 +128,15 @@ stitch-one g e l r s a b x y = (
   one-answer (a .chainHow) (b .chainHow) _ (x .chainHow) (y .chainHow),
 )
 
-pub area-one : (areas : List Float) (loops : ℕ) (limit : Float) (kept : List ℕ) (r s : CountAnswer) (a b : List ℕ)
-    → AreaLeft areas loops limit kept r a → AreaLeft areas loops limit kept s b → (r ≡ s) × (a ≡ b)
-area-one areas loops limit kept r s a b x y = (one-answer r s _ (x .answers) (y .answers), one-answer a b _ (x .list) (y .list))
+pub area-one : (h : Held) (e : ℕ) (areas : List Float) (loops : ℕ) (kept : List ℕ) (r s : CountAnswer) (a b : List ℕ)
+    → NamedArea h e areas loops kept r a → NamedArea h e areas loops kept s b → (r ≡ s) × (a ≡ b)
+area-one h e areas loops kept r s a b x y = (one-answer r s _ (x .answers) (y .answers), one-answer a b _ (x .list) (y .list))
+
+pub enter-one : (h : Held) (s : Setting) (r q : EditionAnswer) (a b : Held) → EnterLeft h s r a → EnterLeft h s q b → (r ≡ q) × (a ≡ b)
+enter-one h s r q a b x y = (one-answer r q _ (x .answers) (y .answers), one-answer a b _ (x .lists) (y .lists))
+
+pub ask-one : (h : Held) (e : ℕ) (r s : SettingAnswer) → r ≡ askAnswer h e → s ≡ askAnswer h e → r ≡ s
+ask-one h e r s p q = one-answer r s (askAnswer h e) p q
 
 pub winding-one : (o : List ℤ) (vc : ℕ) (x y : ℤ) (r s : WindingAnswer) → r ≡ windingAnswer o vc x y → s ≡ windingAnswer o vc x y → r ≡ s
 winding-one o vc x y r s e f = one-answer r s (windingAnswer o vc x y) e f

@@ -25,8 +25,11 @@ use Rattle.stitch_run.specs.Stitch as stitch
 use Rattle.stitch.specs.Lent.{Lists, Long}
 use Rattle.stitch_entries.specs.declared.answer.StitchAnswer.{StitchAnswer}
 use Rattle.stitch_entries.specs.Answers.{stitchRefused}
-use Rattle.stitch_entries.specs.StitchEntry.{stitchNumber, StitchLeft}
+use Rattle.stitch_entries.specs.StitchEntry.{lengthsOf, stitchNumber}
 use Rattle.stitch_entries.specs.Matching.{Matched}
+use Rattle.settings.specs.Settings.{Held}
+use Rattle.named_entries.specs.NamedStitch.{namedStitchRefusal, Holding, NamedStitch}
+use Rattle.named_entries.specs.NamedTheorems.{stitch-number}
 use Rattle.mask.specs.Accept.{made-pass, cands-made, cands-dated, CandsPass, LapsPass, prune-passes, slices-made, slices-dated, slices-matched, stitch-passes}
 
 -- ---- from the candidates to the slices
@@ -126,7 +129,7 @@ module _ (one : Made 1) (two : Made 2) (same : two .handed .lapAt ≡ one .hande
 
     -- what `mask_prune` returns, `mask_stitch` accepts
     module _ (l : slice.Rooms) (r : PruneAnswer) (left : slice.Rooms) (roomy : slice.Roomy (needOf (call .call)) l) (holds : PruneLeft call l r left) where
-      -- what the host hands on: the outlines, as many slices as were counted, their starts
+      -- what the host hands on: the outlines, as many slices as were counted, their starts. It names a setting that has the tolerances
       abbrev pub stitchCall : ℕ → stitch.Given
       stitchCall selector =
           stitch.given (one .handed .outline) (two .handed .outline) (take (codeWidth * r .slices) (left .at)) (take (shapeWidth * r .slices) (left .shape))
@@ -149,8 +152,8 @@ module _ (one : Made 1) (two : Made 2) (same : two .handed .lapAt ≡ one .hande
                 (slices-matched call l r left holds pruned (one .edition) (two .edition) (dated-at one) (dated-at two) (λ j h. getD-replicate (one .handed .laps) j (two .edition) 0 h));
           }
 
-      pub stitch-accepts : (selector : ℕ) (x : Lists) → selector ≤ 1 → Long (stitchCall selector) x → stitchNumber (stitchCall selector) (carried (one .edition) (two .edition)) x ≡ 0
-      stitch-accepts selector x choice long =
+      by-tolerances : (selector : ℕ) (x : Lists) → selector ≤ 1 → Long (stitchCall selector) x → stitchNumber (stitchCall selector) (carried (one .edition) (two .edition)) x ≡ 0
+      by-tolerances selector x choice long =
           stitch-passes (stitchCall selector) (carried (one .edition) (two .edition)) x
           (record {
             whole1 = whole-of one;
@@ -164,8 +167,18 @@ module _ (one : Made 1) (two : Made 2) (same : two .handed .lapAt ≡ one .hande
             long = long;
           })
 
-      -- so a host that goes by the needs never sees a refusal in the middle
-      pub never-refuses : (selector : ℕ) (x : Lists) (s : StitchAnswer) (y : Lists) → selector ≤ 1 → Long (stitchCall selector) x → StitchLeft (stitchCall selector) (carried (one .edition) (two .edition)) x s y
-          → (r .refusal ≡ 0) × (s .refusal ≡ 0)
-      never-refuses selector x s y choice long kept =
-          (pruned, ap (λ (a : StitchAnswer). a .refusal) (answer-accepted stitchRefused (stitchNumber (stitchCall selector) (carried (one .edition) (two .edition)) x) _ s (kept .answers) (stitch-accepts selector x choice long)))
+      -- a record that holds a setting with the tolerances
+      module _ (h : Held) (k : ℕ) (there : Holding h k (one .handed .tolerance)) where
+        pub stitch-accepts : (selector : ℕ) (x : Lists) → selector ≤ 1 → Long (stitchCall selector) x
+            → namedStitchRefusal h k (stitchCall selector) (carried (one .edition) (two .edition)) (lengthsOf x) ≡ 0
+        stitch-accepts selector x choice long =
+            stitch-number h k (there .sized) (there .there) (stitchCall selector) (carried (one .edition) (two .edition)) (lengthsOf x) ∙ by-tolerances selector x choice long
+
+        -- so a host that goes by the needs never sees a refusal in the middle
+        pub never-refuses : (selector : ℕ) (x : Lists) (s : StitchAnswer) (y : Lists) → selector ≤ 1 → Long (stitchCall selector) x
+            → NamedStitch h k (stitchCall selector) (carried (one .edition) (two .edition)) x s y → (r .refusal ≡ 0) × (s .refusal ≡ 0)
+        never-refuses selector x s y choice long kept = (
+          pruned,
+          ap (λ (a : StitchAnswer). a .refusal)
+              (answer-accepted stitchRefused (namedStitchRefusal h k (stitchCall selector) (carried (one .edition) (two .edition)) (lengthsOf x)) _ s (kept .answers) (stitch-accepts selector x choice long)),
+        )

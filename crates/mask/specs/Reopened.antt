@@ -18,7 +18,8 @@ use Rattle.slice.specs.Editions.{Editions, editionOf}
 use Rattle.slice.specs.EditionLaws.{at-edition}
 use Rattle.stitch_run.specs.Stitch.{Given}
 use Rattle.stitch_entries.specs.declared.faults.Lengths.{Lengths}
-use Rattle.stitch_entries.specs.StitchEntry.{stitchRows, stitchRefusal}
+use Rattle.settings.specs.Settings.{Held}
+use Rattle.named_entries.specs.NamedStitch.{namedStitchRows, namedStitchRefusal}
 use Rattle.view.specs.View.{Fit}
 use Rattle.view_entries.specs.declared.input.View.{View}
 use Rattle.view_entries.specs.Inputs.{viewData}
@@ -88,7 +89,7 @@ module _ (g : Given) (e : Editions) (i : ℕ) (re : Reopened g e i) where
   reopened-offset = le-leb (codesAt (g .sliceAt) i .offset) vc (subst (λ (n : ℕ). n ≤ vc) (sym (re .offset)) (fit .reaches))
 
   -- so where each other slice has its own number in order, the stitch is not refused with that number: it does not come of the reopened slice
-  module _ (l : Lengths) (whole : length (g .sliceAt) ≡ codeWidth * g .slices) where
+  module _ (h : Held) (setting : ℕ) (l : Lengths) (whole : length (g .sliceAt) ≡ codeWidth * g .slices) where
     abbrev Others : (ℕ → Type 0) → Type 0
     Others P = (j : ℕ) → j < g .slices → (j ≡ i → ⊥) → P j
 
@@ -104,18 +105,18 @@ module _ (g : Given) (e : Editions) (i : ℕ) (re : Reopened g e i) where
     abbrev Dated : ℕ → Type 0
     Dated j = getD (e .slices) j 0 ≡ editionOf (e .first) (e .second) (codesAt (g .sliceAt) j .source)
 
-    pub never-6 : Others StartIn → stitchRefusal g e l ≡ 6 → ⊥
-    unfolding stitchRefusal
+    pub never-6 : Others StartIn → namedStitchRefusal h setting g e l ≡ 6 → ⊥
+    unfolding namedStitchRefusal
     never-6 others n =
-        not-given 6 (stitchRows g e l) (λ z. omega arith)
+        not-given 6 (namedStitchRows h setting g e l) (λ z. omega arith)
         (ap not (at-slice (g .sliceAt) (g .slices) whole (startInside (g .vc1) (g .vc2)) (with-others StartIn reopened-start others)), tt) n
 
-    pub never-7 : Others OffsetIn → stitchRefusal g e l ≡ 7 → ⊥
-    unfolding stitchRefusal
+    pub never-7 : Others OffsetIn → namedStitchRefusal h setting g e l ≡ 7 → ⊥
+    unfolding namedStitchRefusal
     never-7 others n =
-        not-given 7 (stitchRows g e l) (λ z. omega arith)
+        not-given 7 (namedStitchRows h setting g e l) (λ z. omega arith)
         (ap not (at-slice (g .sliceAt) (g .slices) whole (offsetInside (g .vc1) (g .vc2)) (with-others OffsetIn reopened-offset others)), tt) n
 
-    pub never-14 : Others Dated → stitchRefusal g e l ≡ 14 → ⊥
-    unfolding stitchRefusal
-    never-14 others n = not-given 14 (stitchRows g e l) (λ z. omega arith) (at-edition e (g .sliceAt) (g .slices) whole (with-others Dated reopened-edition others), tt) n
+    pub never-14 : Others Dated → namedStitchRefusal h setting g e l ≡ 14 → ⊥
+    unfolding namedStitchRefusal
+    never-14 others n = not-given 14 (namedStitchRows h setting g e l) (λ z. omega arith) (at-edition e (g .sliceAt) (g .slices) whole (with-others Dated reopened-edition others), tt) n

@@ -3,6 +3,7 @@ pub mod cutting;
 pub mod measuring;
 pub mod pruning;
 pub mod reopening;
+pub mod setting;
 pub mod starting;
 pub mod stitching;
 pub mod viewing;

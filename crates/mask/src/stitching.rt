@@ -1,14 +1,14 @@
-// The stitch and the area pass.
-ghost use Rattle.basis.specs.Number.{toleranceOf};
+// The stitch and the area pass. Each names a setting.
+ghost use Rattle.settings.specs.Settings.{held};
 ghost use Rattle.slice.specs.Editions.{editions};
 ghost use Rattle.stitch_run.specs.Stitch.{given, planOf};
 ghost use Rattle.stitch.specs.Lent.{lists};
-ghost use Rattle.stitch_entries.specs.StitchEntry.{StitchLeft};
-ghost use Rattle.area_entries.specs.AreaEntry.{AreaLeft};
+ghost use Rattle.named_entries.specs.NamedStitch.{toleranceIn, NamedStitch};
+ghost use Rattle.named_entries.specs.NamedArea.{NamedArea};
 use basis::answer::CountAnswer;
 use stitch_entries::answer::StitchAnswer;
 
-// The slices stitched into closed loops. Each slice must have the edition of its outline.
+// The slices stitched into closed loops, by the setting's tolerances. Each slice must have the edition of its outline.
 #[no_mangle]
 pub extern "C" fn mask_stitch(
     outline1: &[f64],
@@ -25,17 +25,18 @@ pub extern "C" fn mask_stitch(
     pline1_overlapping: usize,
     pline2_overlapping: usize,
     selector: u32,
-    tolerance_x: f64,
-    tolerance_y: f64,
+    entered: &[usize],
+    settings: &[f64],
+    setting: usize,
     room: &mut [f64],
     ends: &mut [usize],
     chain: &mut [usize],
     chain_ends: &mut [usize],
     chain_how: &mut [usize],
 ) -> StitchAnswer
-    ensures { λ r. ⌜ StitchLeft (given (now (outline1 .entry)) (now (outline2 .entry)) (now («slice_at» .entry)) (now (slice .entry)) (planOf vc1 vc2 slices (record { pline2 = pline2; «pline1_overlapping» = «pline1_overlapping»; «pline2_overlapping» = «pline2_overlapping» }) selector (toleranceOf «tolerance_x» «tolerance_y»))) (editions edition1 edition2 (now («slice_edition» .entry))) (lists (now (room .entry)) (now (ends .entry)) (now (chain .entry)) (now («chain_ends» .entry)) (now («chain_how» .entry))) r (lists (now (room .exit)) (now (ends .exit)) (now (chain .exit)) (now («chain_ends» .exit)) (now («chain_how» .exit))) ⌝ }
+    ensures { λ r. ⌜ NamedStitch (held (now (entered .entry)) (now (settings .entry))) setting (given (now (outline1 .entry)) (now (outline2 .entry)) (now («slice_at» .entry)) (now (slice .entry)) (planOf vc1 vc2 slices (record { pline2 = pline2; «pline1_overlapping» = «pline1_overlapping»; «pline2_overlapping» = «pline2_overlapping» }) selector (toleranceIn (held (now (entered .entry)) (now (settings .entry))) setting))) (editions edition1 edition2 (now («slice_edition» .entry))) (lists (now (room .entry)) (now (ends .entry)) (now (chain .entry)) (now («chain_ends» .entry)) (now («chain_how» .entry))) r (lists (now (room .exit)) (now (ends .exit)) (now (chain .exit)) (now («chain_ends» .exit)) (now («chain_how» .exit))) ⌝ }
 {
-    stitch_entries::stitching::entry(
+    named_entries::stitching::entry(
         outline1,
         vc1,
         edition1,
@@ -50,8 +51,9 @@ pub extern "C" fn mask_stitch(
         pline1_overlapping,
         pline2_overlapping,
         selector,
-        tolerance_x,
-        tolerance_y,
+        entered,
+        settings,
+        setting,
         room,
         ends,
         chain,
@@ -60,15 +62,17 @@ pub extern "C" fn mask_stitch(
     )
 }
 
-// The numbers of the loops whose area is not below the limit, in order.
+// The numbers of the loops whose area is not below the setting's limit, in order.
 #[no_mangle]
 pub extern "C" fn mask_area_pass(
     areas: &[f64],
     loops: usize,
-    limit: f64,
+    entered: &[usize],
+    settings: &[f64],
+    setting: usize,
     kept: &mut [usize],
 ) -> CountAnswer
-    ensures { λ r. ⌜ AreaLeft (now (areas .entry)) loops limit (now (kept .entry)) r (now (kept .exit)) ⌝ }
+    ensures { λ r. ⌜ NamedArea (held (now (entered .entry)) (now (settings .entry))) setting (now (areas .entry)) loops (now (kept .entry)) r (now (kept .exit)) ⌝ }
 {
-    area_entries::areas::entry(areas, loops, limit, kept)
+    named_entries::areas::entry(areas, loops, entered, settings, setting, kept)
 }

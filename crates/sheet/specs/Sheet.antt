@@ -35,8 +35,9 @@ use Rattle.stitch.specs.Lent.{Lists}
 use Rattle.stitch_entries.specs.declared.answer.StitchAnswer.{StitchAnswer}
 use Rattle.stitch_entries.specs.Answers.{stitchRefused}
 use Rattle.stitch_entries.specs.StitchRows.{lengths}
-use Rattle.stitch_entries.specs.StitchEntry.{StitchLeft}
 use Rattle.stitch_entries.specs.Matching.{Matched, baseRefusal}
+use Rattle.settings.specs.Settings.{Held}
+use Rattle.named_entries.specs.NamedStitch.{Holding, NamedStitch}
 
 -- ---- what a case says
 
@@ -118,12 +119,13 @@ Answers (candidatesAre g splits numbers) =
 Answers (verticesAre o vc v n) = (viewVertexAnswer o vc v (n - 1) .found ≡ 1) × (viewVertexAnswer o vc v n .found ≡ 0)
 -- `mask_prune`
 Answers (slicesAre c p) = (l : slice.Rooms) (r : PruneAnswer) (left : slice.Rooms) → SliceRooms c l → PruneLeft c l r left → r ≡ pruneGiven p
--- `mask_stitch`
+-- `mask_stitch`, whatever record holds a setting with the tolerances
 Answers (loopsAre g rounds ends loops room) =
-    (e : Editions) (x : Lists) (r : StitchAnswer) (left : Lists) → Matched g e → LoopRooms g room x → StitchLeft g e x r left
+    (h : Held) (k : ℕ) (e : Editions) (x : Lists) (r : StitchAnswer) (left : Lists) → Holding h k (g .tolerance) → Matched g e → LoopRooms g room x → NamedStitch h k g e x r left
     → (r .refusal ≡ 0) × (r .rounds ≡ rounds) × (r .loops ≡ length ends) × (take (length ends) (left .ends) ≡ ends) × (take (length loops) (left .room) ≡ loops)
 Answers (refusedWith g room number) =
-    (e : Editions) (x : Lists) (r : StitchAnswer) (left : Lists) → Matched g e → LoopRooms g room x → StitchLeft g e x r left → (r ≡ stitchRefused number) × Untouched x left
+    (h : Held) (k : ℕ) (e : Editions) (x : Lists) (r : StitchAnswer) (left : Lists) → Holding h k (g .tolerance) → Matched g e → LoopRooms g room x → NamedStitch h k g e x r left
+    → (r ≡ stitchRefused number) × Untouched x left
 -- `mask_create_on_single_segment`: there is a view between the two
 Answers (apartInBox o vc i a b t) = singleAnswer o vc i a (posOf b) t .found ≡ 1
 

@@ -2,6 +2,7 @@
 use crate::corners;
 use crate::print;
 use crate::squares;
+use mask::setting;
 use select::class::Starts;
 
 // The slices of a mode, as they stay: A's first candidate is inside B, B's second inside A. Says where their classes start.
@@ -56,7 +57,7 @@ fn prune(
     answer.starts
 }
 
-// Stitches slices of the two squares and says what came of it: the rounds, and the loop where there is one.
+// Stitches slices of the two squares by a setting with this tolerance on both axes, and says what came of it: the rounds, and the loop where there is one.
 pub(crate) fn stitch(
     slice_at: &[usize],
     slice: &[f64],
@@ -73,6 +74,15 @@ pub(crate) fn stitch(
     let mut chain = [0usize; 2];
     let mut chain_ends = [0usize; 2];
     let mut chain_how = [0usize; 2];
+    let mut entered = [0usize; 1];
+    let mut settings = [0.0; 48];
+    let setting = setting::mask_settings_enter(
+        &mut entered,
+        &mut settings,
+        tolerance,
+        tolerance,
+        0.0,
+    );
     print::word(b"; room for ");
     print::whole(room.len() / 3);
     print::word(b": ");
@@ -91,8 +101,9 @@ pub(crate) fn stitch(
         starts.pline1_overlapping,
         starts.pline2_overlapping,
         selector,
-        tolerance,
-        tolerance,
+        &entered,
+        &settings,
+        setting.edition,
         room,
         &mut ends,
         &mut chain,

@@ -58,12 +58,15 @@ lengthsOf x = lengths (length (x .room)) (length (x .ends)) (length (x .chain)) 
 abbrev pub stitchNumber : Given → Editions → Lists → ℕ
 stitchNumber g e x = stitchRefusal g e (lengthsOf x)
 
--- The answer, and each lent list at exit: by the room rule where the call is accepted, untouched where it is refused. Editions stand in the number alone: what an accepted
--- call answers and leaves does not depend on them
-pub record StitchLeft (g : Given) (e : Editions) (x : Lists) (r : StitchAnswer) (left : Lists) : Type 0 where
-  pub answers : r ≡ answer stitchRefused (stitchNumber g e x) (stitchGiven (roundCount g) (loopCount g) (chainCount g))
-  pub room : left .room ≡ answer (λ _. x .room) (stitchNumber g e x) (roomOf +0 3 (needOf (g .sliceAt) (g .slices)) (roomItems g) (x .room))
-  pub ends : left .ends ≡ answer (λ _. x .ends) (stitchNumber g e x) (roomOf 0 1 (g .slices) (endItems g) (x .ends))
-  pub chain : left .chain ≡ answer (λ _. x .chain) (stitchNumber g e x) (roomOf 0 1 (g .slices) (chainItems g) (x .chain))
-  pub chainEnds : left .chainEnds ≡ answer (λ _. x .chainEnds) (stitchNumber g e x) (roomOf 0 1 (g .slices) (chainEndItems g) (x .chainEnds))
-  pub chainHow : left .chainHow ≡ answer (λ _. x .chainHow) (stitchNumber g e x) (roomOf 0 1 (g .slices) (howItems g) (x .chainHow))
+-- The answer to a call with this number, and each lent list at exit: by the room rule where the call is accepted, untouched where it is refused. Editions stand in the number alone:
+-- what an accepted call answers and leaves does not depend on them
+pub record StitchBy (number : ℕ) (g : Given) (x : Lists) (r : StitchAnswer) (left : Lists) : Type 0 where
+  pub answers : r ≡ answer stitchRefused number (stitchGiven (roundCount g) (loopCount g) (chainCount g))
+  pub room : left .room ≡ answer (λ _. x .room) number (roomOf +0 3 (needOf (g .sliceAt) (g .slices)) (roomItems g) (x .room))
+  pub ends : left .ends ≡ answer (λ _. x .ends) number (roomOf 0 1 (g .slices) (endItems g) (x .ends))
+  pub chain : left .chain ≡ answer (λ _. x .chain) number (roomOf 0 1 (g .slices) (chainItems g) (x .chain))
+  pub chainEnds : left .chainEnds ≡ answer (λ _. x .chainEnds) number (roomOf 0 1 (g .slices) (chainEndItems g) (x .chainEnds))
+  pub chainHow : left .chainHow ≡ answer (λ _. x .chainHow) number (roomOf 0 1 (g .slices) (howItems g) (x .chainHow))
+
+abbrev pub StitchLeft : Given → Editions → Lists → StitchAnswer → Lists → Type 0
+StitchLeft g e x r left = StitchBy (stitchNumber g e x) g x r left

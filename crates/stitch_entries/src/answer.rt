@@ -11,7 +11,7 @@ pub struct StitchAnswer {
     pub chains: usize,
 }
 
-pub(crate) fn stitch_refused(number: u32) -> StitchAnswer
+pub fn stitch_refused(number: u32) -> StitchAnswer
     ensures { λ r. ⌜ r ≡ stitchRefused number ⌝ }
 {
     StitchAnswer {

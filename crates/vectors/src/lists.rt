@@ -175,6 +175,13 @@ fn left_chains(
         && words::left_counts(w, c4, chain_how, left4)
 }
 
+// The list of a record with one setting. Any numbers are some setting.
+fn set_one(settings: &mut [f64; 48], tolerance: f64, limit: f64) {
+    settings[0] = tolerance;
+    settings[1] = tolerance;
+    settings[2] = limit;
+}
+
 pub(crate) fn stitch(
     w: &[usize],
     x: &[f64],
@@ -198,6 +205,9 @@ pub(crate) fn stitch(
     let end = words::behind(w, chain_how);
     let r = words::from(w, slices);
     let zeros = [0u32; 1792];
+    let entered = [1usize];
+    let mut settings = [0.0; 48];
+    set_one(&mut settings, words::float_after(x, slices, 5), 0.0);
     let answer = mask::stitching::mask_stitch(
         words::numbers(w, x, 1),
         words::at(w, vc1),
@@ -213,8 +223,9 @@ pub(crate) fn stitch(
         words::at(r, 2),
         words::at(r, 3),
         words::code_at(r, 4),
-        words::float_after(x, slices, 5),
-        words::float_after(x, slices, 5),
+        &entered,
+        &settings,
+        1,
         words::lent_numbers(w, x1, room),
         words::lent_counts(w, c1, ends),
         words::lent_counts(w, c2, chain),
@@ -231,10 +242,15 @@ pub(crate) fn area_pass(w: &[usize], x: &[f64], c1: &mut [usize]) -> bool {
     let loops = words::behind(w, 1);
     let kept = words::after(w, loops, 2);
     let end = words::behind(w, kept);
+    let entered = [1usize];
+    let mut settings = [0.0; 48];
+    set_one(&mut settings, 1.0, words::float_after(x, loops, 1));
     let answer = mask::stitching::mask_area_pass(
         words::numbers(w, x, 1),
         words::at(w, loops),
-        words::float_after(x, loops, 1),
+        &entered,
+        &settings,
+        1,
         words::lent_counts(w, c1, kept),
     );
     is_count_answer(words::from(w, end), answer.refusal, answer.count)

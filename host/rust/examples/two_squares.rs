@@ -1,8 +1,8 @@
 //! The two squares of document 01's sheet: their union, intersection and differences.
 
 use mask_tools::{
-    Intersection, Intersections, Masks, Mode, Outline, Overlaps, Point, Refusal, StraightHost,
-    Tolerance,
+    Intersection, Intersections, Masks, Mode, Outline, Overlaps, Point, Refusal, Setting, Settings,
+    StraightHost, Tolerance,
 };
 
 fn main() -> Result<(), Refusal> {
@@ -13,17 +13,21 @@ fn main() -> Result<(), Refusal> {
         start_index2,
         point: Point::new(x, y),
     };
-    let masks = Masks {
-        pline1: &a,
-        pline2: &b,
-        intersections: &Intersections::from([crossing(1, 0, 4.0, 2.0), crossing(2, 3, 2.0, 4.0)]),
-        overlaps: &Overlaps::new(),
+    let mut settings = Settings::new();
+    let edition = settings.enter(Setting {
         // Finer in elevation. `Tolerance::new(t)` is the same on both axes.
         tolerance: Tolerance {
             x: 1.0 / 1024.0,
             y: 1.0 / 4096.0,
         },
-        area_limit: Some(0.001),
+        area_limit: 0.001,
+    })?;
+    let masks = Masks {
+        pline1: &a,
+        pline2: &b,
+        intersections: &Intersections::from([crossing(1, 0, 4.0, 2.0), crossing(2, 3, 2.0, 4.0)]),
+        overlaps: &Overlaps::new(),
+        setting: settings.named(edition),
     };
     for mode in Mode::ALL {
         println!("{mode:?}");

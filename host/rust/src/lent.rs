@@ -10,8 +10,8 @@
 
 use crate::ffi;
 use crate::{
-    Candidates, Intersections, Mode, Outline, Overlaps, Refusal, Selector, Slices, Source, Splits,
-    Starts, Tolerance, View,
+    Candidates, Intersections, Mode, Named, Outline, Overlaps, Refusal, Selector, Slices, Source,
+    Splits, Starts, Tolerance, View,
 };
 
 /// Writes all vertices of a view, and gives their number, [`View::vertex_count`].
@@ -219,9 +219,10 @@ pub fn stitch(
     pline2: &Outline,
     slices: &Slices,
     selector: Selector,
-    tolerance: Tolerance,
+    setting: Named<'_>,
     room: StitchRoom<'_>,
 ) -> Result<StitchCounts, Refusal> {
+    let (entered, settings) = setting.settings.lists();
     let answer = ffi::stitch(
         pline1.numbers(),
         pline1.vertex_count(),
@@ -237,8 +238,9 @@ pub fn stitch(
         slices.starts.pline1_overlapping,
         slices.starts.pline2_overlapping,
         selector.code(),
-        tolerance.x,
-        tolerance.y,
+        entered,
+        settings,
+        setting.edition,
         room.room,
         room.ends,
         room.chain,
@@ -253,10 +255,11 @@ pub fn stitch(
     Refusal::check(answer.refusal, counts)
 }
 
-/// Writes the numbers of the loops whose area, whatever its sign, is not less than `limit`, and gives
-/// their number.
+/// Writes the numbers of the loops whose area, whatever its sign, is not less than the setting's
+/// limit, and gives their number.
 /// Room: one for each area.
-pub fn area_pass(areas: &[f64], limit: f64, kept: &mut [usize]) -> Result<usize, Refusal> {
-    let answer = ffi::area_pass(areas, areas.len(), limit, kept);
+pub fn area_pass(areas: &[f64], setting: Named<'_>, kept: &mut [usize]) -> Result<usize, Refusal> {
+    let (entered, settings) = setting.settings.lists();
+    let answer = ffi::area_pass(areas, areas.len(), entered, settings, setting.edition, kept);
     Refusal::check(answer.refusal, answer.count)
 }

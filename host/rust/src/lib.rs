@@ -14,8 +14,8 @@
 //!
 //! ```
 //! use mask_tools::{
-//!     Intersection, Intersections, Masks, Mode, Outline, Overlaps, Point, StraightHost,
-//!     Tolerance,
+//!     Intersection, Intersections, Masks, Mode, Outline, Overlaps, Point, Setting, Settings,
+//!     StraightHost, Tolerance,
 //! };
 //!
 //! # fn main() -> Result<(), mask_tools::Refusal> {
@@ -27,13 +27,19 @@
 //!     point: Point::new(x, y),
 //! };
 //!
+//! // The tolerances and the area limit, in a record that the operators extend.
+//! let mut settings = Settings::new();
+//! let edition = settings.enter(Setting {
+//!     tolerance: Tolerance::new(1.0 / 1024.0),
+//!     area_limit: 0.0,
+//! })?;
+//!
 //! let masks = Masks {
 //!     pline1: &a,
 //!     pline2: &b,
 //!     intersections: &Intersections::from([crossing(1, 0, 4.0, 2.0), crossing(2, 3, 2.0, 4.0)]),
 //!     overlaps: &Overlaps::new(),
-//!     tolerance: Tolerance::new(1.0 / 1024.0),
-//!     area_limit: None,
+//!     setting: settings.named(edition),
 //! };
 //!
 //! let both = masks.combine(Mode::Intersection, &mut StraightHost)?;
@@ -58,7 +64,7 @@
 //! 3. [`candidates`]: the parts between the cuts, and what the host tests of each.
 //! 4. [`prune`]: which of them stay, as slices.
 //! 5. [`stitch`]: the loops that the slices make.
-//! 6. [`area_pass`]: which loops are not below an area limit.
+//! 6. [`area_pass`]: which loops are not below the area limit.
 //!
 //! [`View`] has the entries over a single part of an outline. [`lent`] has the calls that write
 //! lists with room that the caller lends.
@@ -78,7 +84,7 @@
 //!
 //! ```
 //! use mask_tools::{Intersection, Intersections, Masks, Mode, Outline, Overlaps, Point, Refusal};
-//! use mask_tools::{Source, StraightHost, Tolerance, Vertex};
+//! use mask_tools::{Setting, Settings, Source, StraightHost, Tolerance, Vertex};
 //!
 //! # fn main() -> Result<(), mask_tools::Refusal> {
 //! let a = Outline::straight(&[(0.0, 0.0), (4.0, 0.0), (4.0, 4.0), (0.0, 4.0)]);
@@ -90,14 +96,16 @@
 //! # };
 //! # let crossings = Intersections::from([crossing(1, 0, 4.0, 2.0), crossing(2, 3, 2.0, 4.0)]);
 //! # let no_overlaps = Overlaps::new();
+//! # let mut settings = Settings::new();
+//! # let tolerance = Tolerance::new(1.0 / 1024.0);
+//! # let edition = settings.enter(Setting { tolerance, area_limit: 0.0 })?;
 //! let masks = Masks {
 //!     pline1: &a,
 //!     pline2: &b,
 //!     // ..
 //! #     intersections: &crossings,
 //! #     overlaps: &no_overlaps,
-//! #     tolerance: Tolerance::new(1.0 / 1024.0),
-//! #     area_limit: None,
+//! #     setting: settings.named(edition),
 //! };
 //! let of_a = masks.answered(Source::Pline1, &mut StraightHost)?;
 //! let of_b = masks.answered(Source::Pline2, &mut StraightHost)?;
@@ -120,6 +128,11 @@
 //!
 //! [`WholeOutline`] is an outline without arcs whose coordinates are whole numbers. Its winding
 //! number and its area are exact, and so is [`straight_report`], which totals many of them.
+//!
+//! # Settings by edition
+//!
+//! [`Settings`] is a record of up to 16 settings, which is extended and never overwritten. A stitch
+//! and an area pass name the edition that they use ([`Settings::named`]).
 //!
 //! # Masks that do not meet
 //!
@@ -154,6 +167,7 @@ mod list;
 mod masks;
 mod outline;
 mod refusal;
+mod settings;
 mod slices;
 mod start;
 mod stitch;
@@ -170,6 +184,7 @@ pub use list::{Iter, List};
 pub use masks::{Combined, Masks};
 pub use outline::{Outline, Source, Tolerance};
 pub use refusal::Refusal;
+pub use settings::{Named, Setting, Settings};
 pub use slices::{prune, Answered, Mode, Slice, Slices};
 pub use start::{slice_span, Place, Span};
 pub use stitch::{area_pass, stitch, Chain, ChainEnd, Selector, Stitched};

@@ -2,7 +2,7 @@
 
 use crate::{
     area_pass, candidates, cut_order, prune, split_cuts, stitch, Answered, Host, Intersections,
-    Mode, Outline, Overlaps, Refusal, Slices, Source, Stitched, Tolerance, Vertex,
+    Mode, Named, Outline, Overlaps, Refusal, Slices, Source, Stitched, Vertex,
 };
 
 /// Two masks, and where their outlines meet.
@@ -16,10 +16,9 @@ pub struct Masks<'a> {
     pub intersections: &'a Intersections,
     /// Where they run on each other.
     pub overlaps: &'a Overlaps,
-    /// How near two points lie that count as one, on each axis.
-    pub tolerance: Tolerance,
-    /// Loops whose area is less than this, in magnitude, are left out. None keeps all loops.
-    pub area_limit: Option<f64>,
+    /// How near two points lie that count as one, and the area below which a loop is left out: an
+    /// edition of a record of settings.
+    pub setting: Named<'a>,
 }
 
 /// What two masks were made into.
@@ -50,8 +49,8 @@ impl Masks<'_> {
         !self.intersections.is_empty() || !self.overlaps.is_empty()
     }
 
-    /// Cuts both outlines, asks the host, prunes, stitches, and takes the area pass where there
-    /// is a limit. The first call that is refused ends it. Overlaps of another edition of outline 2
+    /// Cuts both outlines, asks the host, prunes, stitches, and takes the area pass, all by one
+    /// setting. The first call that is refused ends it. Overlaps of another edition of outline 2
     /// are refused with [`Refusal::Edition`].
     pub fn combine<H: Host + ?Sized>(&self, mode: Mode, host: &mut H) -> Result<Combined, Refusal> {
         let answered1 = self.answered(Source::Pline1, host)?;
@@ -67,7 +66,8 @@ impl Masks<'_> {
         host: &mut H,
     ) -> Result<Answered, Refusal> {
         let outline = self.outline(source);
-        let (hits, laps, t) = (self.intersections, self.overlaps, self.tolerance);
+        let (hits, laps) = (self.intersections, self.overlaps);
+        let t = self.setting.ask()?.tolerance;
         let cuts = cut_order(outline, source, hits, laps, t)?;
         let splits = split_cuts(outline, &cuts, host)?;
         let candidates = candidates(outline, source, hits, laps, &splits, t)?;
@@ -97,7 +97,7 @@ impl Masks<'_> {
             self.pline2,
             &slices,
             mode.selector(),
-            self.tolerance,
+            self.setting,
         )?;
         let kept = self.kept(&stitched, host)?;
         Ok(Combined {
@@ -114,13 +114,8 @@ impl Masks<'_> {
         stitched: &Stitched,
         host: &mut H,
     ) -> Result<Vec<usize>, Refusal> {
-        match self.area_limit {
-            None => Ok((0..stitched.loop_count()).collect()),
-            Some(limit) => {
-                let areas: Vec<f64> = stitched.loops().map(|lp| host.area(lp)).collect();
-                area_pass(&areas, limit)
-            }
-        }
+        let areas: Vec<f64> = stitched.loops().map(|lp| host.area(lp)).collect();
+        area_pass(&areas, self.setting)
     }
 
     fn outline(&self, source: Source) -> &Outline {
@@ -135,8 +130,8 @@ impl Masks<'_> {
 mod tests {
     use super::*;
     use crate::ffi::standin::{told, Call, Lent, Reply};
-    use crate::ffi::{CountAnswer, PruneAnswer, StitchAnswer};
-    use crate::{Intersection, Point, Probe, Split, StraightHost};
+    use crate::ffi::{CountAnswer, PruneAnswer, SettingAnswer, StitchAnswer};
+    use crate::{Intersection, Point, Probe, Settings, Split, StraightHost};
 
     /// A host whose inside answers are told, and that writes down what was asked.
     struct Told {
@@ -174,6 +169,16 @@ mod tests {
         CountAnswer { refusal: 0, count }
     }
 
+    /// The setting that is named.
+    fn asked() -> Reply {
+        Reply::of(SettingAnswer {
+            refusal: 0,
+            tolerance_x: 0.5,
+            tolerance_y: 0.25,
+            area_limit: 3.0,
+        })
+    }
+
     /// One cut on the segment.
     fn cuts(segment: usize) -> Reply {
         Reply::writing(count(1), vec![vec![segment, 0, 0]], vec![vec![4.0, 2.0]])
@@ -203,10 +208,17 @@ mod tests {
         Reply::writing(answer, vec![vec![3], vec![0], vec![1], vec![0]], vec![])
     }
 
+    /// The loops that are kept.
+    fn passed(kept: &[usize]) -> Reply {
+        Reply::writing(count(kept.len()), vec![kept.to_vec()], vec![])
+    }
+
     fn steps() -> Vec<Reply> {
         vec![
+            asked(),
             cuts(1),
             candidates(11.0, 8),
+            asked(),
             cuts(0),
             candidates(22.0, 9),
             pruned(),
@@ -214,19 +226,15 @@ mod tests {
         ]
     }
 
-    fn combine(
-        replies: Vec<Reply>,
-        area_limit: Option<f64>,
-        host: &mut Told,
-    ) -> (Result<Combined, Refusal>, Vec<Call>) {
+    fn combine(replies: Vec<Reply>, host: &mut Told) -> (Result<Combined, Refusal>, Vec<Call>) {
+        let settings = Settings::new();
         let masks = Masks {
             pline1: &Outline::straight(&[(0.0, 0.0), (4.0, 0.0), (4.0, 4.0), (0.0, 4.0)])
                 .with_edition(2),
             pline2: &Outline::straight(&[(2.0, 2.0), (6.0, 2.0), (6.0, 6.0)]).with_edition(3),
             intersections: &Intersections::from([Intersection::default()]),
             overlaps: &Overlaps::new(),
-            tolerance: Tolerance { x: 0.5, y: 0.25 },
-            area_limit,
+            setting: settings.named(5),
         };
         told(replies, || masks.combine(Mode::FirstMinusSecond, host))
     }
@@ -234,7 +242,16 @@ mod tests {
     #[test]
     fn the_steps_and_what_each_lends_to_the_next() {
         let mut host = host(1.0);
-        let (combined, calls) = combine(steps(), None, &mut host);
+        let mut replies = steps();
+        replies.push(passed(&[0]));
+        let (combined, mut calls) = combine(replies, &mut host);
+        for at in [0, 2] {
+            let ask = calls.remove(at);
+            assert_eq!(ask.entry, "settings_ask");
+            assert_eq!(ask.lent("edition"), Lent::Count(5));
+            assert_eq!(calls[at].lent("tolerance_x"), Lent::Number(0.5));
+            assert_eq!(calls[at].lent("tolerance_y"), Lent::Number(0.25));
+        }
         let entries: Vec<&str> = calls.iter().map(|call| call.entry).collect();
         let expected = [
             "cut_order",
@@ -243,6 +260,7 @@ mod tests {
             "candidates",
             "prune",
             "stitch",
+            "area_pass",
         ];
         assert_eq!(entries, expected);
         assert_eq!(calls[0].lent("source"), Lent::Code(1));
@@ -285,8 +303,8 @@ mod tests {
         let stitch = &calls[5];
         assert_eq!(stitch.lent("slice_at"), Lent::Counts(vec![2, 0, 1, 2]));
         assert_eq!(stitch.lent("selector"), Lent::Code(1));
-        assert_eq!(stitch.lent("tolerance_x"), Lent::Number(0.5));
-        assert_eq!(stitch.lent("tolerance_y"), Lent::Number(0.25));
+        assert_eq!(stitch.lent("setting"), Lent::Count(5));
+        assert_eq!(calls[6].lent("setting"), Lent::Count(5));
 
         let combined = combined.unwrap();
         assert_eq!(combined.kept, [0]);
@@ -294,14 +312,13 @@ mod tests {
     }
 
     #[test]
-    fn the_area_pass_is_taken_where_there_is_a_limit() {
-        for (kept, loops) in [(vec![], 0), (vec![0], 1)] {
+    fn the_area_pass_says_which_loops_stay() {
+        for (kept, loops) in [(&[][..], 0), (&[0], 1)] {
             let mut replies = steps();
-            replies.push(Reply::writing(count(kept.len()), vec![kept], vec![]));
-            let (combined, calls) = combine(replies, Some(3.0), &mut host(-2.5));
-            assert_eq!(calls[6].entry, "area_pass");
-            assert_eq!(calls[6].lent("areas"), Lent::Numbers(vec![-2.5]));
-            assert_eq!(calls[6].lent("limit"), Lent::Number(3.0));
+            replies.push(passed(kept));
+            let (combined, calls) = combine(replies, &mut host(-2.5));
+            assert_eq!(calls[8].entry, "area_pass");
+            assert_eq!(calls[8].lent("areas"), Lent::Numbers(vec![-2.5]));
             let combined = combined.unwrap();
             assert_eq!(combined.loops().count(), loops);
             assert_eq!(combined.stitched.loop_count(), 1);
@@ -310,25 +327,29 @@ mod tests {
 
     #[test]
     fn a_late_outline_is_told_by_the_stitch() {
-        let mut replies: Vec<Reply> = steps().into_iter().take(5).collect();
+        let mut replies: Vec<Reply> = steps().into_iter().take(7).collect();
         replies.push(Reply::of(StitchAnswer {
             refusal: 14,
             ..StitchAnswer::default()
         }));
-        let (combined, _) = combine(replies, None, &mut host(1.0));
+        let (combined, _) = combine(replies, &mut host(1.0));
         assert_eq!(combined, Err(Refusal::Edition));
     }
 
     #[test]
     fn the_first_refusal_ends_it() {
-        for made in 0..6 {
+        for made in 0..9 {
             let mut replies: Vec<Reply> = steps().into_iter().take(made).collect();
             replies.push(match made {
-                4 => Reply::of(PruneAnswer {
+                0 | 3 => Reply::of(SettingAnswer {
+                    refusal: 5,
+                    ..SettingAnswer::default()
+                }),
+                6 => Reply::of(PruneAnswer {
                     refusal: 5,
                     ..PruneAnswer::default()
                 }),
-                5 => Reply::of(StitchAnswer {
+                7 => Reply::of(StitchAnswer {
                     refusal: 5,
                     ..StitchAnswer::default()
                 }),
@@ -337,7 +358,7 @@ mod tests {
                     count: 0,
                 }),
             });
-            let (combined, calls) = combine(replies, None, &mut host(1.0));
+            let (combined, calls) = combine(replies, &mut host(1.0));
             assert_eq!(combined, Err(Refusal::Number));
             assert_eq!(calls.len(), made + 1);
         }

@@ -44,6 +44,10 @@ pub enum Refusal {
     Edition,
     /// 15: on an open outline the start index is above the end index.
     Backward,
+    /// 16: no setting was entered under the edition.
+    UnknownSetting,
+    /// 17: the record has its 16 settings.
+    SettingsFull,
     /// 18: a whole coordinate is out of range.
     Range,
     /// 19: a report has more than 4,096 outlines.
@@ -69,6 +73,8 @@ impl Refusal {
             9 => Refusal::Room,
             14 => Refusal::Edition,
             15 => Refusal::Backward,
+            16 => Refusal::UnknownSetting,
+            17 => Refusal::SettingsFull,
             18 => Refusal::Range,
             19 => Refusal::Loops,
             other => Refusal::Other(other),
@@ -102,6 +108,8 @@ impl Refusal {
             Refusal::Room => (9, "lent room is smaller than the need"),
             Refusal::Edition => (14, "a slice is of another edition than its outline"),
             Refusal::Backward => (15, "an open outline's start index is above its end index"),
+            Refusal::UnknownSetting => (16, "no setting was entered under the edition"),
+            Refusal::SettingsFull => (17, "the record has its 16 settings"),
             Refusal::Range => (18, "a whole coordinate is out of range"),
             Refusal::Loops => (19, "too many outlines in a report"),
             Refusal::Other(number) => (number, "a reason that this wrapper does not know"),
@@ -136,7 +144,7 @@ mod tests {
         for number in 1..=40 {
             let refusal = Refusal::from_number(number).unwrap();
             assert_eq!(refusal.number(), number);
-            let known = number <= 9 || [14, 15, 18, 19].contains(&number);
+            let known = number <= 9 || (14..=19).contains(&number);
             assert_eq!(matches!(refusal, Refusal::Other(_)), !known);
         }
     }
@@ -144,7 +152,7 @@ mod tests {
     #[test]
     fn every_refusal_has_a_sentence_of_its_own() {
         let mut sentences: Vec<String> = (1..=11)
-            .chain([14, 15, 18, 19])
+            .chain(14..=19)
             .map(|number| Refusal::from_number(number).unwrap().to_string())
             .collect();
         assert_eq!(
@@ -157,7 +165,7 @@ mod tests {
         );
         sentences.sort();
         sentences.dedup();
-        assert_eq!(sentences.len(), 15);
+        assert_eq!(sentences.len(), 17);
     }
 
     #[test]

@@ -3,7 +3,7 @@
 use crate::ffi;
 use crate::lent::{self, StitchRoom};
 use crate::slices::MOST_SLICES;
-use crate::{Outline, Refusal, Slice, Slices, Tolerance, Vertex};
+use crate::{Named, Outline, Refusal, Slice, Slices, Vertex};
 
 /// The most vertices of an outline.
 pub(crate) const MOST_VERTICES: usize = 1024;
@@ -118,13 +118,16 @@ fn part<'a, T>(list: &'a [T], ends: &[usize], index: usize) -> Option<&'a [T]> {
 
 /// The loops that the slices of two outlines make. Each slice must be of its outline's edition.
 ///
-/// Refusals: `Length`, `Outline`, `Tolerance`, `Number`, `Index`, `Count`, `Starts`, `Edition`.
+/// The tolerances are those of the setting.
+///
+/// Refusals: `Length`, `Outline`, `UnknownSetting`, `Tolerance`, `Number`, `Index`, `Count`,
+/// `Starts`, `Edition`.
 pub fn stitch(
     pline1: &Outline,
     pline2: &Outline,
     slices: &Slices,
     selector: Selector,
-    tolerance: Tolerance,
+    setting: Named<'_>,
 ) -> Result<Stitched, Refusal> {
     let count = slices.len().min(MOST_SLICES);
     let mut vertices = vec![0.0; 3 * room_for_vertices(slices)];
@@ -139,7 +142,7 @@ pub fn stitch(
         chain_ends: &mut chain_ends,
         chain_how: &mut chain_how,
     };
-    let counts = lent::stitch(pline1, pline2, slices, selector, tolerance, room)?;
+    let counts = lent::stitch(pline1, pline2, slices, selector, setting, room)?;
     ends.truncate(counts.loops);
     vertices.truncate(3 * ends.last().copied().unwrap_or(0));
     chain_ends.truncate(counts.chains);
@@ -167,17 +170,13 @@ fn out_of_range(slice: Slice) -> bool {
     slice.view.end_index_offset > MOST_VERTICES
 }
 
-/// The numbers of the loops whose area is not less than `limit`, whatever its sign: loops that run
-/// clockwise are measured as others are. The library takes at most 1,792 areas.
+/// The numbers of the loops whose area is not less than the setting's limit, whatever its sign: loops
+/// that run clockwise are measured as others are. The library takes at most 1,792 areas.
 ///
-/// Refusals: `Length`, `Tolerance`, `Number`.
-///
-/// ```
-/// assert_eq!(mask_tools::area_pass(&[2.0, 0.5, -1.0], 1.0), Ok(vec![0, 2]));
-/// ```
-pub fn area_pass(areas: &[f64], limit: f64) -> Result<Vec<usize>, Refusal> {
+/// Refusals: `Length`, `UnknownSetting`, `Tolerance`, `Number`.
+pub fn area_pass(areas: &[f64], setting: Named<'_>) -> Result<Vec<usize>, Refusal> {
     let mut kept = vec![0; areas.len().min(MOST_SLICES)];
-    let count = lent::area_pass(areas, limit, &mut kept)?;
+    let count = lent::area_pass(areas, setting, &mut kept)?;
     kept.truncate(count);
     Ok(kept)
 }
@@ -187,9 +186,7 @@ mod tests {
     use super::*;
     use crate::ffi::standin::{told, Lent, Reply};
     use crate::ffi::{CountAnswer, StitchAnswer};
-    use crate::{Source, Starts, View};
-
-    const T: Tolerance = Tolerance { x: 0.25, y: 0.125 };
+    use crate::{Settings, Source, Starts, View};
 
     fn outline() -> Outline {
         Outline::straight(&[(0.0, 0.0), (1.0, 0.0), (1.0, 1.0)])
@@ -212,6 +209,17 @@ mod tests {
                 pline2_overlapping: 3,
             },
         }
+    }
+
+    fn stitch_empty(slices: &Slices) -> Result<Stitched, Refusal> {
+        let settings = Settings::new();
+        stitch(
+            &outline(),
+            &outline(),
+            slices,
+            Selector::OrAnd,
+            settings.named(1),
+        )
     }
 
     fn refused(refusal: u32) -> Reply {
@@ -242,8 +250,15 @@ mod tests {
         );
         let slices = slices(&[0, 1, 2, 3, 0]);
         let (first, second) = (outline().with_edition(u32::MAX), outline().with_edition(6));
+        let settings = Settings::new();
         let (found, calls) = told([reply], || {
-            stitch(&first, &second, &slices, Selector::NotXor, T)
+            stitch(
+                &first,
+                &second,
+                &slices,
+                Selector::NotXor,
+                settings.named(7),
+            )
         });
         let found = found.unwrap();
         assert_eq!((found.rounds(), found.loop_count()), (5, 2));
@@ -275,6 +290,9 @@ mod tests {
         assert_eq!(call.lent("pline1_overlapping"), Lent::Count(2));
         assert_eq!(call.lent("pline2_overlapping"), Lent::Count(3));
         assert_eq!(call.lent("selector"), Lent::Code(1));
+        assert_eq!(call.lent("entered"), Lent::Counts(vec![0]));
+        assert_eq!(call.lent("settings"), Lent::Numbers(vec![0.0; 48]));
+        assert_eq!(call.lent("setting"), Lent::Count(7));
         assert_eq!(call.lent("room"), Lent::Room(3 * (1 + 1 + 2 + 3 + 4 + 1)));
         for list in ["ends", "chain", "chain_ends", "chain_how"] {
             assert_eq!(call.lent(list), Lent::Room(5));
@@ -290,7 +308,7 @@ mod tests {
         };
         let writes = vec![vec![], vec![0], vec![1], vec![2]];
         let (found, _) = told([Reply::writing(answer, writes, vec![])], || {
-            stitch(&outline(), &outline(), &slices(&[0]), Selector::OrAnd, T)
+            stitch_empty(&slices(&[0]))
         });
         let found = found.unwrap();
         assert_eq!(found.loops().count(), 0);
@@ -307,9 +325,7 @@ mod tests {
         let cases = [(1, many), (7, vec![0, usize::MAX]), (7, vec![1025])];
         for (number, offsets) in cases {
             let slices = slices(&offsets);
-            let (found, calls) = told([refused(number)], || {
-                stitch(&outline(), &outline(), &slices, Selector::OrAnd, T)
-            });
+            let (found, calls) = told([refused(number)], || stitch_empty(&slices));
             assert_eq!(found, Err(Refusal::from_number(number).unwrap()));
             assert_eq!(calls[0].lent("room"), Lent::Room(0));
         }
@@ -320,10 +336,8 @@ mod tests {
 
     #[test]
     fn every_refusal_comes_through() {
-        for number in 1..=14 {
-            let (found, _) = told([refused(number)], || {
-                stitch(&outline(), &outline(), &slices(&[]), Selector::OrAnd, T)
-            });
+        for number in 1..=17 {
+            let (found, _) = told([refused(number)], || stitch_empty(&slices(&[])));
             assert_eq!(found.map_err(Refusal::number), Err(number));
         }
     }
@@ -341,12 +355,15 @@ mod tests {
             count: 2,
         };
         let reply = Reply::writing(answer, vec![vec![0, 2]], vec![]);
-        let (kept, calls) = told([reply], || area_pass(&[3.0, 1.0, 4.0], 2.0));
+        let settings = Settings::new();
+        let (kept, calls) = told([reply], || area_pass(&[3.0, 1.0, 4.0], settings.named(2)));
         assert_eq!(kept, Ok(vec![0, 2]));
         let call = &calls[0];
         assert_eq!(call.lent("areas"), Lent::Numbers(vec![3.0, 1.0, 4.0]));
         assert_eq!(call.lent("loops"), Lent::Count(3));
-        assert_eq!(call.lent("limit"), Lent::Number(2.0));
+        assert_eq!(call.lent("entered"), Lent::Counts(vec![0]));
+        assert_eq!(call.lent("settings"), Lent::Numbers(vec![0.0; 48]));
+        assert_eq!(call.lent("setting"), Lent::Count(2));
         assert_eq!(call.lent("kept"), Lent::Room(3));
     }
 }

@@ -184,6 +184,24 @@ pub struct ReportAnswer {
     pub low: u64,
 }
 
+/// `mask_edition_answer`
+#[repr(C)]
+#[derive(Debug, Clone, Copy, Default)]
+pub struct EditionAnswer {
+    pub refusal: u32,
+    pub edition: usize,
+}
+
+/// `mask_setting_answer`
+#[repr(C)]
+#[derive(Debug, Clone, Copy, Default)]
+pub struct SettingAnswer {
+    pub refusal: u32,
+    pub tolerance_x: f64,
+    pub tolerance_y: f64,
+    pub area_limit: f64,
+}
+
 #[cfg(not(test))]
 pub use entries::*;
 
@@ -196,9 +214,9 @@ pub use entries::*;
 #[cfg(not(test))]
 mod entries {
     use super::{
-        AreaAnswer, CountAnswer, Point, PruneAnswer, ReopenAnswer, ReportAnswer, SpanAnswer, Split,
-        StitchAnswer, UnmovedAnswer, VerdictAnswer, Vertex, VertexAnswer, View, ViewAnswer,
-        WindingAnswer,
+        AreaAnswer, CountAnswer, EditionAnswer, Point, PruneAnswer, ReopenAnswer, ReportAnswer,
+        SettingAnswer, SpanAnswer, Split, StitchAnswer, UnmovedAnswer, VerdictAnswer, Vertex,
+        VertexAnswer, View, ViewAnswer, WindingAnswer,
     };
 
     extern "C" {
@@ -435,8 +453,11 @@ mod entries {
             pline1_overlapping: usize,
             pline2_overlapping: usize,
             selector: u32,
-            tolerance_x: f64,
-            tolerance_y: f64,
+            entered: *const usize,
+            entered_len: usize,
+            settings: *const f64,
+            settings_len: usize,
+            setting: usize,
             room: *mut f64,
             room_len: usize,
             ends: *mut usize,
@@ -453,7 +474,11 @@ mod entries {
             areas: *const f64,
             areas_len: usize,
             loops: usize,
-            limit: f64,
+            entered: *const usize,
+            entered_len: usize,
+            settings: *const f64,
+            settings_len: usize,
+            setting: usize,
             kept: *mut usize,
             kept_len: usize,
         ) -> CountAnswer;
@@ -476,6 +501,24 @@ mod entries {
             ends_len: usize,
             loops: usize,
         ) -> ReportAnswer;
+
+        pub fn mask_settings_enter(
+            entered: *mut usize,
+            entered_len: usize,
+            settings: *mut f64,
+            settings_len: usize,
+            tolerance_x: f64,
+            tolerance_y: f64,
+            area_limit: f64,
+        ) -> EditionAnswer;
+
+        pub fn mask_settings_ask(
+            entered: *const usize,
+            entered_len: usize,
+            settings: *const f64,
+            settings_len: usize,
+            edition: usize,
+        ) -> SettingAnswer;
     }
 
     #[inline]
@@ -921,8 +964,9 @@ mod entries {
         pline1_overlapping: usize,
         pline2_overlapping: usize,
         selector: u32,
-        tolerance_x: f64,
-        tolerance_y: f64,
+        entered: &[usize],
+        settings: &[f64],
+        setting: usize,
         room: &mut [f64],
         ends: &mut [usize],
         chain: &mut [usize],
@@ -952,8 +996,11 @@ mod entries {
                 pline1_overlapping,
                 pline2_overlapping,
                 selector,
-                tolerance_x,
-                tolerance_y,
+                entered.as_ptr(),
+                entered.len(),
+                settings.as_ptr(),
+                settings.len(),
+                setting,
                 room.as_mut_ptr(),
                 room.len(),
                 ends.as_mut_ptr(),
@@ -969,7 +1016,14 @@ mod entries {
     }
 
     #[inline]
-    pub fn area_pass(areas: &[f64], loops: usize, limit: f64, kept: &mut [usize]) -> CountAnswer {
+    pub fn area_pass(
+        areas: &[f64],
+        loops: usize,
+        entered: &[usize],
+        settings: &[f64],
+        setting: usize,
+        kept: &mut [usize],
+    ) -> CountAnswer {
         // SAFETY: each pointer and length are those of one slice; the one that is written is
         // `&mut`, so nothing shares it.
         unsafe {
@@ -977,7 +1031,11 @@ mod entries {
                 areas.as_ptr(),
                 areas.len(),
                 loops,
-                limit,
+                entered.as_ptr(),
+                entered.len(),
+                settings.as_ptr(),
+                settings.len(),
+                setting,
                 kept.as_mut_ptr(),
                 kept.len(),
             )
@@ -1006,6 +1064,43 @@ mod entries {
                 ends.as_ptr(),
                 ends.len(),
                 loops,
+            )
+        }
+    }
+
+    #[inline]
+    pub fn settings_enter(
+        entered: &mut [usize],
+        settings: &mut [f64],
+        tolerance_x: f64,
+        tolerance_y: f64,
+        area_limit: f64,
+    ) -> EditionAnswer {
+        // SAFETY: each pointer and length are those of one slice; both are `&mut`, so nothing
+        // shares them.
+        unsafe {
+            mask_settings_enter(
+                entered.as_mut_ptr(),
+                entered.len(),
+                settings.as_mut_ptr(),
+                settings.len(),
+                tolerance_x,
+                tolerance_y,
+                area_limit,
+            )
+        }
+    }
+
+    #[inline]
+    pub fn settings_ask(entered: &[usize], settings: &[f64], edition: usize) -> SettingAnswer {
+        // SAFETY: each pointer and length are those of one slice, and both are only read.
+        unsafe {
+            mask_settings_ask(
+                entered.as_ptr(),
+                entered.len(),
+                settings.as_ptr(),
+                settings.len(),
+                edition,
             )
         }
     }

@@ -2,8 +2,9 @@
 //! parameters of each function, the number of each code. No compiler compares the two.
 
 use super::{
-    AreaAnswer, CountAnswer, PruneAnswer, ReopenAnswer, ReportAnswer, SpanAnswer, StitchAnswer,
-    UnmovedAnswer, VerdictAnswer, VertexAnswer, View, ViewAnswer, WindingAnswer,
+    AreaAnswer, CountAnswer, EditionAnswer, PruneAnswer, ReopenAnswer, ReportAnswer, SettingAnswer,
+    SpanAnswer, StitchAnswer, UnmovedAnswer, VerdictAnswer, VertexAnswer, View, ViewAnswer,
+    WindingAnswer,
 };
 use crate::cuts::MOST_CUTS;
 use crate::slices::MOST_SLICES;
@@ -173,6 +174,14 @@ fn structs_lie_as_in_the_header() {
             "mask_report_answer",
             layout_here!(ReportAnswer: refusal, count, zero, high, low),
         ),
+        (
+            "mask_edition_answer",
+            layout_here!(EditionAnswer: refusal, edition),
+        ),
+        (
+            "mask_setting_answer",
+            layout_here!(SettingAnswer: refusal, tolerance_x, tolerance_y, area_limit),
+        ),
     ];
     for (name, here) in here {
         assert_eq!(layout(name), here, "{name}");
@@ -264,7 +273,7 @@ fn bound() -> Vec<Function> {
 fn functions_are_declared_in_the_header() {
     let declared = declared();
     let bound = bound();
-    assert_eq!(bound.len(), 19);
+    assert_eq!(bound.len(), 21);
     for here in bound {
         let there = declared.iter().find(|there| there.0 == here.0);
         assert_eq!(there, Some(&here));
@@ -307,7 +316,7 @@ fn assert_codes(name: &str, prefix: &str, here: impl IntoIterator<Item = (String
 #[test]
 fn codes_are_those_of_the_header() {
     let refusals = (1..=9)
-        .chain([14, 15, 18, 19])
+        .chain(14..=19)
         .map(|n| (header_name(Refusal::from_number(n).unwrap()), n));
     assert_codes("mask_refusal", "MASK_REFUSED_", refusals);
     let modes = Mode::ALL.map(|mode| (header_name(mode), mode.code()));

@@ -4,8 +4,9 @@
 //! `tests` show.
 
 use super::{
-    AreaAnswer, CountAnswer, PruneAnswer, ReopenAnswer, ReportAnswer, SpanAnswer, StitchAnswer,
-    UnmovedAnswer, VerdictAnswer, VertexAnswer, View, ViewAnswer, WindingAnswer,
+    AreaAnswer, CountAnswer, EditionAnswer, PruneAnswer, ReopenAnswer, ReportAnswer, SettingAnswer,
+    SpanAnswer, StitchAnswer, UnmovedAnswer, VerdictAnswer, VertexAnswer, View, ViewAnswer,
+    WindingAnswer,
 };
 use crate::{Point, Split, Vertex};
 use std::cell::RefCell;
@@ -163,7 +164,9 @@ answers!(
     Stitch StitchAnswer,
     Winding WindingAnswer,
     Area AreaAnswer,
-    Report ReportAnswer
+    Report ReportAnswer,
+    Edition EditionAnswer,
+    Setting SettingAnswer
 );
 
 macro_rules! lent_as {
@@ -213,6 +216,7 @@ pub(crate) mod entries {
     use super::{play, play_all, Call, Lent};
     use super::{CountAnswer, PruneAnswer, StitchAnswer, VerdictAnswer, VertexAnswer, ViewAnswer};
     use super::{AreaAnswer, Point, ReportAnswer, SpanAnswer, Split, Vertex, View, WindingAnswer};
+    use super::{EditionAnswer, SettingAnswer};
     use super::{ReopenAnswer, UnmovedAnswer};
 
     pub(crate) fn view_vertex(outline: &[f64], vc: usize, view: View, index: usize) -> VertexAnswer {
@@ -336,20 +340,22 @@ pub(crate) mod entries {
         outline1: &[f64], vc1: usize, edition1: u32, outline2: &[f64], vc2: usize, edition2: u32,
         slice_at: &[usize], slice: &[f64], slice_edition: &[u32], slices: usize,
         pline2: usize, pline1_overlapping: usize, pline2_overlapping: usize,
-        selector: u32, tolerance_x: f64, tolerance_y: f64,
+        selector: u32, entered: &[usize], settings: &[f64], setting: usize,
         room: &mut [f64], ends: &mut [usize], chain: &mut [usize], chain_ends: &mut [usize],
         chain_how: &mut [usize],
     ) -> StitchAnswer {
         let call = call!(stitch: outline1, vc1, edition1, outline2, vc2, edition2, slice_at, slice,
-            slice_edition, slices, pline2, pline1_overlapping, pline2_overlapping, selector,
-            tolerance_x, tolerance_y; room, ends, chain, chain_ends, chain_how);
+            slice_edition, slices, pline2, pline1_overlapping, pline2_overlapping, selector, entered,
+            settings, setting; room, ends, chain, chain_ends, chain_how);
         play(call, &mut [ends, chain, chain_ends, chain_how], &mut [room]).into()
     }
 
     pub(crate) fn area_pass(
-        areas: &[f64], loops: usize, limit: f64, kept: &mut [usize],
+        areas: &[f64], loops: usize, entered: &[usize], settings: &[f64], setting: usize,
+        kept: &mut [usize],
     ) -> CountAnswer {
-        play(call!(area_pass: areas, loops, limit; kept), &mut [kept], &mut []).into()
+        let call = call!(area_pass: areas, loops, entered, settings, setting; kept);
+        play(call, &mut [kept], &mut []).into()
     }
 
     pub(crate) fn straight_winding(outline: &[i64], vc: usize, x: i64, y: i64) -> WindingAnswer {
@@ -362,5 +368,19 @@ pub(crate) mod entries {
 
     pub(crate) fn straight_report(points: &[i64], ends: &[usize], loops: usize) -> ReportAnswer {
         play(call!(straight_report: points, ends, loops;), &mut [], &mut []).into()
+    }
+
+    pub(crate) fn settings_enter(
+        entered: &mut [usize], settings: &mut [f64],
+        tolerance_x: f64, tolerance_y: f64, area_limit: f64,
+    ) -> EditionAnswer {
+        let call = call!(settings_enter: tolerance_x, tolerance_y, area_limit; entered, settings);
+        play(call, &mut [entered], &mut [settings]).into()
+    }
+
+    pub(crate) fn settings_ask(
+        entered: &[usize], settings: &[f64], edition: usize,
+    ) -> SettingAnswer {
+        play(call!(settings_ask: entered, settings, edition;), &mut [], &mut []).into()
     }
 }

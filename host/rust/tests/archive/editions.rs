@@ -130,7 +130,7 @@ fn what_an_outline_is_not_asked_for_may_be_old() {
         },
     };
     let selector = Mode::Union.selector();
-    let t = crate::shapes::T;
+    let t = crate::shapes::plain();
     let late = moved(&a, 0, 1.0, 1.0);
     let found = stitch(&late, &b, &slices, selector, t).unwrap();
     assert_eq!(found.loop_count(), 1);
@@ -234,7 +234,7 @@ fn slices_all_unmoved_need_not_make_the_new_union() {
     });
     slices.list = reopened.collect();
     let selector = Mode::Union.selector();
-    let from_old = stitch(&late, &b, &slices, selector, old.tolerance).unwrap();
+    let from_old = stitch(&late, &b, &slices, selector, old.setting).unwrap();
     assert!(from_old.loops().eq(before.loops()));
 
     let new_hits = crossings(&late, &b);

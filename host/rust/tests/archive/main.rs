@@ -4,6 +4,7 @@ mod editions;
 mod masks;
 mod random;
 mod refusals;
+mod settings;
 mod shapes;
 mod sheet;
 mod starts;

@@ -1,7 +1,8 @@
 //! Unions, intersections and differences of two masks: crossings, holes, overlaps, no contact.
 
 use crate::shapes::{
-    a, area, b, combine, hits, loops_from_least, masks, positions, reversed, total_area, FINE, T,
+    a, area, b, combine, hits, loops_from_least, masks, named, positions, reversed, total_area,
+    FINE, T,
 };
 use mask_tools::{
     ChainEnd, Combined, Host, Intersections, Masks, Mode, Outline, Overlap, Overlaps, Point, Probe,
@@ -121,7 +122,7 @@ fn the_area_limit_leaves_small_loops_out_and_keeps_holes() {
     let laps = Overlaps::new();
     let kept = |mode, limit| {
         let masks = Masks {
-            area_limit: Some(limit),
+            setting: named(T, limit),
             ..masks(&cup, &bar, &hits, &laps)
         };
         let found = masks.combine(mode, &mut StraightHost).unwrap();
@@ -201,8 +202,7 @@ fn combine_overlapping(other: &Outline, overlap: Overlap, mode: Mode) -> Combine
         pline2: other,
         intersections: &Intersections::new(),
         overlaps: &Overlaps::from([overlap]),
-        tolerance: T,
-        area_limit: Some(1e-6),
+        setting: named(T, 1e-6),
     };
     masks.combine(mode, &mut StraightHost).unwrap()
 }
@@ -329,8 +329,7 @@ fn two_circles() {
     ]);
     let laps = Overlaps::new();
     let masks = Masks {
-        tolerance: FINE,
-        area_limit: Some(1e-6),
+        setting: named(FINE, 1e-6),
         ..masks(&c1, &c2, &hits, &laps)
     };
     let lens = 2.0 * std::f64::consts::FRAC_PI_3 - high;
@@ -374,7 +373,7 @@ fn a_broken_host_is_refused() {
     let answered1 = masks.answered(Source::Pline1, &mut StraightHost).unwrap();
     let answered2 = masks.answered(Source::Pline2, &mut StraightHost).unwrap();
     let limited = Masks {
-        area_limit: Some(1.0),
+        setting: named(T, 1.0),
         ..masks
     };
     let found = limited.combine_answered(Mode::Union, [&answered1, &answered2], &mut Broken);

@@ -1,6 +1,8 @@
 //! Drawn masks: what must hold of any union, intersection and difference. The seed is fixed.
 
-use crate::shapes::{area, combine, covered, crossings, masks, reversed, total_area, Draw, FINE};
+use crate::shapes::{
+    area, combine, covered, crossings, finely, masks, named, reversed, total_area, Draw, FINE,
+};
 use mask_tools::{ChainEnd, Combined, Masks, Mode, Outline, Overlaps, StraightHost, Vertex};
 use std::f64::consts::TAU;
 
@@ -149,11 +151,11 @@ fn the_area_limit_drops_what_is_below_it() {
         let limit = draw.between(0.0, 3.0);
         let laps = Overlaps::new();
         let all = Masks {
-            tolerance: FINE,
+            setting: finely(),
             ..masks(&pline1, &pline2, &hits, &laps)
         };
         let limited = Masks {
-            area_limit: Some(limit),
+            setting: named(FINE, limit),
             ..all
         };
         for mode in Mode::ALL {

@@ -1,6 +1,6 @@
 //! Every refusal that can be reached through the crate's types, of every function.
 
-use crate::shapes::{a, b, hit, hits, T};
+use crate::shapes::{a, b, hit, hits, named, plain, T};
 use mask_tools::{
     area_pass, candidates, cut_order, lent, prune, split_cuts, stitch, Answered, Candidate,
     Candidates, CutSplit, Intersection, Intersections, OnSegment, Outline, Overlap, Overlaps,
@@ -497,7 +497,7 @@ fn of_stitch() {
     let stitched = |pline1: &Outline, pline2: &Outline, slices: &Slices, t| {
         stitch(pline1, pline2, slices, Selector::OrAnd, t).map(|_| ())
     };
-    let (a, b, t) = (a(), b(), T);
+    let (a, b, t) = (a(), b(), plain());
     assert_eq!(stitched(&a, &b, &slices(view(), 1792), t), Ok(()));
     let found = stitched(&a, &b, &slices(view(), 1793), t);
     assert_eq!(found, Err(Refusal::Length));
@@ -512,9 +512,18 @@ fn of_stitch() {
         assert_eq!(stitched(&a, &outline, &slices(view(), 1), t), Err(refusal));
     }
     for t in bad_tolerances() {
-        let found = stitched(&a, &b, &slices(view(), 1), t);
+        let found = stitched(&a, &b, &slices(view(), 1), named(t, 0.0));
         assert_eq!(found, Err(Refusal::Tolerance));
     }
+    for edition in [0, 2, usize::MAX] {
+        let unknown = plain().settings.named(edition);
+        let found = stitched(&a, &b, &slices(view(), 1), unknown);
+        assert_eq!(found, Err(Refusal::UnknownSetting));
+        let found = stitched(&a, &b, &slices(view(), 1793), unknown);
+        assert_eq!(found, Err(Refusal::Length));
+    }
+    let any_limit = named(T, f64::NAN);
+    assert_eq!(stitched(&a, &b, &slices(view(), 1), any_limit), Ok(()));
     for x in BAD_NUMBERS {
         let bad = slices(
             View {
@@ -559,18 +568,21 @@ fn of_stitch() {
 
 #[test]
 fn of_area_pass() {
-    assert_eq!(
-        area_pass(&[0.0; 1792], 0.0).map(|kept| kept.len()),
-        Ok(1792)
-    );
-    assert_eq!(area_pass(&[0.0; 1793], 0.0), Err(Refusal::Length));
+    let most = area_pass(&[0.0; 1792], plain());
+    assert_eq!(most.map(|kept| kept.len()), Ok(1792));
+    assert_eq!(area_pass(&[0.0; 1793], plain()), Err(Refusal::Length));
     for limit in [-1.0, f64::NAN, f64::INFINITY] {
-        assert_eq!(area_pass(&[1.0], limit), Err(Refusal::Tolerance));
+        let found = area_pass(&[1.0], named(T, limit));
+        assert_eq!(found, Err(Refusal::Tolerance));
     }
     for area in [f64::NAN, f64::INFINITY] {
-        assert_eq!(area_pass(&[1.0, area], 0.0), Err(Refusal::Number));
+        assert_eq!(area_pass(&[1.0, area], plain()), Err(Refusal::Number));
+        let unknown = plain().settings.named(2);
+        assert_eq!(area_pass(&[area], unknown), Err(Refusal::UnknownSetting));
     }
-    assert_eq!(area_pass(&[TOO_LARGE, -1.0], 0.0), Ok(vec![0, 1]));
+    assert_eq!(area_pass(&[TOO_LARGE, -1.0], plain()), Ok(vec![0, 1]));
+    let any_tolerance = named(Tolerance::new(f64::NAN), 2.0);
+    assert_eq!(area_pass(&[1.0, -2.0], any_tolerance), Ok(vec![1]));
 }
 
 #[test]
@@ -578,7 +590,7 @@ fn of_room_that_is_lent() {
     let (hits, laps) = (hits(), Overlaps::new());
     let mut kept = [7; 2];
     assert_eq!(
-        lent::area_pass(&[1.0; 3], 0.0, &mut kept),
+        lent::area_pass(&[1.0; 3], plain(), &mut kept),
         Err(Refusal::Room)
     );
     assert_eq!(kept, [7; 2]);
@@ -631,7 +643,7 @@ fn of_an_edition_in_its_place() {
             chain_ends: &mut chain_ends,
             chain_how: &mut chain_how,
         };
-        let found = lent::stitch(&a(), &b(), slices, Selector::OrAnd, T, lent);
+        let found = lent::stitch(&a(), &b(), slices, Selector::OrAnd, plain(), lent);
         if found.is_err() {
             assert!(room.iter().all(|x| *x == 7.0));
             assert_eq!([ends, chain, chain_ends, chain_how], [[7]; 4]);
@@ -675,34 +687,34 @@ fn the_lowest_number_first() {
         &b(),
         &bad,
         Selector::NotXor,
-        Tolerance::new(0.0),
+        named(Tolerance::new(0.0), 0.0),
     );
     assert_eq!(found, Err(Refusal::Outline));
-    let found = stitch(&a(), &b(), &bad, Selector::NotXor, Tolerance::new(0.0));
+    let bad_tolerance = named(Tolerance::new(0.0), 0.0);
+    let found = stitch(&a(), &b(), &bad, Selector::NotXor, bad_tolerance);
     assert_eq!(found, Err(Refusal::Tolerance));
-    let found = stitch(&a(), &b(), &bad, Selector::NotXor, T);
+    let found = stitch(&a(), &b(), &bad, Selector::NotXor, plain());
     assert_eq!(found, Err(Refusal::Index));
 }
 
 #[test]
 fn a_whole_run_gives_the_refusal_of_its_first_call() {
-    let run = |pline1: &Outline, hits: &Intersections, t: f64, area_limit| {
+    let run = |pline1: &Outline, hits: &Intersections, t: f64, area_limit: f64| {
         let masks = Masks {
             pline1,
             pline2: &b(),
             intersections: hits,
             overlaps: &Overlaps::new(),
-            tolerance: Tolerance::new(t),
-            area_limit,
+            setting: named(Tolerance::new(t), area_limit),
         };
         let host: &mut dyn Host = &mut StraightHost;
         masks.combine(Mode::Union, host).err()
     };
     let t = T.x;
-    assert_eq!(run(&a(), &hits(), t, None), None);
-    assert_eq!(run(&line_of(1), &hits(), t, None), Some(Refusal::Outline));
-    assert_eq!(run(&a(), &hits(), 2.0, None), Some(Refusal::Tolerance));
+    assert_eq!(run(&a(), &hits(), t, 0.0), None);
+    assert_eq!(run(&line_of(1), &hits(), t, 0.0), Some(Refusal::Outline));
+    assert_eq!(run(&a(), &hits(), 2.0, 0.0), Some(Refusal::Tolerance));
     let far = Intersections::from([hit(1, 0, 4.0, 2.0), hit(2, 9, 2.0, 4.0)]);
-    assert_eq!(run(&a(), &far, t, None), Some(Refusal::Index));
-    assert_eq!(run(&a(), &hits(), t, Some(-1.0)), Some(Refusal::Tolerance));
+    assert_eq!(run(&a(), &far, t, 0.0), Some(Refusal::Index));
+    assert_eq!(run(&a(), &hits(), t, -1.0), Some(Refusal::Tolerance));
 }

@@ -1,8 +1,8 @@
 //! Outlines for the tests, where straight ones cross, and drawn numbers.
 
 use mask_tools::{
-    Combined, Host, Intersection, Intersections, Masks, Mode, Outline, Overlaps, Point, Probe,
-    Source, StraightHost, Tolerance, Vertex,
+    Combined, Host, Intersection, Intersections, Masks, Mode, Named, Outline, Overlaps, Point,
+    Probe, Settings, Source, StraightHost, Tolerance, Vertex,
 };
 
 /// The tolerance of document 01's sheet.
@@ -10,6 +10,37 @@ pub const T: Tolerance = Tolerance::new(1.0 / 1024.0);
 
 /// A tolerance for drawn masks: they come nearer to each other than `T` by chance.
 pub const FINE: Tolerance = Tolerance::new(1e-9);
+
+/// A record with one setting, as it may come from a file: any numbers are some setting.
+pub fn record(tolerance: Tolerance, area_limit: f64) -> Settings {
+    let mut bytes = [0; Settings::BYTES];
+    bytes[0] = 1;
+    let numbers = [tolerance.x, tolerance.y, area_limit];
+    for (place, number) in bytes[8..].chunks_exact_mut(8).zip(numbers) {
+        place.copy_from_slice(&number.to_le_bytes());
+    }
+    Settings::from_bytes(&bytes)
+}
+
+/// Its setting, with a record that lives as long as the tests.
+pub fn named(tolerance: Tolerance, area_limit: f64) -> Named<'static> {
+    Box::leak(Box::new(record(tolerance, area_limit))).named(1)
+}
+
+thread_local! {
+    static PLAIN: Named<'static> = named(T, 0.0);
+    static FINELY: Named<'static> = named(FINE, 0.0);
+}
+
+/// A setting that has the tolerance `T` and keeps all loops.
+pub fn plain() -> Named<'static> {
+    PLAIN.with(|setting| *setting)
+}
+
+/// The same with `FINE`.
+pub fn finely() -> Named<'static> {
+    FINELY.with(|setting| *setting)
+}
 
 /// Square A of document 01's sheet.
 pub fn a() -> Outline {
@@ -34,7 +65,7 @@ pub fn hits() -> Intersections {
     Intersections::from([hit(1, 0, 4.0, 2.0), hit(2, 3, 2.0, 4.0)])
 }
 
-/// Two masks without overlaps and without an area limit.
+/// Two masks without overlaps, by the plain setting.
 pub fn masks<'a>(
     pline1: &'a Outline,
     pline2: &'a Outline,
@@ -46,8 +77,7 @@ pub fn masks<'a>(
         pline2,
         intersections,
         overlaps,
-        tolerance: T,
-        area_limit: None,
+        setting: plain(),
     }
 }
 
@@ -55,7 +85,7 @@ pub fn masks<'a>(
 pub fn combine(pline1: &Outline, pline2: &Outline, mode: Mode) -> Combined {
     let (crossings, no_overlaps) = (crossings(pline1, pline2), Overlaps::new());
     let masks = Masks {
-        tolerance: FINE,
+        setting: finely(),
         ..masks(pline1, pline2, &crossings, &no_overlaps)
     };
     masks

@@ -1,6 +1,6 @@
 //! The sheet of two squares of document 01, T1 to T10.
 
-use crate::shapes::{a, b, hit, hits, masks, positions, T};
+use crate::shapes::{a, b, hit, hits, masks, named, plain, positions, T};
 use mask_tools::{
     area_pass, candidates, cut_order, lent, split_cuts, stitch, Chain, ChainEnd, Combined,
     Intersections, Mode, Outline, Overlaps, Point, Refusal, Selector, Slice, Slices, Source,
@@ -130,12 +130,12 @@ fn t7_one_cut_inside_a_segment() {
 #[test]
 fn t8_no_slices() {
     for selector in [Selector::OrAnd, Selector::NotXor] {
-        let none = stitch(&a(), &b(), &Slices::default(), selector, T).unwrap();
+        let none = stitch(&a(), &b(), &Slices::default(), selector, plain()).unwrap();
         assert_eq!(none, Stitched::default());
         assert_eq!(none.loops().count() + none.chains().count(), 0);
     }
     assert_eq!(lent::vertices_needed(&Slices::default()), 0);
-    assert_eq!(area_pass(&[], 0.0), Ok(vec![]));
+    assert_eq!(area_pass(&[], plain()), Ok(vec![]));
 }
 
 /// A union of the sheet with so many numbers of room for vertices, all 7 before the call.
@@ -151,7 +151,7 @@ fn union_with_room(numbers: usize) -> (Result<lent::StitchCounts, Refusal>, Vec<
         chain_ends: &mut chain_ends,
         chain_how: &mut chain_how,
     };
-    let answer = lent::stitch(&a(), &b(), &union.slices, Selector::OrAnd, T, lent);
+    let answer = lent::stitch(&a(), &b(), &union.slices, Selector::OrAnd, plain(), lent);
     if answer.is_err() {
         assert_eq!([ends, chain, chain_ends, chain_how], [[7; 2]; 4]);
     }
@@ -197,7 +197,7 @@ fn t10_in_the_box_at_exactly_t() {
         line((1.5, 0.0), (0.0, 5.0)),
         line((0.25, 5.5), (0.0, 0.0)),
     ]);
-    let found = stitch(&a(), &b(), &joined, Selector::OrAnd, half).unwrap();
+    let found = stitch(&a(), &b(), &joined, Selector::OrAnd, named(half, 0.0)).unwrap();
     assert_eq!((found.chain_count(), found.loop_count()), (1, 1));
 
     // The two do not agree: a view between them is not empty.
@@ -233,7 +233,7 @@ fn each_axis_has_its_own_tolerance() {
                 pline2_overlapping: 2,
             },
         };
-        let found = stitch(&a(), &b(), &slices, Selector::OrAnd, t);
+        let found = stitch(&a(), &b(), &slices, Selector::OrAnd, named(t, 0.0));
         found.unwrap().chain_count()
     };
     assert_eq!(chains(1.5, 1.25), 1);

@@ -3,7 +3,7 @@ use Prim.Native.Nat.{_≤_, _-_}
 use mathlib.Core.Path.{_≡_, refl}
 use lib.ListN.{length, take}
 use Rattle.basis.specs.All.{allOf, scan}
-use Rattle.area_entries.specs.AreaEntry.{finite}
+use Rattle.basis.specs.Number.{finite}
 use Rattle.area_entries.proofs.areas.all_finite.Statement.{statement}
 use Rattle.area_entries.proofs.areas.all_finite.Tie as tie
 

@@ -1,8 +1,8 @@
 use borrow.Author.Needs.{needs}
 use Rattle.basis.specs.Choice.{cases}
-use Rattle.area_entries.specs.AreaEntry.{limitOk}
-use Rattle.area_entries.proofs.areas.good_limit.Statement.{statement}
-use Rattle.area_entries.proofs.areas.good_limit.Tie as tie
+use Rattle.basis.specs.Number.{limitOk}
+use Rattle.basis.proofs.number.good_limit.Statement.{statement}
+use Rattle.basis.proofs.number.good_limit.Tie as tie
 
 returns : tie.Need-returns
 unfolding limitOk

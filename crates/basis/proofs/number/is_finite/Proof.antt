@@ -1,10 +1,10 @@
 use mathlib.Core.Path.{ap, _∙_}
 use lib.Ieee.{Float, le}
 use Rattle.basis.specs.NumberLaws.{abs-le}
-use Rattle.area_entries.specs.AreaEntry.{largest, finite}
+use Rattle.basis.specs.Number.{largest, finite}
 use borrow.Author.Needs.{needs}
-use Rattle.area_entries.proofs.areas.is_finite.Statement.{statement}
-use Rattle.area_entries.proofs.areas.is_finite.Tie as tie
+use Rattle.basis.proofs.number.is_finite.Statement.{statement}
+use Rattle.basis.proofs.number.is_finite.Tie as tie
 
 magnitude-requires : tie.Need-magnitude-requires
 magnitude-requires c κs = search needs

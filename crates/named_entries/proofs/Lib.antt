@@ -1,0 +1,2 @@
+pub mod AreaWays
+pub mod StitchWays
