@@ -68,6 +68,12 @@
 //! [`WholeOutline`] is an outline without arcs whose coordinates are whole numbers. Its winding
 //! number and its area are exact, and so is [`straight_report`], which totals many of them.
 //!
+//! # Slices kept between runs
+//!
+//! [`Store`] keeps up to 1,792 slices, each with the edition of the outline that it was cut from.
+//! It gives a handle for each, lists what is live in the order put, and what it lists goes straight
+//! into a stitch.
+//!
 //! # Masks that do not meet
 //!
 //! Outlines that share no point are not cut, so there are no slices and no loops.
@@ -103,6 +109,7 @@ mod outline;
 mod refusal;
 mod slices;
 mod stitch;
+mod store;
 mod straight;
 mod view;
 
@@ -118,5 +125,6 @@ pub use outline::{Outline, Source, Tolerance};
 pub use refusal::Refusal;
 pub use slices::{prune, Answered, Mode, Slice, Slices};
 pub use stitch::{area_pass, stitch, Chain, ChainEnd, Selector, Stitched};
+pub use store::{Handle, Kept, Listed, Store};
 pub use straight::{straight_report, StraightReport, WholeOutline};
 pub use view::{OnSegment, Verdict, Vertices, View, Walk};

@@ -43,6 +43,10 @@ pub enum Refusal {
     Range,
     /// 19: a report has more than 4,096 outlines.
     Loops,
+    /// 20: as many slices are live as the store has places.
+    Full,
+    /// 21: no live slice has the handle.
+    Handle,
     /// A number that this wrapper does not know: the archive is a later one, or, with 10, an
     /// earlier one. 10 is not used any more.
     Other(u32),
@@ -64,6 +68,8 @@ impl Refusal {
             9 => Refusal::Room,
             18 => Refusal::Range,
             19 => Refusal::Loops,
+            20 => Refusal::Full,
+            21 => Refusal::Handle,
             other => Refusal::Other(other),
         })
     }
@@ -95,6 +101,8 @@ impl Refusal {
             Refusal::Room => (9, "lent room is smaller than the need"),
             Refusal::Range => (18, "a whole coordinate is out of range"),
             Refusal::Loops => (19, "too many outlines in a report"),
+            Refusal::Full => (20, "the store is full"),
+            Refusal::Handle => (21, "no live slice has the handle"),
             Refusal::Other(number) => (number, "a reason that this wrapper does not know"),
         }
     }
@@ -127,7 +135,7 @@ mod tests {
         for number in 1..=40 {
             let refusal = Refusal::from_number(number).unwrap();
             assert_eq!(refusal.number(), number);
-            let known = number <= 9 || number == 18 || number == 19;
+            let known = number <= 9 || (18..=21).contains(&number);
             assert_eq!(matches!(refusal, Refusal::Other(_)), !known);
         }
     }
@@ -135,7 +143,7 @@ mod tests {
     #[test]
     fn every_refusal_has_a_sentence_of_its_own() {
         let mut sentences: Vec<String> = (1..=11)
-            .chain(18..=19)
+            .chain(18..=21)
             .map(|number| Refusal::from_number(number).unwrap().to_string())
             .collect();
         assert_eq!(
@@ -148,7 +156,7 @@ mod tests {
         );
         sentences.sort();
         sentences.dedup();
-        assert_eq!(sentences.len(), 13);
+        assert_eq!(sentences.len(), 15);
     }
 
     #[test]

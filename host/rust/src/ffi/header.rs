@@ -2,8 +2,8 @@
 //! parameters of each function, the number of each code. No compiler compares the two.
 
 use super::{
-    AreaAnswer, CountAnswer, PruneAnswer, ReportAnswer, StitchAnswer, VerdictAnswer, VertexAnswer,
-    View, ViewAnswer, WindingAnswer,
+    AreaAnswer, CountAnswer, DoneAnswer, HandleAnswer, PruneAnswer, ReportAnswer, StitchAnswer,
+    VerdictAnswer, VertexAnswer, View, ViewAnswer, WindingAnswer,
 };
 use crate::cuts::MOST_CUTS;
 use crate::slices::MOST_SLICES;
@@ -160,6 +160,11 @@ fn structs_lie_as_in_the_header() {
             "mask_report_answer",
             layout_here!(ReportAnswer: refusal, count, zero, high, low),
         ),
+        (
+            "mask_handle_answer",
+            layout_here!(HandleAnswer: refusal, handle),
+        ),
+        ("mask_done_answer", layout_here!(DoneAnswer: refusal)),
     ];
     for (name, here) in here {
         assert_eq!(layout(name), here, "{name}");
@@ -249,7 +254,7 @@ fn bound() -> Vec<Function> {
 fn functions_are_declared_in_the_header() {
     let declared = declared();
     let bound = bound();
-    assert_eq!(bound.len(), 14);
+    assert_eq!(bound.len(), 18);
     for here in bound {
         let there = declared.iter().find(|there| there.0 == here.0);
         assert_eq!(there, Some(&here));
@@ -292,7 +297,7 @@ fn assert_codes(name: &str, prefix: &str, here: impl IntoIterator<Item = (String
 #[test]
 fn codes_are_those_of_the_header() {
     let refusals = (1..=9)
-        .chain(18..=19)
+        .chain(18..=21)
         .map(|n| (header_name(Refusal::from_number(n).unwrap()), n));
     assert_codes("mask_refusal", "MASK_REFUSED_", refusals);
     let modes = Mode::ALL.map(|mode| (header_name(mode), mode.code()));

@@ -4,8 +4,8 @@
 //! `tests` show.
 
 use super::{
-    AreaAnswer, CountAnswer, PruneAnswer, ReportAnswer, StitchAnswer, VerdictAnswer, VertexAnswer,
-    View, ViewAnswer, WindingAnswer,
+    AreaAnswer, CountAnswer, DoneAnswer, HandleAnswer, PruneAnswer, ReportAnswer, StitchAnswer,
+    VerdictAnswer, VertexAnswer, View, ViewAnswer, WindingAnswer,
 };
 use crate::{Point, Split, Vertex};
 use std::cell::RefCell;
@@ -26,6 +26,7 @@ pub(crate) enum Lent {
     Numbers(Vec<f64>),
     Wholes(Vec<i64>),
     Answers(Vec<u8>),
+    Editions(Vec<u32>),
     /// A list to be written: its length.
     Room(usize),
 }
@@ -138,7 +139,9 @@ answers!(
     Stitch StitchAnswer,
     Winding WindingAnswer,
     Area AreaAnswer,
-    Report ReportAnswer
+    Report ReportAnswer,
+    Handle HandleAnswer,
+    Done DoneAnswer
 );
 
 macro_rules! lent_as {
@@ -165,7 +168,8 @@ lent_as!(
     Counts &[usize],
     Numbers &[f64],
     Wholes &[i64],
-    Answers &[u8]
+    Answers &[u8],
+    Editions &[u32]
 );
 
 macro_rules! call {
@@ -187,6 +191,7 @@ pub(crate) mod entries {
     use super::{play, Call, Lent};
     use super::{CountAnswer, PruneAnswer, StitchAnswer, VerdictAnswer, VertexAnswer, ViewAnswer};
     use super::{AreaAnswer, Point, ReportAnswer, Split, Vertex, View, WindingAnswer};
+    use super::{DoneAnswer, HandleAnswer};
 
     pub(crate) fn view_vertex(outline: &[f64], vc: usize, view: View, index: usize) -> VertexAnswer {
         play(call!(view_vertex: outline, vc, view, index;), &mut [], &mut []).into()
@@ -289,5 +294,36 @@ pub(crate) mod entries {
 
     pub(crate) fn straight_report(points: &[i64], ends: &[usize], loops: usize) -> ReportAnswer {
         play(call!(straight_report: points, ends, loops;), &mut [], &mut []).into()
+    }
+
+    pub(crate) fn store_put(
+        held: &mut [usize], slice_at: &mut [usize], slice: &mut [f64], slice_edition: &mut [u32],
+        put_at: &[usize], put: &[f64], put_edition: u32,
+    ) -> HandleAnswer {
+        let call = call!(store_put: put_at, put, put_edition; held, slice_at, slice, slice_edition);
+        play(call, &mut [held, slice_at], &mut [slice]).into()
+    }
+
+    pub(crate) fn store_release(
+        held: &mut [usize], slice_at: &[usize], slice: &[f64], slice_edition: &[u32], handle: usize,
+    ) -> DoneAnswer {
+        let call = call!(store_release: slice_at, slice, slice_edition, handle; held);
+        play(call, &mut [held], &mut []).into()
+    }
+
+    pub(crate) fn store_list(
+        held: &[usize], slice_at: &[usize], slice: &[f64], slice_edition: &[u32],
+        handles: &mut [usize], list_at: &mut [usize], list: &mut [f64], list_edition: &mut [u32],
+    ) -> CountAnswer {
+        let call = call!(store_list: held, slice_at, slice, slice_edition;
+            handles, list_at, list, list_edition);
+        play(call, &mut [handles, list_at], &mut [list]).into()
+    }
+
+    pub(crate) fn store_compact(
+        held: &mut [usize], slice_at: &mut [usize], slice: &mut [f64], slice_edition: &mut [u32],
+    ) -> DoneAnswer {
+        let call = call!(store_compact: ; held, slice_at, slice, slice_edition);
+        play(call, &mut [held, slice_at], &mut [slice]).into()
     }
 }

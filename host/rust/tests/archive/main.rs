@@ -5,5 +5,6 @@ mod random;
 mod refusals;
 mod shapes;
 mod sheet;
+mod store;
 mod straight;
 mod views;
