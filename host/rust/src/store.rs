@@ -28,10 +28,8 @@ impl Handle {
 pub struct Kept {
     /// Its handle.
     pub handle: Handle,
-    /// The slice.
+    /// The slice, with the edition of the outline that it was cut from.
     pub slice: Slice,
-    /// The edition of the outline that it was cut from.
-    pub edition: u32,
 }
 
 /// Up to 1,792 slices, kept between runs.
@@ -45,19 +43,20 @@ pub struct Kept {
 /// use mask_tools::{Refusal, Slice, Source, Store, View};
 ///
 /// # fn main() -> Result<(), Refusal> {
-/// let slice = Slice { source: Source::Pline1, view: View::default() };
+/// let slice = |edition| Slice {
+///     source: Source::Pline1,
+///     view: View { edition, ..View::default() },
+/// };
 /// let mut store = Store::new();
-/// let first = store.put(slice, 7)?;
-/// let second = store.put(slice, 8)?;
+/// let first = store.put(slice(7))?;
+/// store.put(slice(8))?;
 /// store.release(first)?;
 /// assert_eq!(store.release(first), Err(Refusal::Handle));
 ///
-/// let third = store.put(slice, 9)?;
+/// let third = store.put(slice(9))?;
 /// assert_eq!(third, first); // the lowest that is free
 /// store.compact()?;
-/// let editions: Vec<u32> = store.list()?.iter().map(|kept| kept.edition).collect();
-/// assert_eq!(editions, [8, 9]); // in the order put
-/// # let _ = second;
+/// assert_eq!(store.list()?.editions(), [8, 9]); // in the order put
 /// # Ok(())
 /// # }
 /// ```
@@ -83,23 +82,21 @@ impl Store {
         }
     }
 
-    /// Puts a slice, with the edition of the outline that it was cut from. It gets the lowest
-    /// handle that no live slice has.
+    /// Puts a slice. It gets the lowest handle that no live slice has.
     ///
     /// # Errors
     ///
     /// [`Refusal::Number`], and [`Refusal::Full`] where 1,792 slices are live.
-    pub fn put(&mut self, slice: Slice, edition: u32) -> Result<Handle, Refusal> {
-        let (mut put_at, mut put) = (Vec::new(), Vec::new());
-        slice.write(&mut put_at, &mut put);
+    pub fn put(&mut self, slice: Slice) -> Result<Handle, Refusal> {
+        let put = List::from([slice]);
         let answer = ffi::store_put(
             &mut self.held,
             &mut self.slice_at,
             &mut self.slice,
             &mut self.slice_edition,
-            &put_at,
-            &put,
-            edition,
+            put.indexes(),
+            put.numbers(),
+            slice.view.edition,
         );
         Refusal::check(answer.refusal, Handle(answer.handle))
     }
@@ -127,28 +124,22 @@ impl Store {
     /// None: the room lent is what the library needs.
     pub fn list(&self) -> Result<Listed, Refusal> {
         let mut handles = vec![0; PLACES];
-        let mut editions = vec![0; PLACES];
         let mut list = List::with_room(PLACES);
-        let (list_at, numbers) = list.room();
+        let room = list.room();
         let answer = ffi::store_list(
             &self.held,
             &self.slice_at,
             &self.slice,
             &self.slice_edition,
             &mut handles,
-            list_at,
-            numbers,
-            &mut editions,
+            &mut room.indexes,
+            &mut room.numbers,
+            &mut room.editions,
         );
         let count = Refusal::check(answer.refusal, answer.count)?;
         handles.truncate(count);
-        editions.truncate(count);
         list.truncate(count);
-        Ok(Listed {
-            handles,
-            list,
-            editions,
-        })
+        Ok(Listed { handles, list })
     }
 
     /// Moves the live slices to the front of the store's memory, in the order put, and clears the
@@ -212,7 +203,6 @@ impl Default for Store {
 pub struct Listed {
     handles: Vec<usize>,
     list: List<Slice>,
-    editions: Vec<u32>,
 }
 
 impl Listed {
@@ -228,19 +218,16 @@ impl Listed {
 
     /// The live slices, in the order put.
     pub fn iter(&self) -> impl Iterator<Item = Kept> + '_ {
-        let named = self.handles.iter().zip(&self.editions);
-        named
-            .zip(self.list.iter())
-            .map(|((&handle, &edition), slice)| Kept {
-                handle: Handle(handle),
-                slice,
-                edition,
-            })
+        let slices = self.handles.iter().zip(&self.list);
+        slices.map(|(&handle, slice)| Kept {
+            handle: Handle(handle),
+            slice,
+        })
     }
 
     /// The editions, in the order put.
     pub fn editions(&self) -> &[u32] {
-        &self.editions
+        self.list.editions()
     }
 
     /// The list as a stitch takes it: nothing is copied. `starts` says where the classes begin, as
@@ -263,7 +250,7 @@ mod tests {
     fn slice() -> Slice {
         let view = View {
             inverted_direction: true,
-            ..View::of_numbers(3, 4, &[1.0, 2.0, 3.0, 4.0, 5.0, 6.0])
+            ..View::of_numbers(3, 4, &[1.0, 2.0, 3.0, 4.0, 5.0, 6.0], 77)
         };
         Slice {
             source: Source::Pline2,
@@ -278,7 +265,7 @@ mod tests {
             handle: 11,
         };
         let mut store = Store::new();
-        let (handle, calls) = told([Reply::of(answer)], || store.put(slice(), 77));
+        let (handle, calls) = told([Reply::of(answer)], || store.put(slice()));
         assert_eq!(handle.map(Handle::number), Ok(11));
         let call = &calls[0];
         assert_eq!(call.entry, "store_put");
@@ -302,14 +289,16 @@ mod tests {
             answer,
             vec![vec![5, 0], vec![1, 1, 7, 9, 2, 0, 8, 9]],
             vec![vec![1.0; 12]],
-        );
+        )
+        .with_editions(&[3, 4]);
         let (listed, calls) = told([reply], || Store::new().list());
         let listed = listed.unwrap();
         assert_eq!((listed.len(), listed.is_empty()), (2, false));
         let kept: Vec<Kept> = listed.iter().collect();
         assert_eq!(kept[0].handle, Handle::of_number(5));
         assert_eq!(kept[1].slice.view.start_index, 8);
-        assert_eq!((kept[1].edition, listed.editions()), (0, &[0, 0][..]));
+        assert_eq!(listed.editions(), [3, 4]);
+        assert_eq!(kept[1].slice.view.edition, 4);
         let call = &calls[0];
         assert_eq!(call.lent("held"), Lent::Counts(vec![0; 1792]));
         assert_eq!(call.lent("slice_edition"), Lent::Editions(vec![0; 1792]));

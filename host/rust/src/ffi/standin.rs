@@ -344,7 +344,7 @@ pub(crate) mod entries {
         put_at: &[usize], put: &[f64], put_edition: u32,
     ) -> HandleAnswer {
         let call = call!(store_put: put_at, put, put_edition; held, slice_at, slice, slice_edition);
-        play(call, &mut [held, slice_at], &mut [slice]).into()
+        play_all(call, &mut [held, slice_at], &mut [slice], slice_edition).into()
     }
 
     pub(crate) fn store_release(
@@ -360,13 +360,13 @@ pub(crate) mod entries {
     ) -> CountAnswer {
         let call = call!(store_list: held, slice_at, slice, slice_edition;
             handles, list_at, list, list_edition);
-        play(call, &mut [handles, list_at], &mut [list]).into()
+        play_all(call, &mut [handles, list_at], &mut [list], list_edition).into()
     }
 
     pub(crate) fn store_compact(
         held: &mut [usize], slice_at: &mut [usize], slice: &mut [f64], slice_edition: &mut [u32],
     ) -> DoneAnswer {
         let call = call!(store_compact: ; held, slice_at, slice, slice_edition);
-        play(call, &mut [held, slice_at], &mut [slice]).into()
+        play_all(call, &mut [held, slice_at], &mut [slice], slice_edition).into()
     }
 }
