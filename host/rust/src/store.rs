@@ -330,7 +330,10 @@ mod tests {
         });
         assert_eq!((released, compacted), (Err(Refusal::Handle), Ok(())));
         assert_eq!(calls[0].lent("handle"), Lent::Count(9));
-        assert_eq!(calls[0].lent("slice_edition"), Lent::Editions(vec![0; 1792]));
+        assert_eq!(
+            calls[0].lent("slice_edition"),
+            Lent::Editions(vec![0; 1792])
+        );
         assert_eq!(calls[1].lent("slice"), Lent::Room(10752));
     }
 
