@@ -3,3 +3,4 @@ pub mod NamedLaws
 pub mod NamedStitch
 pub mod NamedArea
 pub mod NamedTheorems
+pub mod UsedTheorems

@@ -6,8 +6,7 @@ use lib.ListN.{length, take, replicate}
 use lib.Ieee.{Float}
 use Rattle.slice.specs.Slice.{codeWidth, shapeWidth}
 use Rattle.stitch_run.specs.declared.plan.Plan.{Plan}
-use Rattle.record.specs.Record.{Lists, lists, lengthsOf}
-use Rattle.record_read.specs.Ready.{Roomy}
+use Rattle.record.specs.Record.{Lists, lists}
 
 abbrev pub reading : List Float → List Float → List ℕ → List Float → Lists
 reading o1 o2 at s = lists o1 o2 at s
@@ -19,6 +18,9 @@ fronts p l =
 
 -- what was read, and editions 0 for the slices
 pub record Held (p : Plan) (l : Lists) (dates : List ℕ) : Type 0 where
-  pub roomy : Roomy p (lengthsOf l)
+  pub first : 3 * p .vc1 ≤ length (l .outline1)
+  pub second : 3 * p .vc2 ≤ length (l .outline2)
+  pub codes : codeWidth * p .slices ≤ length (l .sliceAt)
+  pub shapes : shapeWidth * p .slices ≤ length (l .slice)
   pub each : p .slices ≤ length dates
   pub none : take (p .slices) dates ≡ replicate (p .slices) 0

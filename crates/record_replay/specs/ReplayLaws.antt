@@ -24,7 +24,6 @@ use Rattle.record.specs.Form.{form1, takenSlices}
 use Rattle.record.specs.Record as held
 use Rattle.record.specs.Record.{stitchBy, headIn, stitchIn, editionsIn, countRows, frameRows, roomRows, lengthIn, readRows, readRefusal, takenLengths, lengthsOf, seenRefused, seenGiven, ReadLeft}
 use Rattle.record.specs.RecordLaws.{read-long}
-use Rattle.record_read.specs.Ready.{Roomy}
 use Rattle.record_replay.specs.declared.replay.ReplayAnswer.{ReplayAnswer}
 use Rattle.record_replay.specs.Replayed.{heldIn, datesIn, formNumber, replayNumber, replayRefused, replayGiven, replayOf, ReplayLeft}
 use Rattle.record_replay.specs.Ready.{reading, fronts, Held}
@@ -147,27 +146,26 @@ module _ (b : List ℕ) (l : held.Lists) (r : Seen) (left : held.Lists) (w : Rea
     at-least d k need items x y e f = omega (arith, ap length e ∙ length-append items _, f)
 
     -- no more slices than the program takes
-    few : r .plan .slices ≤ takenSlices
+    few : p .slices ≤ takenSlices
     unfolding readRows
     few =
         let framed = frameRows 1 (size (form1 .head)) (form1 .most) b in
         let counted = countRows (length b) (lengthIn form1 p) p in
         let lent = roomRows p (lengthsOf l) in
         let ok = clear-left counted lent (clear-right framed (counted ++ lent) (clear (framed ++ (counted ++ lent)) tt accepted)) in
-        rw seen-plan (ltb-false takenSlices (p .slices) (ok .1 .0))
+        ltb-false takenSlices (p .slices) (ok .1 .0)
 
-    held-roomy : Roomy (r .plan) (lengthsOf left)
-    held-roomy =
+    pub held-fits : Held (r .plan) left (replicate takenSlices 0)
+    held-fits =
         rw seen-plan
         (record {
           first = at-least +0 3 (p .vc1) (heldIn b .outline1) (l .outline1) (left .outline1) is1 long1;
           second = at-least +0 3 (p .vc2) (heldIn b .outline2) (l .outline2) (left .outline2) is2 long2;
           codes = at-least 0 codeWidth (p .slices) (heldIn b .sliceAt) (l .sliceAt) (left .sliceAt) is3 long3;
           shapes = at-least +0 shapeWidth (p .slices) (heldIn b .slice) (l .slice) (left .slice) is4 long4;
+          each = few;
+          none = take-same (p .slices) takenSlices 0 few;
         })
-
-    pub held-fits : Held (r .plan) left (replicate takenSlices 0)
-    held-fits = record { roomy = held-roomy; each = few; none = take-same (r .plan .slices) takenSlices 0 few }
 
     -- the lists' fronts are the stitch that the bytes hold
     pub fronts-held : stitchBy (fronts (r .plan) left) (r .plan) ≡ heldIn b

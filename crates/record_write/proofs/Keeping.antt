@@ -105,9 +105,11 @@ module _ (o1 o2 : List Float) (at : List ℕ) (s : List Float) (p : Plan) (l : L
   stitch = given o1 o2 at s p
 
   pub handed-found : (r ≡ 0 → ⊥) → r ≡ firstOf (heldRows stitch (editions first second l))
+  unfolding heldRows
   handed-found h = stop-rows (handedRows stitch (editions 0 0 l)) (editionRows (editions first second l) at) r tt found h
 
   pub edition-found : (n : ℕ) → r ≡ 0 → n ≡ firstFrom 0 (editionRows (editions first second l) at) → n ≡ firstOf (heldRows stitch (editions first second l))
+  unfolding heldRows
   edition-found n z q = go-rows (handedRows stitch (editions 0 0 l)) (editionRows (editions first second l) at) r n tt tt found z q
 
   -- there is an edition for each slice
@@ -130,6 +132,7 @@ module _ (g : Given) (e : Editions) (m : ℕ) {r : ℕ} (told : r ≡ firstOf (h
 
   module _ (z : r ≡ 0) where
     held : Clear (heldRows g e)
+    unfolding heldRows
     held = clear (heldRows g e) tt (sym told ∙ z)
 
     pub kept : Clear (keepRows g)

@@ -8,12 +8,12 @@ use Rattle.stitch_run.specs.Stitch.{Given}
 use Rattle.record.specs.declared.head.Lengths.{Lengths}
 use Rattle.record.specs.Form.{Form}
 use Rattle.record.specs.Record.{readRows, readRefusal}
-use Rattle.record_write.specs.Writer.{writeRows, writeRefusal}
+use Rattle.record_write.specs.Writer.{heldRows, writeRows, writeRefusal}
 
 pub read-first : (f : Form) (b : List ℕ) (l : Lengths) → First (readRows f b l) (readRefusal f b l)
 unfolding readRows before refusalOrder
 read-first f b l = first-of (readRows f b l) tt
 
 pub write-first : (f : Form) (g : Given) (e : Editions) (room : ℕ) → First (writeRows f g e room) (writeRefusal f g e room)
-unfolding writeRefusal before refusalOrder
+unfolding writeRefusal heldRows before refusalOrder
 write-first f g e room = first-of (writeRows f g e room) tt

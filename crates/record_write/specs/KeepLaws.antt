@@ -47,12 +47,14 @@ no-nans s e i h = within-no-nan (getD s i nan) (all-at within s i nan e h)
 -- what the writer did not refuse: 1 to 8 do not apply, and the editions match
 module _ (g : Given) (e : Editions) (ok : Clear (heldRows g e)) where
   handed-clear : Clear (handedRows g e)
+  unfolding heldRows
   handed-clear = clear-left (handedRows g e) (editionRows e (g .sliceAt)) ok
 
   pub held-kept : Clear (keepRows g)
   held-kept = clear-right (editionListRows (length (e .slices)) (g .slices)) (keepRows g) handed-clear
 
   pub held-matched : Matched g e
+  unfolding heldRows
   held-matched =
       record {
         each = let h = length-ok 1 (length (e .slices)) (g .slices) (handed-clear .0) in omega (arith, h);

@@ -185,7 +185,7 @@ module _ (b : List ℕ) (octets : Octets b) (l : Lengths) (z : readRefusal form1
   axes = (rw in-range (ap not (eq-eqb (bitsOf (g .tolerance .x)) (bitsOf (g .tolerance .y)) (unfold stitchIn headIn in refl))), tt)
 
   pub written-again : (room : ℕ) → length b ≤ room → writeRefusal form1 g (editionsIn (g .slices)) room ≡ 0
-  unfolding writeRefusal
+  unfolding writeRefusal heldRows
   written-again room h =
       let shapes = codePart g ++ (numberPart g ++ indexPart g) in
       let after = codePart g ++ (axesRows (g .tolerance) ++ (numberPart g ++ indexPart g)) in

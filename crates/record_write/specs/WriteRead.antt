@@ -259,7 +259,7 @@ pub record ReadsBack (g : Given) (e : Editions) : Type 0 where
   pub stitched : (l : lent.Lengths) → stitchRefusal g (editionsIn (g .slices)) l ≡ stitchRefusal g e l
 
 pub write-then-read : (g : Given) (e : Editions) (room : ℕ) → writeRefusal form1 g e room ≡ 0 → Doubles g → ReadsBack g e
-unfolding writeRefusal
+unfolding writeRefusal heldRows
 write-then-read g e room z held =
     let all = clear-left (heldRows g e) (row (ltb room (lengthGiven form1 g)) 9 ∷ []) (clear (writeRows form1 g e room) tt z) in
     let ok = held-kept g e all in

@@ -38,7 +38,7 @@ abbrev pub handedRows : Given → Editions → List Row
 handedRows g e = editionListRows (length (e .slices)) (g .slices) ++ keepRows g
 
 -- 1 to 8, and 14: version 1 leaves the editions out, so a slice of another edition would be read as a good one
-abbrev pub heldRows : Given → Editions → List Row
+unfoldable pub heldRows : Given → Editions → List Row
 heldRows g e = handedRows g e ++ editionRows e (g .sliceAt)
 
 -- 9: fewer bytes are lent
