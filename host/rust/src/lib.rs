@@ -138,7 +138,8 @@
 //!
 //! [`Store`] keeps up to 1,792 slices, each with the edition of the outline that it was cut from.
 //! It gives a handle for each, lists what is live in the order put, and what it lists goes straight
-//! into a stitch.
+//! into a stitch. The example `kept_slices` finds those that a late outline has left behind, reopens
+//! them or cuts them again, and stitches.
 //!
 //! # Masks that do not meet
 //!
