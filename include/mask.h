@@ -36,13 +36,13 @@
  * written in place; beside its entries stands what is written there.
  *
  * Calls share no state. The library has no variables, keeps nothing from one call to the
- * next, allocates nothing, and calls nothing but memset of the C library. So any number
- * of threads may call it at the same time, each with room of its own; lists that are only
- * read may be shared.
+ * next (a store is the host's own memory), allocates nothing, and calls nothing but memset
+ * and memcpy of the C library. So any number of threads may call it at the same time, each
+ * with room of its own; lists that are only read may be shared.
  *
  * The entries stand in the order of the work: views, the verdict and reopening; cut order,
  * candidates, pruning, stitch and area pass, each of which takes what the one before it
- * gives; then settings by edition; then masks without arcs.
+ * gives; then settings by edition; then slices kept between runs; then masks without arcs.
  */
 #ifndef MASK_H
 #define MASK_H
@@ -92,13 +92,14 @@ extern "C" {
 #define MASK_MOST_WHOLE 400000000         /* magnitude of a whole coordinate */
 #define MASK_MOST_WHOLE_DOUBLED 800000000 /* the same of a point in doubled coordinates */
 #define MASK_MOST_OUTLINES 4096           /* in a report */
+#define MASK_STORE_PLACES 1792            /* slices in a store */
 
 /*
  * Stack: how many bytes a call takes at most, whatever the input; with its return address,
  * without its arguments. It was read off the machine code of the archive for x86-64, along
  * every way through each function (host/stack), rounded up, and compared with what calls
  * with the largest inputs took of a painted stack (host/c/header_test.c). Not counted are
- * memset itself and a dynamic linker that looks for it at its first call.
+ * memset and memcpy themselves and a dynamic linker that looks for them at a first call.
  */
 #define MASK_STACK_VIEW_VERTEX 512
 #define MASK_STACK_VIEW_VERTICES 512
@@ -121,6 +122,10 @@ extern "C" {
 #define MASK_STACK_STRAIGHT_WINDING 512
 #define MASK_STACK_STRAIGHT_AREA 512
 #define MASK_STACK_STRAIGHT_REPORT 512
+#define MASK_STACK_STORE_PUT 20480
+#define MASK_STACK_STORE_RELEASE 20480
+#define MASK_STACK_STORE_LIST 20480
+#define MASK_STACK_STORE_COMPACT 106496
 
 /*
  * Why a call is refused: the first that applies, in this order. For 1 to 9 that is the
@@ -143,7 +148,9 @@ enum mask_refusal {
     MASK_REFUSED_COUNT = 7,     /* an offset or a traverse count is out of range */
     MASK_REFUSED_STARTS = 8,    /* the starts of the classes fall back, or lie past the slices */
     MASK_REFUSED_EDITION = 14,  /* a slice or a view is of another edition than its outline */
-    MASK_REFUSED_ROOM = 9       /* a list lent to be written is shorter than the need */
+    MASK_REFUSED_ROOM = 9,      /* a list lent to be written is shorter than the need */
+    MASK_REFUSED_FULL = 20,     /* as many slices are live as the store has places */
+    MASK_REFUSED_HANDLE = 21    /* no live slice has the handle */
 };
 
 /* What `mask_validate_for_source` and `mask_reopen` found. 0 stands only beside a refusal. */
@@ -571,6 +578,78 @@ mask_edition_answer mask_settings_enter(size_t *entered, size_t entered_len, dou
 mask_setting_answer mask_settings_ask(const size_t *entered, size_t entered_len,
                                       const double *settings, size_t settings_len,
                                       size_t edition);
+
+/*
+ * Slices kept between runs. The store is four lists that the host makes, keeps, and lends
+ * to every call:
+ *   held           MASK_STORE_PLACES: the order of the slices, and their handles
+ *   slice_at       4 to a place, as for a stitch
+ *   slice          6 to a place, as for a stitch
+ *   slice_edition  1 to a place: the edition of the outline that the slice was cut from
+ * All zeros is the empty store, and whatever else the lists hold is some store: no content
+ * is refused. A list of another length is refused (1). The library holds nothing between
+ * calls, so a host has as many stores as it makes lists, and may copy them or write them to
+ * a file. Two calls on one store must not run at the same time.
+ *
+ * Whatever is called in whatever order, the store answers as a plain list would. Before a
+ * host reads `slice_at` or `slice` itself it asks for the list: which place is whose is
+ * written in `held` alone.
+ */
+/* The handle of a slice that was put. */
+typedef struct mask_handle_answer {
+    uint32_t refusal;
+    size_t handle;
+} mask_handle_answer;
+
+typedef struct mask_done_answer {
+    uint32_t refusal;
+} mask_done_answer;
+
+/*
+ * Puts a slice: `put_at` has its 4 codes and `put` its 6 numbers. It gets the lowest handle,
+ * from 0, that no live slice has, and keeps it until it is released. A start and an offset
+ * are not looked at: the store knows no outline. No other slice is moved. Refusals 1, 3, 5,
+ * 20; those of 3 and 5 look only at the slice that is put.
+ */
+mask_handle_answer mask_store_put(size_t *held, size_t held_len, size_t *slice_at,
+                                  size_t slice_at_len, double *slice, size_t slice_len,
+                                  uint32_t *slice_edition, size_t slice_edition_len,
+                                  const size_t *put_at, size_t put_at_len, const double *put,
+                                  size_t put_len, uint32_t put_edition);
+
+/*
+ * Lets the slice with this handle go. Where there is none, nothing changes. Refusals 1, 21.
+ */
+mask_done_answer mask_store_release(size_t *held, size_t held_len, const size_t *slice_at,
+                                    size_t slice_at_len, const double *slice, size_t slice_len,
+                                    const uint32_t *slice_edition, size_t slice_edition_len,
+                                    size_t handle);
+
+/*
+ * The live slices, in the order put. `count` is how many they are. Written for each:
+ *   handles       1: its handle
+ *   list_at       4, and
+ *   list          6, as `mask_stitch` takes them
+ *   list_edition  1: its edition
+ * The need is that for MASK_STORE_PLACES slices, however many are live. The store itself is
+ * not written. Refusals 1, 9.
+ */
+mask_count_answer mask_store_list(const size_t *held, size_t held_len, const size_t *slice_at,
+                                  size_t slice_at_len, const double *slice, size_t slice_len,
+                                  const uint32_t *slice_edition, size_t slice_edition_len,
+                                  size_t *handles, size_t handles_len, size_t *list_at,
+                                  size_t list_at_len, double *list, size_t list_len,
+                                  uint32_t *list_edition, size_t list_edition_len);
+
+/*
+ * Moves the live slices to the first places, in the order put, and sets all behind them to
+ * 0. Neither the list nor a handle changes. So stores that answer the same are then the
+ * same, bit for bit, and only the first part of the lists need be written to a file.
+ * Refusal 1.
+ */
+mask_done_answer mask_store_compact(size_t *held, size_t held_len, size_t *slice_at,
+                                    size_t slice_at_len, double *slice, size_t slice_len,
+                                    uint32_t *slice_edition, size_t slice_edition_len);
 
 /*
  * Masks without arcs, in whole microdegrees. An outline has two numbers to a vertex: x,

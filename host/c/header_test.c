@@ -37,6 +37,7 @@ static void numbers(void)
     check(MASK_MOST_WHOLE == 400000000 && MASK_MOST_WHOLE_DOUBLED == 2 * MASK_MOST_WHOLE &&
               MASK_MOST_OUTLINES == 4096,
           "mask.h: the sizes of masks without arcs");
+    check(MASK_STORE_PLACES == 1792, "mask.h: the size of a store");
 }
 
 /* ---- The largest inputs ---- */
@@ -48,7 +49,8 @@ enum {
     CUTS = MASK_MOST_CUTS,
     CANDIDATES = MASK_MOST_CANDIDATES,
     SLICES = MASK_MOST_SLICES,
-    OUTLINES = MASK_MOST_OUTLINES
+    OUTLINES = MASK_MOST_OUTLINES,
+    PLACES = MASK_STORE_PLACES
 };
 
 static double outline[3 * VC], hit[2 * HITS], lap[6 * LAPS], splits[9 * CUTS];
@@ -65,6 +67,9 @@ static int64_t points[2 * VC], many[2 * 2 * OUTLINES];
 static size_t many_ends[OUTLINES];
 static size_t entered[1];
 static double settings[MASK_WIDTH_SETTINGS * MASK_MOST_SETTINGS];
+static size_t held[PLACES], kept_at[4 * PLACES], handles[PLACES];
+static double kept_slice[6 * PLACES];
+static uint32_t kept_edition[PLACES], list_edition[PLACES];
 
 static void make_inputs(void)
 {
@@ -227,6 +232,35 @@ static void straight_report(void)
     refusal = mask_straight_report(ALL(many), ALL(many_ends), OUTLINES).refusal;
 }
 
+static void store_put(void)
+{
+    static const size_t put_at[] = {1, 0, 2, 3};
+    static const double put[6];
+    refusal = mask_store_put(ALL(held), ALL(kept_at), ALL(kept_slice), ALL(kept_edition),
+                             ALL(put_at), ALL(put), 1)
+                  .refusal;
+}
+
+static void store_release(void)
+{
+    held[0] = 2; /* the mark of handle 1, at place 0 */
+    refusal = mask_store_release(ALL(held), ALL(kept_at), ALL(kept_slice), ALL(kept_edition), 1)
+                  .refusal;
+}
+
+static void store_list(void)
+{
+    refusal = mask_store_list(ALL(held), ALL(kept_at), ALL(kept_slice), ALL(kept_edition),
+                              ALL(handles), ALL(slice_at), ALL(slice), ALL(list_edition))
+                  .refusal;
+}
+
+static void store_compact(void)
+{
+    refusal = mask_store_compact(ALL(held), ALL(kept_at), ALL(kept_slice), ALL(kept_edition))
+                  .refusal;
+}
+
 /* ---- The stack ---- */
 
 enum {
@@ -299,5 +333,9 @@ int main(void)
     measure("mask_straight_winding", straight_winding, MASK_STACK_STRAIGHT_WINDING);
     measure("mask_straight_area", straight_area, MASK_STACK_STRAIGHT_AREA);
     measure("mask_straight_report", straight_report, MASK_STACK_STRAIGHT_REPORT);
+    measure("mask_store_put", store_put, MASK_STACK_STORE_PUT);
+    measure("mask_store_release", store_release, MASK_STACK_STORE_RELEASE);
+    measure("mask_store_list", store_list, MASK_STACK_STORE_LIST);
+    measure("mask_store_compact", store_compact, MASK_STACK_STORE_COMPACT);
     return finish("header_test");
 }

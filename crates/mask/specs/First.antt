@@ -2,10 +2,11 @@
 -- numbers that apply are document 01's own, that is the lowest (basis/specs/RefusalOrderLaws.antt `own-lowest`).
 use Prim.Native.Nat.{ℕ}
 use mathlib.Core.List.{List, _++_}
+use lib.Dec.{T}
 use lib.IntN.{ℤ}
 use lib.Ieee.{Float}
 use Rattle.basis.specs.declared.number.Tolerance.{Tolerance}
-use Rattle.basis.specs.RefusalOrder.{First, before, refusalOrder}
+use Rattle.basis.specs.RefusalOrder.{First, inOrder, before, refusalOrder}
 use Rattle.basis.specs.RefusalOrderLaws.{first-of}
 use Rattle.outline.specs.declared.point.Point.{Point}
 use Rattle.outline.specs.declared.point.Vertex.{Vertex}
@@ -41,6 +42,9 @@ use Rattle.settings_entries.specs.SettingsEntry as settings
 use Rattle.straight_entries.specs.WindingEntry.{windingRows, windingRefusal}
 use Rattle.straight_entries.specs.AreaEntry as straight
 use Rattle.straight_entries.specs.ReportEntry.{reportRows, reportRefusal}
+use Rattle.store.specs.Lists as store
+use Rattle.store_entries.specs.StoreEntry.{Asked, toPut, toRelease, toList, toCompact, ownRows, callRows, storeTurn, lastRows, wholeRows, refusalIn}
+use Rattle.store_entries.specs.StoreTheorems.{whole-table}
 
 pub vertex-first : (o : List Float) (vc : ℕ) (v : View) → First (viewVertexRows o vc v) (viewVertexRefusal o vc v)
 unfolding viewVertexRefusal before refusalOrder
@@ -127,3 +131,13 @@ straight-area-first o vc = first-of (straight.areaRows o vc) tt
 pub report-first : (points : List ℤ) (ends : List ℕ) (loops : ℕ) → First (reportRows points ends loops) (reportRefusal points ends loops)
 unfolding reportRefusal before refusalOrder
 report-first points ends loops = first-of (reportRows points ends loops) tt
+
+store-ordered : (w : store.Lists) (a : Asked) → T (inOrder (wholeRows w a))
+unfolding wholeRows callRows ownRows lastRows before refusalOrder
+store-ordered w (toPut x) = tt
+store-ordered w (toRelease h) = tt
+store-ordered w (toList h a s e) = tt
+store-ordered w toCompact = tt
+
+pub store-first : (w : store.Lists) (a : Asked) → First (wholeRows w a) (refusalIn (storeTurn w a .answer))
+store-first w a = rw (whole-table w a) (first-of (wholeRows w a) (store-ordered w a))

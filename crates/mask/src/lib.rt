@@ -1,5 +1,6 @@
 // What hosts link: the exported entries, each a thin function over the crates below.
 pub mod cutting;
+pub mod keeping;
 pub mod measuring;
 pub mod pruning;
 pub mod reopening;

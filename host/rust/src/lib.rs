@@ -134,6 +134,13 @@
 //! [`Settings`] is a record of up to 16 settings, which is extended and never overwritten. A stitch
 //! and an area pass name the edition that they use ([`Settings::named`]).
 //!
+//! # Slices kept between runs
+//!
+//! [`Store`] keeps up to 1,792 slices, each with the edition of the outline that it was cut from.
+//! It gives a handle for each, lists what is live in the order put, and what it lists goes straight
+//! into a stitch. The example `kept_slices` finds those that a late outline has left behind, reopens
+//! them or cuts them again, and stitches.
+//!
 //! # Masks that do not meet
 //!
 //! Outlines that share no point are not cut, so there are no slices and no loops.
@@ -171,6 +178,7 @@ mod settings;
 mod slices;
 mod start;
 mod stitch;
+mod store;
 mod straight;
 mod view;
 
@@ -188,5 +196,6 @@ pub use settings::{Named, Setting, Settings};
 pub use slices::{prune, Answered, Mode, Slice, Slices};
 pub use start::{slice_span, Place, Span};
 pub use stitch::{area_pass, stitch, Chain, ChainEnd, Selector, Stitched};
+pub use store::{Handle, Kept, Listed, Store};
 pub use straight::{straight_report, StraightReport, WholeOutline};
 pub use view::{OnSegment, Verdict, Vertices, View, Walk};

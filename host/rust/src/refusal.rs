@@ -52,6 +52,10 @@ pub enum Refusal {
     Range,
     /// 19: a report has more than 4,096 outlines.
     Loops,
+    /// 20: as many slices are live as the store has places.
+    Full,
+    /// 21: no live slice has the handle.
+    Handle,
     /// A number that this wrapper does not know: the archive is a later one, or, with 10, an
     /// earlier one. 10 is not used any more.
     Other(u32),
@@ -77,6 +81,8 @@ impl Refusal {
             17 => Refusal::SettingsFull,
             18 => Refusal::Range,
             19 => Refusal::Loops,
+            20 => Refusal::Full,
+            21 => Refusal::Handle,
             other => Refusal::Other(other),
         })
     }
@@ -112,6 +118,8 @@ impl Refusal {
             Refusal::SettingsFull => (17, "the record has its 16 settings"),
             Refusal::Range => (18, "a whole coordinate is out of range"),
             Refusal::Loops => (19, "too many outlines in a report"),
+            Refusal::Full => (20, "the store is full"),
+            Refusal::Handle => (21, "no live slice has the handle"),
             Refusal::Other(number) => (number, "a reason that this wrapper does not know"),
         }
     }
@@ -144,7 +152,7 @@ mod tests {
         for number in 1..=40 {
             let refusal = Refusal::from_number(number).unwrap();
             assert_eq!(refusal.number(), number);
-            let known = number <= 9 || (14..=19).contains(&number);
+            let known = number <= 9 || (14..=21).contains(&number);
             assert_eq!(matches!(refusal, Refusal::Other(_)), !known);
         }
     }
@@ -152,7 +160,7 @@ mod tests {
     #[test]
     fn every_refusal_has_a_sentence_of_its_own() {
         let mut sentences: Vec<String> = (1..=11)
-            .chain(14..=19)
+            .chain(14..=21)
             .map(|number| Refusal::from_number(number).unwrap().to_string())
             .collect();
         assert_eq!(
@@ -165,7 +173,7 @@ mod tests {
         );
         sentences.sort();
         sentences.dedup();
-        assert_eq!(sentences.len(), 17);
+        assert_eq!(sentences.len(), 19);
     }
 
     #[test]

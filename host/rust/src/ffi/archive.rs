@@ -202,6 +202,21 @@ pub struct SettingAnswer {
     pub area_limit: f64,
 }
 
+/// `mask_handle_answer`
+#[repr(C)]
+#[derive(Debug, Clone, Copy, Default)]
+pub struct HandleAnswer {
+    pub refusal: u32,
+    pub handle: usize,
+}
+
+/// `mask_done_answer`
+#[repr(C)]
+#[derive(Debug, Clone, Copy, Default)]
+pub struct DoneAnswer {
+    pub refusal: u32,
+}
+
 #[cfg(not(test))]
 pub use entries::*;
 
@@ -214,9 +229,9 @@ pub use entries::*;
 #[cfg(not(test))]
 mod entries {
     use super::{
-        AreaAnswer, CountAnswer, EditionAnswer, Point, PruneAnswer, ReopenAnswer, ReportAnswer,
-        SettingAnswer, SpanAnswer, Split, StitchAnswer, UnmovedAnswer, VerdictAnswer, Vertex,
-        VertexAnswer, View, ViewAnswer, WindingAnswer,
+        AreaAnswer, CountAnswer, DoneAnswer, EditionAnswer, HandleAnswer, Point, PruneAnswer,
+        ReopenAnswer, ReportAnswer, SettingAnswer, SpanAnswer, Split, StitchAnswer, UnmovedAnswer,
+        VerdictAnswer, Vertex, VertexAnswer, View, ViewAnswer, WindingAnswer,
     };
 
     extern "C" {
@@ -519,6 +534,64 @@ mod entries {
             settings_len: usize,
             edition: usize,
         ) -> SettingAnswer;
+
+        pub fn mask_store_put(
+            held: *mut usize,
+            held_len: usize,
+            slice_at: *mut usize,
+            slice_at_len: usize,
+            slice: *mut f64,
+            slice_len: usize,
+            slice_edition: *mut u32,
+            slice_edition_len: usize,
+            put_at: *const usize,
+            put_at_len: usize,
+            put: *const f64,
+            put_len: usize,
+            put_edition: u32,
+        ) -> HandleAnswer;
+
+        pub fn mask_store_release(
+            held: *mut usize,
+            held_len: usize,
+            slice_at: *const usize,
+            slice_at_len: usize,
+            slice: *const f64,
+            slice_len: usize,
+            slice_edition: *const u32,
+            slice_edition_len: usize,
+            handle: usize,
+        ) -> DoneAnswer;
+
+        pub fn mask_store_list(
+            held: *const usize,
+            held_len: usize,
+            slice_at: *const usize,
+            slice_at_len: usize,
+            slice: *const f64,
+            slice_len: usize,
+            slice_edition: *const u32,
+            slice_edition_len: usize,
+            handles: *mut usize,
+            handles_len: usize,
+            list_at: *mut usize,
+            list_at_len: usize,
+            list: *mut f64,
+            list_len: usize,
+            list_edition: *mut u32,
+            list_edition_len: usize,
+        ) -> CountAnswer;
+
+        pub fn mask_store_compact(
+            held: *mut usize,
+            held_len: usize,
+            slice_at: *mut usize,
+            slice_at_len: usize,
+            slice: *mut f64,
+            slice_len: usize,
+            slice_edition: *mut u32,
+            slice_edition_len: usize,
+        ) -> DoneAnswer;
     }
 
     #[inline]
@@ -1101,6 +1174,119 @@ mod entries {
                 settings.as_ptr(),
                 settings.len(),
                 edition,
+            )
+        }
+    }
+
+    #[inline]
+    #[allow(clippy::too_many_arguments)] // those of the header
+    pub fn store_put(
+        held: &mut [usize],
+        slice_at: &mut [usize],
+        slice: &mut [f64],
+        slice_edition: &mut [u32],
+        put_at: &[usize],
+        put: &[f64],
+        put_edition: u32,
+    ) -> HandleAnswer {
+        // SAFETY: each pointer and length are those of one slice. The store's lists are `&mut`.
+        unsafe {
+            mask_store_put(
+                held.as_mut_ptr(),
+                held.len(),
+                slice_at.as_mut_ptr(),
+                slice_at.len(),
+                slice.as_mut_ptr(),
+                slice.len(),
+                slice_edition.as_mut_ptr(),
+                slice_edition.len(),
+                put_at.as_ptr(),
+                put_at.len(),
+                put.as_ptr(),
+                put.len(),
+                put_edition,
+            )
+        }
+    }
+
+    #[inline]
+    pub fn store_release(
+        held: &mut [usize],
+        slice_at: &[usize],
+        slice: &[f64],
+        slice_edition: &[u32],
+        handle: usize,
+    ) -> DoneAnswer {
+        // SAFETY: each pointer and length are those of one slice. Only `held`, a `&mut`, is written.
+        unsafe {
+            mask_store_release(
+                held.as_mut_ptr(),
+                held.len(),
+                slice_at.as_ptr(),
+                slice_at.len(),
+                slice.as_ptr(),
+                slice.len(),
+                slice_edition.as_ptr(),
+                slice_edition.len(),
+                handle,
+            )
+        }
+    }
+
+    #[inline]
+    #[allow(clippy::too_many_arguments)] // those of the header
+    pub fn store_list(
+        held: &[usize],
+        slice_at: &[usize],
+        slice: &[f64],
+        slice_edition: &[u32],
+        handles: &mut [usize],
+        list_at: &mut [usize],
+        list: &mut [f64],
+        list_edition: &mut [u32],
+    ) -> CountAnswer {
+        // SAFETY: each pointer and length are those of one slice. The store's are only read, and
+        // the room is `&mut`.
+        unsafe {
+            mask_store_list(
+                held.as_ptr(),
+                held.len(),
+                slice_at.as_ptr(),
+                slice_at.len(),
+                slice.as_ptr(),
+                slice.len(),
+                slice_edition.as_ptr(),
+                slice_edition.len(),
+                handles.as_mut_ptr(),
+                handles.len(),
+                list_at.as_mut_ptr(),
+                list_at.len(),
+                list.as_mut_ptr(),
+                list.len(),
+                list_edition.as_mut_ptr(),
+                list_edition.len(),
+            )
+        }
+    }
+
+    #[inline]
+    pub fn store_compact(
+        held: &mut [usize],
+        slice_at: &mut [usize],
+        slice: &mut [f64],
+        slice_edition: &mut [u32],
+    ) -> DoneAnswer {
+        // SAFETY: each pointer and length are those of one slice, which is `&mut`.
+        unsafe {
+            mask_store_compact(
+                held.as_mut_ptr(),
+                held.len(),
+                slice_at.as_mut_ptr(),
+                slice_at.len(),
+                slice.as_mut_ptr(),
+                slice.len(),
+                slice_edition.as_mut_ptr(),
+                slice_edition.len(),
             )
         }
     }

@@ -2,9 +2,9 @@
 //! parameters of each function, the number of each code. No compiler compares the two.
 
 use super::{
-    AreaAnswer, CountAnswer, EditionAnswer, PruneAnswer, ReopenAnswer, ReportAnswer, SettingAnswer,
-    SpanAnswer, StitchAnswer, UnmovedAnswer, VerdictAnswer, VertexAnswer, View, ViewAnswer,
-    WindingAnswer,
+    AreaAnswer, CountAnswer, DoneAnswer, EditionAnswer, HandleAnswer, PruneAnswer, ReopenAnswer,
+    ReportAnswer, SettingAnswer, SpanAnswer, StitchAnswer, UnmovedAnswer, VerdictAnswer,
+    VertexAnswer, View, ViewAnswer, WindingAnswer,
 };
 use crate::cuts::MOST_CUTS;
 use crate::slices::MOST_SLICES;
@@ -182,6 +182,11 @@ fn structs_lie_as_in_the_header() {
             "mask_setting_answer",
             layout_here!(SettingAnswer: refusal, tolerance_x, tolerance_y, area_limit),
         ),
+        (
+            "mask_handle_answer",
+            layout_here!(HandleAnswer: refusal, handle),
+        ),
+        ("mask_done_answer", layout_here!(DoneAnswer: refusal)),
     ];
     for (name, here) in here {
         assert_eq!(layout(name), here, "{name}");
@@ -273,7 +278,7 @@ fn bound() -> Vec<Function> {
 fn functions_are_declared_in_the_header() {
     let declared = declared();
     let bound = bound();
-    assert_eq!(bound.len(), 21);
+    assert_eq!(bound.len(), 25);
     for here in bound {
         let there = declared.iter().find(|there| there.0 == here.0);
         assert_eq!(there, Some(&here));
@@ -316,7 +321,7 @@ fn assert_codes(name: &str, prefix: &str, here: impl IntoIterator<Item = (String
 #[test]
 fn codes_are_those_of_the_header() {
     let refusals = (1..=9)
-        .chain(14..=19)
+        .chain(14..=21)
         .map(|n| (header_name(Refusal::from_number(n).unwrap()), n));
     assert_codes("mask_refusal", "MASK_REFUSED_", refusals);
     let modes = Mode::ALL.map(|mode| (header_name(mode), mode.code()));

@@ -4,9 +4,9 @@
 //! `tests` show.
 
 use super::{
-    AreaAnswer, CountAnswer, EditionAnswer, PruneAnswer, ReopenAnswer, ReportAnswer, SettingAnswer,
-    SpanAnswer, StitchAnswer, UnmovedAnswer, VerdictAnswer, VertexAnswer, View, ViewAnswer,
-    WindingAnswer,
+    AreaAnswer, CountAnswer, DoneAnswer, EditionAnswer, HandleAnswer, PruneAnswer, ReopenAnswer,
+    ReportAnswer, SettingAnswer, SpanAnswer, StitchAnswer, UnmovedAnswer, VerdictAnswer,
+    VertexAnswer, View, ViewAnswer, WindingAnswer,
 };
 use crate::{Point, Split, Vertex};
 use std::cell::RefCell;
@@ -166,7 +166,9 @@ answers!(
     Area AreaAnswer,
     Report ReportAnswer,
     Edition EditionAnswer,
-    Setting SettingAnswer
+    Setting SettingAnswer,
+    Handle HandleAnswer,
+    Done DoneAnswer
 );
 
 macro_rules! lent_as {
@@ -216,7 +218,7 @@ pub(crate) mod entries {
     use super::{play, play_all, Call, Lent};
     use super::{CountAnswer, PruneAnswer, StitchAnswer, VerdictAnswer, VertexAnswer, ViewAnswer};
     use super::{AreaAnswer, Point, ReportAnswer, SpanAnswer, Split, Vertex, View, WindingAnswer};
-    use super::{EditionAnswer, SettingAnswer};
+    use super::{DoneAnswer, EditionAnswer, HandleAnswer, SettingAnswer};
     use super::{ReopenAnswer, UnmovedAnswer};
 
     pub(crate) fn view_vertex(outline: &[f64], vc: usize, view: View, index: usize) -> VertexAnswer {
@@ -382,5 +384,36 @@ pub(crate) mod entries {
         entered: &[usize], settings: &[f64], edition: usize,
     ) -> SettingAnswer {
         play(call!(settings_ask: entered, settings, edition;), &mut [], &mut []).into()
+    }
+
+    pub(crate) fn store_put(
+        held: &mut [usize], slice_at: &mut [usize], slice: &mut [f64], slice_edition: &mut [u32],
+        put_at: &[usize], put: &[f64], put_edition: u32,
+    ) -> HandleAnswer {
+        let call = call!(store_put: put_at, put, put_edition; held, slice_at, slice, slice_edition);
+        play_all(call, &mut [held, slice_at], &mut [slice], slice_edition).into()
+    }
+
+    pub(crate) fn store_release(
+        held: &mut [usize], slice_at: &[usize], slice: &[f64], slice_edition: &[u32], handle: usize,
+    ) -> DoneAnswer {
+        let call = call!(store_release: slice_at, slice, slice_edition, handle; held);
+        play(call, &mut [held], &mut []).into()
+    }
+
+    pub(crate) fn store_list(
+        held: &[usize], slice_at: &[usize], slice: &[f64], slice_edition: &[u32],
+        handles: &mut [usize], list_at: &mut [usize], list: &mut [f64], list_edition: &mut [u32],
+    ) -> CountAnswer {
+        let call = call!(store_list: held, slice_at, slice, slice_edition;
+            handles, list_at, list, list_edition);
+        play_all(call, &mut [handles, list_at], &mut [list], list_edition).into()
+    }
+
+    pub(crate) fn store_compact(
+        held: &mut [usize], slice_at: &mut [usize], slice: &mut [f64], slice_edition: &mut [u32],
+    ) -> DoneAnswer {
+        let call = call!(store_compact: ; held, slice_at, slice, slice_edition);
+        play_all(call, &mut [held, slice_at], &mut [slice], slice_edition).into()
     }
 }

@@ -8,5 +8,6 @@ mod settings;
 mod shapes;
 mod sheet;
 mod starts;
+mod store;
 mod straight;
 mod views;

@@ -1,0 +1,36 @@
+use Prim.Native.Nat.{_-_, _≤_}
+use lib.ListN.{length}
+use Rattle.store.specs.Ready.{Looked}
+use Rattle.store.proofs.Looking.{looked-none, looked-end}
+use borrow.Author.Needs.{needs}
+use Rattle.store.proofs.marks.live_marks.Statement.{statement}
+use Rattle.store.proofs.marks.live_marks.Tie as tie
+
+abbrev Inv-loop : tie.InvT-loop
+Inv-loop held order₀ handles₀ places₀ n₀ p₀ order handles places n p = (p ≤ length held) × Looked held p n order handles places
+
+abbrev μ-loop : tie.MeasureT-loop
+μ-loop held order₀ handles₀ places₀ n₀ p₀ order handles places n p = length held - p
+
+loop-holds : tie.Need-loop-holds Inv-loop μ-loop
+loop-holds c = (search needs, looked-none _ _ _ _ (search needs))
+
+look-requires : tie.Need-look-requires Inv-loop μ-loop
+look-requires c κs = record { below = search needs; looked = search needs }
+
+add-p : tie.Need-add-p Inv-loop μ-loop
+add-p c = search needs
+
+loop-less : tie.Need-loop-less Inv-loop μ-loop
+loop-less c = search needs
+
+loop-again : tie.Need-loop-again Inv-loop μ-loop
+loop-again c = (search needs, search needs)
+
+returns : tie.Need-returns Inv-loop μ-loop
+returns c = search (needs, looked-end)
+
+pub live-marks-spec : {M : Type 1} → statement M
+live-marks-spec =
+    tie.close
+    (tie.spec Inv-loop μ-loop loop-holds look-requires add-p loop-less loop-again returns)

@@ -1,0 +1,14 @@
+pub mod Keys
+pub mod KeysLaws
+pub mod Machine
+pub mod Slice
+pub mod Plain
+pub mod Blocks
+pub mod BlocksLaws
+pub mod Marks
+pub mod MarksLaws
+pub mod Lists
+pub mod ListsLaws
+pub mod Refines
+pub mod Ready
+pub mod ReadyLaws

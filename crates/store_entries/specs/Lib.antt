@@ -1,0 +1,6 @@
+pub mod Answers
+pub mod StoreRows
+pub mod StoreEntry
+pub mod StoreTheorems
+pub mod StoreEntryLaws
+pub mod Examples

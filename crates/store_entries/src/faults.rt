@@ -1,0 +1,49 @@
+// The refusals of the store's entries, part by part of their tables. Each part goes on from what was found so far.
+ghost use mathlib.Core.Path.{_≡_};
+ghost use Rattle.basis.specs.Refuse.{firstFrom};
+ghost use Rattle.store_entries.specs.StoreRows.{storeRows, numberRows, sliceRows, roomRows};
+use basis::number;
+use basis::refuse;
+
+// How many places the store has, and how many codes and numbers they take.
+const PLACES: usize = 1792;
+
+const CODES: usize = 7168;
+
+const NUMBERS: usize = 10752;
+
+// Number 1: the four lists are not those of as many places.
+pub(crate) fn store_refusal(r: u32, held: usize, at: usize, shape: usize, edition: usize) -> u32
+    ensures { λ n. ⌜ n ≡ firstFrom r (storeRows held at shape edition) ⌝ }
+{
+    let r = refuse::or_else(r, refuse::bad_length(held, 1, PLACES), 1);
+    let r = refuse::or_else(r, refuse::bad_length(at, 4, PLACES), 1);
+    let r = refuse::or_else(r, refuse::bad_length(shape, 6, PLACES), 1);
+    refuse::or_else(r, refuse::bad_length(edition, 1, PLACES), 1)
+}
+
+// Number 5 of the slice that is put.
+fn number_refusal(r: u32, put_shape: &[f64]) -> u32
+    ensures { λ n. ⌜ n ≡ firstFrom r (numberRows (now («put_shape» .entry))) ⌝ }
+{
+    refuse::or_else(r, !number::all_in_range(put_shape), 5)
+}
+
+// Numbers 1, 3 and 5 of the slice that is put.
+pub(crate) fn slice_refusal(r: u32, put_at: &[usize], put_shape: &[f64]) -> u32
+    ensures { λ n. ⌜ n ≡ firstFrom r (sliceRows (now («put_at» .entry)) (now («put_shape» .entry))) ⌝ }
+{
+    let r = slice::faults::list_refusal(r, put_at.len(), put_shape.len(), 1);
+    let r = slice::faults::code_refusal(r, put_at);
+    number_refusal(r, put_shape)
+}
+
+// Number 9: a list lent for the list is shorter than for every place.
+pub(crate) fn room_refusal(r: u32, handles: usize, at: usize, shape: usize, edition: usize) -> u32
+    ensures { λ n. ⌜ n ≡ firstFrom r (roomRows 1792 handles at shape edition) ⌝ }
+{
+    let r = refuse::or_else(r, handles < PLACES, 9);
+    let r = refuse::or_else(r, at < CODES, 9);
+    let r = refuse::or_else(r, shape < NUMBERS, 9);
+    refuse::or_else(r, edition < PLACES, 9)
+}

@@ -1,0 +1,57 @@
+use Rattle.store_write.proofs.Calling.{blank-start, show-handles, show-codes, show-numbers, show-editions, list-done}
+use borrow.Author.Needs.{needs}
+use Rattle.store_write.proofs.keep.list_slices.Statement.{statement}
+use Rattle.store_write.proofs.keep.list_slices.Tie as tie
+
+live-marks-requires : tie.Need-live-marks-requires
+live-marks-requires c κs = blank-start _ (search needs)
+
+show-handles-requires : tie.Need-show-handles-requires
+show-handles-requires c κs = search show-handles
+
+show-codes-requires : tie.Need-show-codes-requires
+show-codes-requires c κs = search show-codes
+
+show-numbers-requires : tie.Need-show-numbers-requires
+show-numbers-requires c κs = search show-numbers
+
+show-editions-requires : tie.Need-show-editions-requires
+show-editions-requires c κs = search show-editions
+
+same-length : tie.Need-same-length
+same-length c = search needs
+
+same-length-2 : tie.Need-same-length-2
+same-length-2 c = search needs
+
+same-length-3 : tie.Need-same-length-3
+same-length-3 c = search needs
+
+same-length-4 : tie.Need-same-length-4
+same-length-4 c = search needs
+
+returns : tie.Need-returns
+returns c =
+    let editions = c .before .before in
+    let numbers = editions .before .before .before .before .before in
+    let codes = numbers .before .before .before .before .before in
+    let handles = codes .before .before .before .before .before in
+    let looked = handles .before .before .before in
+    let start = looked .before .before .before .before .before .before .before .before .before .before .before .before in
+    list-done _ _ _ _ _ _ _ _ _ _ _ _ (start .pre) (looked .live-marks .ensures) _ _ _ _
+    (handles .show-handles .ensures) (codes .show-codes .ensures) (numbers .show-numbers .ensures) (editions .show-editions .ensures)
+
+pub list-slices-spec : {M : Type 1} → statement M
+list-slices-spec =
+    tie.close
+    (tie.spec
+    live-marks-requires
+    show-handles-requires
+    show-codes-requires
+    show-numbers-requires
+    show-editions-requires
+    same-length
+    same-length-2
+    same-length-3
+    same-length-4
+    returns)
