@@ -3,8 +3,8 @@
 //! against the new outline, and what the store lists is stitched.
 
 use mask_tools::{
-    prune, stitch, Intersection, Intersections, Masks, Mode, OnSegment, Outline, Overlaps, Point,
-    Refusal, Source, Store, StraightHost, Tolerance, Verdict,
+    prune, stitch, First, Intersection, Intersections, Masks, Mode, OnSegment, Outline, Overlaps,
+    Point, Refusal, Second, Source, Store, StraightHost, Tolerance, Verdict,
 };
 
 const T: Tolerance = Tolerance::new(1.0 / 1024.0);
@@ -39,14 +39,19 @@ fn main() -> Result<(), Refusal> {
     )?;
     let mut store = Store::new();
     for slice in slices.iter() {
-        store.put(slice, 1)?;
+        store.put(First, slice, 1)?;
+    }
+    // Another fleet shares the store. What it does changes nothing of ours.
+    if let Some(slice) = slices.iter().next() {
+        store.put(Second, slice, 9)?;
+        store.compact(Second)?;
     }
 
     // Outline 2 comes again with a corner moved out: edition 2.
     let b2 = Outline::straight(&[(2.0, 2.0), (6.0, 2.0), (7.0, 7.0), (2.0, 6.0)]);
     let editions = |source| if source == Source::Pline1 { 1 } else { 2 };
     let late: Vec<_> = store
-        .list()?
+        .list(First)?
         .iter()
         .filter(|kept| kept.edition != editions(kept.slice.source))
         .collect();
@@ -61,7 +66,7 @@ fn main() -> Result<(), Refusal> {
         let verdict = kept.slice.view.validate_for_source(&b2, on_segment)?;
         store.release(kept.handle)?;
         if verdict == Verdict::IsValid {
-            let handle = store.put(kept.slice, 2)?;
+            let handle = store.put(First, kept.slice, 2)?;
             println!("slice {} is of edition 2 now", handle.number());
         } else {
             println!("slice {} is cut again", kept.handle.number());
@@ -69,8 +74,8 @@ fn main() -> Result<(), Refusal> {
     }
 
     // What is listed goes straight into a stitch.
-    store.compact()?;
-    let kept = store.list()?.into_slices(slices.starts);
+    store.compact(First)?;
+    let kept = store.list(First)?.into_slices(slices.starts);
     for lp in stitch(&a, &b2, &kept, Mode::Union.selector(), T)?.loops() {
         let corners: Vec<String> = lp.iter().map(|v| format!("({},{})", v.x, v.y)).collect();
         println!("{}", corners.join(" "));

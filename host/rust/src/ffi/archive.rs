@@ -387,6 +387,7 @@ mod entries {
             slice_len: usize,
             slice_edition: *mut u32,
             slice_edition_len: usize,
+            party: u32,
             put_at: *const usize,
             put_at_len: usize,
             put: *const f64,
@@ -403,6 +404,7 @@ mod entries {
             slice_len: usize,
             slice_edition: *const u32,
             slice_edition_len: usize,
+            party: u32,
             handle: usize,
         ) -> DoneAnswer;
 
@@ -415,6 +417,7 @@ mod entries {
             slice_len: usize,
             slice_edition: *const u32,
             slice_edition_len: usize,
+            party: u32,
             handles: *mut usize,
             handles_len: usize,
             list_at: *mut usize,
@@ -434,6 +437,7 @@ mod entries {
             slice_len: usize,
             slice_edition: *mut u32,
             slice_edition_len: usize,
+            party: u32,
         ) -> DoneAnswer;
     }
 
@@ -807,6 +811,7 @@ mod entries {
         slice_at: &mut [usize],
         slice: &mut [f64],
         slice_edition: &mut [u32],
+        party: u32,
         put_at: &[usize],
         put: &[f64],
         put_edition: u32,
@@ -822,6 +827,7 @@ mod entries {
                 slice.len(),
                 slice_edition.as_mut_ptr(),
                 slice_edition.len(),
+                party,
                 put_at.as_ptr(),
                 put_at.len(),
                 put.as_ptr(),
@@ -837,6 +843,7 @@ mod entries {
         slice_at: &[usize],
         slice: &[f64],
         slice_edition: &[u32],
+        party: u32,
         handle: usize,
     ) -> DoneAnswer {
         // SAFETY: each pointer and length are those of one slice. Only `held`, a `&mut`, is written.
@@ -850,6 +857,7 @@ mod entries {
                 slice.len(),
                 slice_edition.as_ptr(),
                 slice_edition.len(),
+                party,
                 handle,
             )
         }
@@ -862,6 +870,7 @@ mod entries {
         slice_at: &[usize],
         slice: &[f64],
         slice_edition: &[u32],
+        party: u32,
         handles: &mut [usize],
         list_at: &mut [usize],
         list: &mut [f64],
@@ -879,6 +888,7 @@ mod entries {
                 slice.len(),
                 slice_edition.as_ptr(),
                 slice_edition.len(),
+                party,
                 handles.as_mut_ptr(),
                 handles.len(),
                 list_at.as_mut_ptr(),
@@ -897,6 +907,7 @@ mod entries {
         slice_at: &mut [usize],
         slice: &mut [f64],
         slice_edition: &mut [u32],
+        party: u32,
     ) -> DoneAnswer {
         // SAFETY: each pointer and length are those of one slice, which is `&mut`.
         unsafe {
@@ -909,6 +920,7 @@ mod entries {
                 slice.len(),
                 slice_edition.as_mut_ptr(),
                 slice_edition.len(),
+                party,
             )
         }
     }

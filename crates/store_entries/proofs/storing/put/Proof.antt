@@ -9,14 +9,20 @@ store-refusal-requires c κs = search needs
 slice-refusal-requires : tie.Need-slice-refusal-requires
 slice-refusal-requires c κs = search needs
 
+party-refusal-requires : tie.Need-party-refusal-requires
+party-refusal-requires c κs = search needs
+
 handle-refused-requires : tie.Need-handle-refused-requires
 handle-refused-requires c κs = search needs
 
 returns : tie.Need-returns
 returns c = search put-refused
 
-put-slice-requires : tie.Need-put-slice-requires
-put-slice-requires c κs = search put-fits
+cast-put : tie.Need-cast-put
+cast-put c = search needs
+
+put-requires : tie.Need-put-requires
+put-requires c κs = search put-fits
 
 handle-from-requires : tie.Need-handle-from-requires
 handle-from-requires c κs = search needs
@@ -42,9 +48,11 @@ put-spec =
     (tie.spec
     store-refusal-requires
     slice-refusal-requires
+    party-refusal-requires
     handle-refused-requires
     returns
-    put-slice-requires
+    cast-put
+    put-requires
     handle-from-requires
     same-length
     same-length-2
