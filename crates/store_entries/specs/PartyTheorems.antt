@@ -86,11 +86,13 @@ one-call w v z h = parted w v z h (firstOf (ownRows share (v .asked))) refl
 unfoldable pub unknownAnswer : ℕ → Asked → Answer Slice
 unknownAnswer p a = refused (firstOf (ownRows share a ++ partyRows p))
 
+unknown-party : (p : ℕ) → 2 ≤ p → firstOf (partyRows p) ≡ 22
+unfolding firstOf
+unknown-party p h = let t : ltb 1 p ≡ true = lt-ltb 1 p (omega arith) in rw t
+
 unknown-number : (p : ℕ) (a : Asked) → 2 ≤ p → (n : ℕ) → firstOf (ownRows share a) ≡ n → firstOf (ownRows share a ++ partyRows p) ≡ 0 → ⊥
 unknown-number p a h zero e f =
-    let t : ltb 1 p ≡ true = lt-ltb 1 p (omega arith) in
-    let g : firstOf (partyRows p) ≡ 22 = unfold firstOf in rw t in
-    let k : firstOf (ownRows share a ++ partyRows p) ≡ 22 = first-later (ownRows share a) (partyRows p) (clear (ownRows share a) (numbered-own share a) e) ∙ g in
+    let k : firstOf (ownRows share a ++ partyRows p) ≡ 22 = first-later (ownRows share a) (partyRows p) (clear (ownRows share a) (numbered-own share a) e) ∙ unknown-party p h in
     omega arith
 unknown-number p a h (suc n) e f =
     let k : firstOf (ownRows share a ++ partyRows p) ≡ suc n = first-found (ownRows share a) (partyRows p) (λ z. let q : suc n ≡ 0 = sym e ∙ z in omega arith) ∙ e in
@@ -148,16 +150,17 @@ heard-unknown p w (v ∷ h) k z =
     rw (e, says, heard-unknown p (storeTurn w v .left) h k (turn-sized w v z)))
     (λ e. rw (e, heard-unknown p (storeTurn w v .left) h k (turn-sized w v z)))
 
--- ---- THE THEOREM of isolation: two histories over two contents that agree on a party's own part and own calls, whatever the other party does
-pub undisturbed : (p : ℕ) (w w′ : Lists) (h h′ : List Called) → Sized places w → Sized places w′ → partOf share p w ≡ partOf share p w′ → own p h ≡ own p h′ → heard p w h ≡ heard p w′ h′
-undisturbed p w w′ h h′ z z′ r o =
-    by-test (ltb p 2)
-    (λ e. heard-own p w h (ltb-true p 2 e) z ∙ rw (r, o) (sym (heard-own p w′ h′ (ltb-true p 2 e) z′)))
-    (λ e. heard-unknown p w h (ltb-false p 2 e) z ∙ rw o (sym (heard-unknown p w′ h′ (ltb-false p 2 e) z′)))
-
--- and a party's answers are those of a plain list of its own, of at most 896 slices: K9's theorem, of its part
+-- a party's answers are those of a plain list of its own, of at most 896 slices: K9's theorem, of its part
 pub plain-heard : (p : ℕ) (w : Lists) (h : List Called) → p < 2 → Sized places w → heard p w h ≡ answers (plainTurn share) (plainOf share (partOf share p w)) (own p h)
 plain-heard p w h k z = heard-own p w h k z ∙ asked-plain share few (partOf share p w) (own p h) (part-sized share p w k z)
+
+-- ---- THE THEOREM of isolation: two histories, over two contents in which a party has the same live slices, that agree on its own calls; whatever the other party did
+pub undisturbed : (p : ℕ) (w w′ : Lists) (h h′ : List Called) → Sized places w → Sized places w′
+    → plainOf share (partOf share p w) ≡ plainOf share (partOf share p w′) → own p h ≡ own p h′ → heard p w h ≡ heard p w′ h′
+undisturbed p w w′ h h′ z z′ r o =
+    by-test (ltb p 2)
+    (λ e. plain-heard p w h (ltb-true p 2 e) z ∙ rw (r, o) (sym (plain-heard p w′ h′ (ltb-true p 2 e) z′)))
+    (λ e. heard-unknown p w h (ltb-false p 2 e) z ∙ rw o (sym (heard-unknown p w′ h′ (ltb-false p 2 e) z′)))
 
 -- ---- "is never answered 20 below that, whatever the other does"
 
@@ -184,22 +187,21 @@ plain-room : (l : List (Kept Slice)) (a : Asked) → length l < share → refusa
 unfolding plainStep callOf refusalIn
 plain-room l (toPut x) room e =
     let d : eqb (length l) share ≡ false = ne-eqb (length l) share (λ q. omega arith) in
-    let f : 0 ≡ 20 = rw d at e in
+    let f : _≡_ {A = ℕ} 0 20 = rw d at e in
     omega arith
 plain-room l (toRelease h) room e =
     by-test (has l h)
-    (λ t. let f : 0 ≡ 20 = rw t at e in omega arith)
-    (λ t. let f : 21 ≡ 20 = rw t at e in omega arith)
+    (λ t. let f : _≡_ {A = ℕ} 0 20 = rw t at e in omega arith)
+    (λ t. let f : _≡_ {A = ℕ} 21 20 = rw t at e in omega arith)
 plain-room l (toList h a s d) room e = omega arith
 plain-room l toCompact room e = omega arith
 
 plain-never : (l : List (Kept Slice)) (a : Asked) → length l < share → (n : ℕ) → firstOf (ownRows share a) ≡ n → refusalIn (plainTurn share l a .answer) ≡ 20 → ⊥
-unfolding plainTurn answer
+unfolding plainTurn answer refusalIn
 plain-never l a room zero q e = plain-room l a room (rw q at e)
 plain-never l a room (suc n) q e =
     let m : firstOf (ownRows share a) ≤ 9 = own-most a in
-    let f : refusalIn (refused (suc n)) ≡ 20 = rw q at e in
-    let g : suc n ≡ 20 = unfold refusalIn in f in
+    let f : suc n ≡ 20 = rw q at e in
     omega arith
 
 pub never-full : (p : ℕ) (w : Lists) (a : Asked) → p < 2 → Sized places w → length (plainOf share (partOf share p w)) < share

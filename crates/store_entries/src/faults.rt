@@ -1,7 +1,7 @@
 // The refusals of the store's entries, part by part of their tables. Each part goes on from what was found so far.
 ghost use mathlib.Core.Path.{_≡_};
 ghost use Rattle.basis.specs.Refuse.{firstFrom};
-ghost use Rattle.store_entries.specs.StoreRows.{storeRows, numberRows, sliceRows, roomRows};
+ghost use Rattle.store_entries.specs.StoreRows.{storeRows, numberRows, sliceRows, roomRows, partyRows};
 use basis::number;
 use basis::refuse;
 

@@ -151,4 +151,7 @@ module _ (held : List ℕ) (p h : ℕ) (f : PartMarksFit held p) where
       let t₁ : Released (block 896 held p) h r ys = rw (cut-block 896 p held) at t in
       let a : r ≡ keyed handleOf (livesOf 896 (block 896 held p)) h = rw long at (t₁ .found) in
       let b : ys ≡ cond (keyed handleOf (livesOf 896 (block 896 held p)) h) (filled 0 896 (without handleOf (livesOf 896 (block 896 held p)) h)) (block 896 held p) = rw long at (t₁ .marks) in
-      record { found = a; marks = rw b (back-paste 896 p held _ (left-long (keyed handleOf (livesOf 896 (block 896 held p)) h))) }
+      record {
+        found = a;
+        marks = back-paste 896 p held ys (ap length b ∙ left-long (keyed handleOf (livesOf 896 (block 896 held p)) h)) ∙ ap (λ (x : List ℕ). paste held (896 * p) x 896) b;
+      }

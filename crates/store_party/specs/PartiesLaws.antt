@@ -7,11 +7,11 @@ use native.Mathlib.Omega.{arith}
 use native.Mathlib.Nat.{mul-suc, mul-le-mul-left}
 use lib.ListN.{length, take, drop, take-append-drop}
 use lib.Seq.{paste, take-take, take-add}
-use Rattle.store.specs.Keys.{keyed}
+use Rattle.store.specs.Keys.{keyed, without}
 use Rattle.store.specs.Plain.{release}
 use Rattle.store.specs.Blocks.{block}
 use Rattle.store.specs.BlocksLaws.{length-block, block-paste-at, block-paste-other, length-paste-place}
-use Rattle.store.specs.Marks.{handleOf, livesOf}
+use Rattle.store.specs.Marks.{handleOf, livesOf, filled}
 use Rattle.store.specs.Lists.{Lists, lists, Sized, releasedIn, listStep}
 use Rattle.store_party.specs.Parties.{partOf, rejoined, partyStep}
 use Rattle.store_party.specs.Ready.{share, PartFits, PartReleased}
@@ -81,12 +81,17 @@ released-left w p h held′ f t = go (keyed handleOf (livesOf share (block share
   where
     two : (v : ℕ) {A : Type 0} (l : List A) → length l ≡ v * 2 → v * suc p ≤ length l
     two v l e = let k : v * suc p ≤ v * 2 = mul-le-mul-left v (f .known) in omega arith
+    kept : keyed handleOf (livesOf share (block share (w .held) p)) h ≡ false → held′ ≡ paste (w .held) (share * p) (block share (w .held) p) share
+    kept e = rw e at (t .marks)
+    gone : keyed handleOf (livesOf share (block share (w .held) p)) h ≡ true
+        → held′ ≡ paste (w .held) (share * p) (filled 0 share (without handleOf (livesOf share (block share (w .held) p)) h)) share
+    gone e = rw e at (t .marks)
     go : (b : Bool) → keyed handleOf (livesOf share (block share (w .held) p)) h ≡ b → lists held′ (w .at) (w .shape) (w .edition) ≡ partyStep share p w (release h) .left
     go true e =
         unfold partyStep rejoined partOf listStep releasedIn in
         rw (
           e,
-          t .marks,
+          gone e,
           same-part 3584 p (w .at) (two 3584 (w .at) (f .sized .fours)),
           same-part 5376 p (w .shape) (two 5376 (w .shape) (f .sized .sixes)),
           same-part 896 p (w .edition) (two 896 (w .edition) (f .sized .ones)),
@@ -95,7 +100,7 @@ released-left w p h held′ f t = go (keyed handleOf (livesOf share (block share
         unfold partyStep rejoined partOf listStep in
         rw (
           e,
-          t .marks,
+          kept e,
           same-part 3584 p (w .at) (two 3584 (w .at) (f .sized .fours)),
           same-part 5376 p (w .shape) (two 5376 (w .shape) (f .sized .sixes)),
           same-part 896 p (w .edition) (two 896 (w .edition) (f .sized .ones)),

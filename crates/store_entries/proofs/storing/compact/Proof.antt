@@ -15,9 +15,6 @@ done-refused-requires c κs = search needs
 returns : tie.Need-returns
 returns c = search compact-refused
 
-cast-compact : tie.Need-cast-compact
-cast-compact c = search needs
-
 compact-requires : tie.Need-compact-requires
 compact-requires c κs = search compact-fits
 
@@ -47,7 +44,6 @@ compact-spec =
     party-refusal-requires
     done-refused-requires
     returns
-    cast-compact
     compact-requires
     done-from-requires
     same-length

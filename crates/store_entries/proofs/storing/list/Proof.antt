@@ -18,11 +18,10 @@ count-refused-requires c κs = search needs
 returns : tie.Need-returns
 returns c = search list-refused
 
-cast-list : tie.Need-cast-list
-cast-list c = search needs
-
 list-requires : tie.Need-list-requires
-list-requires c κs = search list-fits
+list-requires c κs =
+    let tested = c .before .before .before .before in
+    list-fits _ _ _ _ _ _ _ _ _ _ _ _ (tested .before .before .before .store-refusal .ensures) (tested .before .before .room-refusal .ensures) (tested .before .party-refusal .ensures) (tested .if1 .left)
 
 counted-as-requires : tie.Need-counted-as-requires
 counted-as-requires c κs = search needs
@@ -51,7 +50,6 @@ list-spec =
     party-refusal-requires
     count-refused-requires
     returns
-    cast-list
     list-requires
     counted-as-requires
     same-length

@@ -18,11 +18,10 @@ handle-refused-requires c κs = search needs
 returns : tie.Need-returns
 returns c = search put-refused
 
-cast-put : tie.Need-cast-put
-cast-put c = search needs
-
 put-requires : tie.Need-put-requires
-put-requires c κs = search put-fits
+put-requires c κs =
+    let tested = c .before .before .before .before in
+    put-fits _ _ _ _ _ _ _ _ _ _ _ (tested .before .before .before .store-refusal .ensures) (tested .before .before .slice-refusal .ensures) (tested .before .party-refusal .ensures) (tested .if1 .left)
 
 handle-from-requires : tie.Need-handle-from-requires
 handle-from-requires c κs = search needs
@@ -51,7 +50,6 @@ put-spec =
     party-refusal-requires
     handle-refused-requires
     returns
-    cast-put
     put-requires
     handle-from-requires
     same-length

@@ -15,9 +15,6 @@ done-refused-requires c κs = search needs
 returns : tie.Need-returns
 returns c = search release-refused
 
-cast-release : tie.Need-cast-release
-cast-release c = search needs
-
 release-requires : tie.Need-release-requires
 release-requires c κs = search release-fits
 
@@ -38,7 +35,6 @@ release-spec =
     party-refusal-requires
     done-refused-requires
     returns
-    cast-release
     release-requires
     done-from-requires
     same-length
