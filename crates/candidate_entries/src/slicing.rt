@@ -355,15 +355,17 @@ pub fn entry(
     lap: &[f64],
     laps: usize,
     splits: &[f64],
-    tolerance: f64,
+    tolerance_x: f64,
+    tolerance_y: f64,
     cand_at: &mut [usize],
     cand: &mut [f64],
     probe: &mut [f64],
 ) -> CountAnswer
-    ensures { λ r. ⌜ Sliced (given (now (outline .entry)) (now («hit_at» .entry)) (now (hit .entry)) (now («lap_at» .entry)) (now (lap .entry)) (caseOf vc source hits laps (toleranceOf tolerance))) (now (splits .entry)) (rooms (now («cand_at» .entry)) (now (cand .entry)) (now (probe .entry))) r (rooms (now («cand_at» .exit)) (now (cand .exit)) (now (probe .exit))) ⌝ }
+    ensures { λ r. ⌜ Sliced (given (now (outline .entry)) (now («hit_at» .entry)) (now (hit .entry)) (now («lap_at» .entry)) (now (lap .entry)) (caseOf vc source hits laps (toleranceOf «tolerance_x» «tolerance_y»))) (now (splits .entry)) (rooms (now («cand_at» .entry)) (now (cand .entry)) (now (probe .entry))) r (rooms (now («cand_at» .exit)) (now (cand .exit)) (now (probe .exit))) ⌝ }
 {
     let t = Tolerance {
-        position: tolerance,
+        x: tolerance_x,
+        y: tolerance_y,
     };
     let s = Case {
         vc,

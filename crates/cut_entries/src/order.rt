@@ -209,14 +209,16 @@ pub fn entry(
     lap_at: &[usize],
     lap: &[f64],
     laps: usize,
-    tolerance: f64,
+    tolerance_x: f64,
+    tolerance_y: f64,
     cut_at: &mut [usize],
     cut: &mut [f64],
 ) -> CountAnswer
-    ensures { λ r. ⌜ CutOrdered (given (now (outline .entry)) (now («hit_at» .entry)) (now (hit .entry)) (now («lap_at» .entry)) (now (lap .entry)) (caseOf vc source hits laps (toleranceOf tolerance))) (now («cut_at» .entry)) (now (cut .entry)) r (now («cut_at» .exit)) (now (cut .exit)) ⌝ }
+    ensures { λ r. ⌜ CutOrdered (given (now (outline .entry)) (now («hit_at» .entry)) (now (hit .entry)) (now («lap_at» .entry)) (now (lap .entry)) (caseOf vc source hits laps (toleranceOf «tolerance_x» «tolerance_y»))) (now («cut_at» .entry)) (now (cut .entry)) r (now («cut_at» .exit)) (now (cut .exit)) ⌝ }
 {
     let t = Tolerance {
-        position: tolerance,
+        x: tolerance_x,
+        y: tolerance_y,
     };
     let s = Case {
         vc,

@@ -61,7 +61,10 @@ module _ (o : List Float) (ha : List ℕ) (h : List Float) (la : List ℕ) (l : 
       pub point-room : RoomFor p (2 * i) 2
       point-room = record { fits = omega arith }
 
-    -- the place of the point and the next index are machine numbers
+    -- the places of the numbers and of the point and the next index are machine numbers
+    pub number-fits : Fits w64 (3 * i)
+    number-fits = let f = k .roomy .accepted .ready .fewHits in let g = k .roomy .accepted .ready .fewLaps in record { fits = omega arith }
+
     pub point-fits : Fits w64 (2 * i)
     point-fits = let f = k .roomy .accepted .ready .fewHits in let g = k .roomy .accepted .ready .fewLaps in record { fits = omega arith }
 
@@ -119,4 +122,4 @@ sort-room g order cutAt cut r =
 
 pub ruleset overwriting = (sort-room, room-known, written-over)
 
-pub ruleset writing = (three-put, write-none, known-arrival, number-room, point-room, point-fits, next-fits, write-more, write-end)
+pub ruleset writing = (three-put, write-none, known-arrival, number-room, point-room, number-fits, point-fits, next-fits, write-more, write-end)

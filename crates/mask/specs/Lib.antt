@@ -3,3 +3,4 @@ pub mod Pipeline
 pub mod OneAnswer
 pub mod First
 pub mod NoGuards
+pub mod OneTolerance

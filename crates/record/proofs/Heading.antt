@@ -19,7 +19,7 @@ use Rattle.basis.specs.StoreLaws.{sets-front}
 use Rattle.record.specs.declared.form.Version.{Version}
 use Rattle.stitch_run.specs.declared.plan.Plan.{Plan}
 use Rattle.record.specs.declared.head.Lengths.{Lengths}
-use Rattle.basis.specs.Number.{toleranceOf}
+use Rattle.basis.specs.Number.{alike}
 use Rattle.slice.specs.Faults as slices
 use Rattle.stitch_run.specs.Stitch.{planOf}
 use Rattle.record.specs.Record.{markOk, frameRows, takenRows, countRows, roomRows}
@@ -79,7 +79,7 @@ module _ {v : Version} {hs b : List ℕ} (h : HeadFit v hs b) {z f : List ℕ} (
       → HeadRead v hs b
       (planOf (getD f 4 0) (getD f 5 0) (getD f (v .later + 3) 0)
       (record { pline2 = getD f (v .later) 0; «pline1_overlapping» = getD f (v .later + 1) 0; «pline2_overlapping» = getD f (v .later + 2) 0 })
-      (getD f 6 0) (toleranceOf t))
+      (getD f 6 0) (alike t))
   head-read t e =
       let k : v .later + 4 ≤ length hs = h .head .high in
       let j : 8 ≤ v .later = h .head .low in

@@ -6,7 +6,7 @@ use mathlib.Core.Path.{_≡_}
 use lib.Dec.{ltb, leb, eqb}
 use lib.ListN.{length, getD, take, drop}
 use lib.Ieee.{Float}
-use Rattle.basis.specs.Number.{+0, toleranceOf}
+use Rattle.basis.specs.Number.{+0, alike}
 use Rattle.basis.specs.Refuse.{Row, row, firstOf, answer}
 use Rattle.basis.specs.Room.{roomOf}
 use Rattle.fields.specs.Fields.{size, valueOf, pack, unpack, numOf, bitsOf}
@@ -40,12 +40,12 @@ planIn g = planOf (g .vc1) (g .vc2) (g .slices) (g .starts) (g .selector) (g .to
 
 -- ---- what bytes hold
 
--- the plan that a head's fields with these values say
+-- the plan that a head's fields with these values say; the one tolerance is that of both axes
 abbrev pub planAt : ℕ → List ℕ → Plan
 planAt later vs =
     planOf (getD vs 4 0) (getD vs 5 0) (getD vs (later + 3) 0)
     (record { pline2 = getD vs later 0; «pline1_overlapping» = getD vs (later + 1) 0; «pline2_overlapping» = getD vs (later + 2) 0 })
-    (getD vs 6 0) (toleranceOf (numOf (getD vs 7 0)))
+    (getD vs 6 0) (alike (numOf (getD vs 7 0)))
 
 unfoldable pub headIn : Form → List ℕ → Plan
 headIn f b = planAt (f .later) (unpack (f .head) b)
@@ -116,7 +116,7 @@ readRefusal f b l = firstOf (readRows f b l)
 
 -- ---- the reader's answer, and what it leaves in the lent lists
 abbrev pub noPlan : Plan
-noPlan = planOf 0 0 0 (record { pline2 = 0; «pline1_overlapping» = 0; «pline2_overlapping» = 0 }) 0 (toleranceOf +0)
+noPlan = planOf 0 0 0 (record { pline2 = 0; «pline1_overlapping» = 0; «pline2_overlapping» = 0 }) 0 (alike +0)
 
 abbrev pub seenRefused : ℕ → Seen
 seenRefused n = record { refusal = n; plan = noPlan }
@@ -144,10 +144,10 @@ pub record ReadLeft (f : Form) (b : List ℕ) (l : Lists) (r : Seen) (left : Lis
 
 -- ---- the record of a stitch
 
--- the values of the head's fields in version 1
+-- the values of the head's fields in version 1; its one tolerance is that of both axes, so the writer takes no two that differ (K6)
 abbrev pub headOf : ℕ → Plan → List ℕ
 headOf version p =
-    80 ∷ 66 ∷ 82 ∷ version ∷ p .vc1 ∷ p .vc2 ∷ p .selector ∷ bitsOf (p .tolerance .position)
+    80 ∷ 66 ∷ 82 ∷ version ∷ p .vc1 ∷ p .vc2 ∷ p .selector ∷ bitsOf (p .tolerance .x)
     ∷ p .starts .pline2 ∷ p .starts .«pline1_overlapping» ∷ p .starts .«pline2_overlapping» ∷ p .slices ∷ []
 
 -- the values of the fields that follow it, for so many slices

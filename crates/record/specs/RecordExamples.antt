@@ -2,7 +2,7 @@
 use Prim.Native.Nat.{ℕ}
 use mathlib.Core.Path.{_≡_, refl}
 use mathlib.Core.List.{List, [], _∷_}
-use Rattle.basis.specs.Number.{+0, toleranceOf}
+use Rattle.basis.specs.Number.{+0, alike}
 use Rattle.basis.specs.Refuse.{firstOf}
 use Rattle.fields.specs.Fields.{size, valueOf}
 use Rattle.stitch_run.specs.declared.plan.Plan.{Plan}
@@ -12,7 +12,7 @@ use Rattle.record.specs.Record.{lengthOf, lengthIn, markOk, takenLengths
 
 -- a head with these counts
 abbrev pub counts : ℕ → ℕ → ℕ → Plan
-counts a b n = planOf a b n (record { pline2 = 0; «pline1_overlapping» = 0; «pline2_overlapping» = 0 }) 0 (toleranceOf +0)
+counts a b n = planOf a b n (record { pline2 = 0; «pline1_overlapping» = 0; «pline2_overlapping» = 0 }) 0 (alike +0)
 
 -- the head; "The union of 01 is 326 bytes"; the longest record that the program takes
 pub sizes : (size (form1 .head) ≡ 26) × (lengthIn form1 (counts 4 4 2) ≡ 326) × (lengthIn form1 (counts takenVertices takenVertices takenSlices) ≡ form1 .most)

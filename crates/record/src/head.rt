@@ -64,7 +64,7 @@ pub fn plan_in(bytes: &[u8], v: Version, widths: &[usize]) -> Plan
     let vc1 = f[4];
     let vc2 = f[5];
     let selector = f[6] as u32;
-    let position = copy::number(f[7]);
+    let both = copy::number(f[7]);
     let pline2 = f[i];
     let pline1_overlapping = f[j];
     let pline2_overlapping = f[k];
@@ -74,7 +74,7 @@ pub fn plan_in(bytes: &[u8], v: Version, widths: &[usize]) -> Plan
         pline1_overlapping,
         pline2_overlapping,
     };
-    let tolerance = Tolerance { position };
+    let tolerance = Tolerance { x: both, y: both };
     Plan {
         vc1,
         vc2,

@@ -20,7 +20,7 @@ fn seen_refused(number: u32) -> Seen
         pline1_overlapping: 0,
         pline2_overlapping: 0,
     };
-    let tolerance = Tolerance { position: 0.0 };
+    let tolerance = Tolerance { x: 0.0, y: 0.0 };
     let plan = Plan {
         vc1: 0,
         vc2: 0,

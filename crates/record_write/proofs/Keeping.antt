@@ -1,17 +1,22 @@
 -- What the writer is proved by.
 use Prim.Native.Nat.{ℕ, _+_, _-_, _*_, _≤_, _<_}
+use mathlib.Core.Bool.{true, false, not, _&&_}
 use mathlib.Core.Path.{_≡_, refl, sym, ap, _∙_}
 use mathlib.Core.List.{List, [], _∷_, _++_}
 use native.Mathlib.Omega.{arith}
 use borrow.Author.Tests.{lt-ltb, le-ltb}
-use lib.Dec.{ltb}
+use lib.Dec.{ltb, eqb}
 use lib.ListN.{length, take, drop}
 use lib.Seq.{take-at, sets}
 use lib.Ieee.{Float}
+use Rattle.basis.specs.declared.number.Tolerance.{Tolerance}
+use Rattle.basis.specs.Choice.{and-left, and-right}
+use Rattle.basis.specs.Number.{tolerableOn, tolerable}
 use Rattle.basis.specs.StoreLaws.{sets-front}
 use Rattle.basis.specs.Refuse.{Row, row, firstOf, firstFrom}
 use Rattle.basis.specs.RefuseLaws.{Clear, clear, first-from, answer-no, answer-yes, first-found, first-later}
-use Rattle.fields.specs.Fields.{size}
+use Rattle.fields.specs.Fields.{size, bitsOf}
+use Rattle.fields.specs.Ready.{Number}
 use Rattle.stitch_run.specs.declared.plan.Plan.{Plan}
 use Rattle.stitch_run.specs.Stitch.{Given, given}
 use Rattle.record.specs.declared.form.Version.{Version}
@@ -20,9 +25,9 @@ use Rattle.record.specs.Ready.{versionOf, Sized}
 use Rattle.record.specs.Record.{listsIn, planIn, lengthOf, lengthIn, headOf, valuesOf, packed, recordOf}
 use Rattle.record.specs.RecordLaws.{sets-room}
 use Rattle.record_write.specs.declared.write.Written.{Written}
-use Rattle.record_write.specs.Writer.{keepRows, lengthGiven, writeRefusal, writtenRefused, writtenGiven, WriteLeft}
+use Rattle.record_write.specs.Writer.{axesFault, keepRows, lengthGiven, writeRefusal, writtenRefused, writtenGiven, WriteLeft}
 use Rattle.record_write.specs.Ready.{PackFit, Packs, Keeps}
-use Rattle.record_write.specs.KeepLaws.{keeps-in, keeps, values-long, record-long}
+use Rattle.record_write.specs.KeepLaws.{tolerable-no-nan, keeps-in, keeps, values-long, record-long}
 
 module _ (g : Given) {m : ℕ} (k : Keeps g m) where
   abbrev values : List ℕ
@@ -67,6 +72,29 @@ packed-as p values b q r f e = rw (q, r, f) at e
 
 pub length-told : {v : Version} {n : ℕ} (p : Plan) → v ≡ versionOf form1 → n ≡ lengthOf (v .bytes) (v .stride) p → n ≡ lengthIn form1 p
 length-told p q f = rw q at f
+
+-- ---- two tolerances that differ
+module _ (t : Tolerance) where
+  pub out-of-range : tolerable t ≡ false → true ≡ axesFault t
+  unfolding axesFault
+  out-of-range f = rw f
+
+  module _ (y : tolerable t ≡ true) where
+    both : tolerableOn (t .x) && tolerableOn (t .y) ≡ true
+    unfolding tolerable
+    both = y
+
+    pub x-number : Number (t .x)
+    x-number = record { number = tolerable-no-nan (t .x) (and-left (tolerableOn (t .x)) (tolerableOn (t .y)) both) }
+
+    pub y-number : Number (t .y)
+    y-number = record { number = tolerable-no-nan (t .y) (and-right (tolerableOn (t .x)) (tolerableOn (t .y)) both) }
+
+    pub patterns : (m n : ℕ) → m ≡ bitsOf (t .x) → n ≡ bitsOf (t .y) → not (eqb m n) ≡ axesFault t
+    unfolding axesFault
+    patterns m n p q = rw (y, p, q)
+
+pub ruleset axes = (out-of-range, x-number, y-number, patterns)
 
 -- ---- the refusal
 module _ (g : Given) (m : ℕ) {r : ℕ} (e : r ≡ firstFrom 0 (keepRows g)) where

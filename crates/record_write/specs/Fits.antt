@@ -10,7 +10,7 @@ use lib.ListN.{length, getD, take, drop}
 use lib.Ieee.{Float, binary64, fits, nanBits, ofBits, lt, le, eq}
 use Rattle.basis.specs.All.{allOf}
 use Rattle.basis.specs.Choice.{by-test, clash, and-left, and-right}
-use Rattle.basis.specs.Number.{absF, within, allWithin, toleranceOf, tolerable}
+use Rattle.basis.specs.Number.{absF, within, allWithin, tolerableOn}
 use Rattle.fields.specs.Fields.{rows, infinity, numOf, bitsOf}
 use Rattle.fields.specs.FieldLaws.{thin-narrow, narrow-append, narrow-rows}
 use Rattle.fields.specs.NumberLaws.{AllPlain, plain-none, plain-one, bits-below, bits-num, nan-read}
@@ -134,15 +134,15 @@ infinity-out : within infinity ≡ false
 unfolding within absF ofBits le lt eq
 infinity-out = refl
 
-infinity-no-tolerance : tolerable (toleranceOf infinity) ≡ false
-unfolding tolerable ofBits le lt eq
+infinity-no-tolerance : tolerableOn infinity ≡ false
+unfolding tolerableOn ofBits le lt eq
 infinity-no-tolerance = refl
 
 pub number-back : (w : ℕ) → w < 256 ^ 8 → within (numOf w) ≡ true → bitsOf (numOf w) ≡ w
 number-back w h e = by-test (nanBits binary64 w) (λ t. clash (within (numOf w)) e (ap within (nan-read w t) ∙ infinity-out)) (λ f. bits-num w h f)
 
-pub tolerance-back : (w : ℕ) → w < 256 ^ 8 → tolerable (toleranceOf (numOf w)) ≡ true → bitsOf (numOf w) ≡ w
-tolerance-back w h e = by-test (nanBits binary64 w) (λ t. clash (tolerable (toleranceOf (numOf w))) e (ap (λ (x : Float). tolerable (toleranceOf x)) (nan-read w t) ∙ infinity-no-tolerance)) (λ f. bits-num w h f)
+pub tolerance-back : (w : ℕ) → w < 256 ^ 8 → tolerableOn (numOf w) ≡ true → bitsOf (numOf w) ≡ w
+tolerance-back w h e = by-test (nanBits binary64 w) (λ t. clash (tolerableOn (numOf w)) e (ap tolerableOn (nan-read w t) ∙ infinity-no-tolerance)) (λ f. bits-num w h f)
 
 pub numbers-kept : {vs : List ℕ} → Below vs → allWithin (map numOf vs) ≡ true → map bitsOf (map numOf vs) ≡ vs
 unfolding allOf

@@ -1,15 +1,16 @@
 -- What the absence of every refusal says of a stitch: it can be written, and how long its record is.
 use Prim.Native.Nat.{ℕ, _+_, _*_, _≤_}
-use mathlib.Core.Bool.{true, false, not, false≢true}
+use mathlib.Core.Bool.{true, false, not, _&&_, false≢true}
 use mathlib.Core.Path.{_≡_, _∙_}
 use mathlib.Core.List.{List, _++_, map}
 use native.Mathlib.Omega.{arith}
-use borrow.Author.Tests.{ltb-false, not-false}
+use borrow.Author.Tests.{ltb-false, eqb-true, not-false}
 use lib.Dec.{T}
 use lib.ListN.{length, getD, length-append, length-map}
 use lib.Ieee.{Float, nan, inf, fin, ofBits, isNan, lt, le}
 use Rattle.basis.specs.All.{all-at}
-use Rattle.basis.specs.Number.{absF, within, allWithin, toleranceOf, tolerable}
+use Rattle.basis.specs.Choice.{and-left, and-right}
+use Rattle.basis.specs.Number.{absF, within, allWithin, tolerableOn, tolerable}
 use Rattle.basis.specs.Refuse.{Row}
 use Rattle.basis.specs.RefuseLaws.{Clear, clear-left, clear-right, length-ok}
 use Rattle.fields.specs.Fields.{size, pack, bitsOf}
@@ -21,7 +22,7 @@ use Rattle.stitch_entries.specs.StitchEntry.{listPart, codePart, numberPart, in
 use Rattle.record.specs.Form.{form1, takenVertices, takenSlices, commonWidth, bodyOf, mix}
 use Rattle.record.specs.Record.{listsIn, planIn, lengthOf, takenRows, headOf, valuesOf, recordOf}
 use Rattle.record.specs.RecordLaws.{length-body, size-body}
-use Rattle.record_write.specs.Writer.{keepRows, lengthGiven}
+use Rattle.record_write.specs.Writer.{axesFault, axesRows, keepRows, lengthGiven}
 use Rattle.record_write.specs.Ready.{KeepsIn, Keeps}
 use Rattle.record_write.specs.ValueLaws.{length-mix}
 
@@ -32,9 +33,9 @@ within-no-nan nan e = absurd (false≢true (unfold within absF le lt in e))
 within-no-nan (inf s) e = tt
 within-no-nan (fin s m k) e = tt
 
-pub tolerable-no-nan : (t : Float) → tolerable (toleranceOf t) ≡ true → T (not (isNan t))
+pub tolerable-no-nan : (t : Float) → tolerableOn t ≡ true → T (not (isNan t))
 unfolding isNan ofBits
-tolerable-no-nan nan e = absurd (false≢true (unfold tolerable lt in e))
+tolerable-no-nan nan e = absurd (false≢true (unfold tolerableOn lt in e))
 tolerable-no-nan (inf s) e = tt
 tolerable-no-nan (fin s m k) e = tt
 
@@ -47,7 +48,7 @@ module _ (g : Given) (ok : Clear (keepRows g)) where
   taken = takenRows (planIn g)
 
   abbrev after : List Row
-  after = codePart g ++ (numberPart g ++ indexPart g)
+  after = codePart g ++ (axesRows (g .tolerance) ++ (numberPart g ++ indexPart g))
 
   pub lists-clear : Clear (listPart g)
   lists-clear = clear-left (listPart g) (taken ++ after) ok
@@ -62,16 +63,37 @@ module _ (g : Given) (ok : Clear (keepRows g)) where
   after-taken = clear-right taken after after-lists
 
   pub codes-clear : Clear (codePart g)
-  codes-clear = clear-left (codePart g) (numberPart g ++ indexPart g) after-taken
+  codes-clear = clear-left (codePart g) (axesRows (g .tolerance) ++ (numberPart g ++ indexPart g)) after-taken
 
-  after-codes : Clear (numberPart g ++ indexPart g)
-  after-codes = clear-right (codePart g) (numberPart g ++ indexPart g) after-taken
+  after-codes : Clear (axesRows (g .tolerance) ++ (numberPart g ++ indexPart g))
+  after-codes = clear-right (codePart g) (axesRows (g .tolerance) ++ (numberPart g ++ indexPart g)) after-taken
+
+  pub axes-clear : Clear (axesRows (g .tolerance))
+  axes-clear = clear-left (axesRows (g .tolerance)) (numberPart g ++ indexPart g) after-codes
+
+  after-axes : Clear (numberPart g ++ indexPart g)
+  after-axes = clear-right (axesRows (g .tolerance)) (numberPart g ++ indexPart g) after-codes
 
   pub numbers-clear : Clear (numberPart g)
-  numbers-clear = clear-left (numberPart g) (indexPart g) after-codes
+  numbers-clear = clear-left (numberPart g) (indexPart g) after-axes
 
   pub indexes-clear : Clear (indexPart g)
-  indexes-clear = clear-right (numberPart g) (indexPart g) after-codes
+  indexes-clear = clear-right (numberPart g) (indexPart g) after-axes
+
+  -- each axis has a tolerance in range, and both the same pattern
+  both-tolerable : tolerableOn (g .tolerance .x) && tolerableOn (g .tolerance .y) ≡ true
+  unfolding tolerable
+  both-tolerable = not-false (tolerable (g .tolerance)) (numbers-clear .0)
+
+  pub x-tolerable : tolerableOn (g .tolerance .x) ≡ true
+  x-tolerable = and-left (tolerableOn (g .tolerance .x)) (tolerableOn (g .tolerance .y)) both-tolerable
+
+  pub y-tolerable : tolerableOn (g .tolerance .y) ≡ true
+  y-tolerable = and-right (tolerableOn (g .tolerance .x)) (tolerableOn (g .tolerance .y)) both-tolerable
+
+  pub one-pattern : bitsOf (g .tolerance .x) ≡ bitsOf (g .tolerance .y)
+  unfolding axesFault
+  one-pattern = eqb-true _ _ (and-right (tolerable (g .tolerance)) _ (not-false _ (axes-clear .0)))
 
   pub keeps-in : KeepsIn (planIn g)
   keeps-in =
@@ -89,7 +111,7 @@ module _ (g : Given) (ok : Clear (keepRows g)) where
         long2 = length-ok 3 (length (g .outline2)) (g .vc2) (lists-clear .1 .0);
         long3 = length-ok codeWidth (length (g .sliceAt)) (g .slices) (lists-clear .1 .1 .0);
         long4 = length-ok shapeWidth (length (g .slice)) (g .slices) (lists-clear .1 .1 .1 .0);
-        tolerance = tolerable-no-nan (g .tolerance .position) (not-false (tolerable (g .tolerance)) (numbers-clear .0));
+        tolerance = tolerable-no-nan (g .tolerance .x) x-tolerable;
         plain1 = no-nans (g .outline1) (not-false (allWithin (g .outline1)) (numbers-clear .1 .0));
         plain2 = no-nans (g .outline2) (not-false (allWithin (g .outline2)) (numbers-clear .1 .1 .0));
         plain3 = no-nans (g .slice) (not-false (allWithin (g .slice)) (numbers-clear .1 .1 .1 .0));

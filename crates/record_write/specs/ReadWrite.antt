@@ -1,15 +1,15 @@
 -- The other way: reading a record that is accepted, then writing what was read, gives the same bytes.
 use Prim.Native.Nat.{ℕ, _+_, _*_, _≤_}
-use mathlib.Core.Bool.{true}
+use mathlib.Core.Bool.{true, not}
 use mathlib.Core.Path.{_≡_, refl, sym, ap, _∙_}
 use mathlib.Core.List.{List, [], _∷_, _++_, map}
 use native.Mathlib.Omega.{arith}
-use borrow.Author.Tests.{le-ltb, eqb-true, not-false}
+use borrow.Author.Tests.{le-ltb, eq-eqb, eqb-true, not-false}
 use lib.Dec.{ltb, leb, eqb}
 use lib.ListN.{length, getD, take, drop, length-drop, take-append-drop}
 use lib.Seq.{getD-drop, drop-drop, take-all}
 use Rattle.basis.specs.Choice.{and-left, and-right}
-use Rattle.basis.specs.Number.{tolerable}
+use Rattle.basis.specs.Number.{tolerableOn, tolerable}
 use Rattle.basis.specs.Refuse.{Row, row, firstOf}
 use Rattle.basis.specs.RefuseLaws.{Clear, clear, clear-left, clear-right, clear-both, none-clear}
 use Rattle.slice.specs.Slice.{codeWidth, shapeWidth}
@@ -22,7 +22,7 @@ use Rattle.record.specs.declared.head.Lengths.{Lengths}
 use Rattle.record.specs.Form.{form1, commonWidth, bodyOf, column, mix}
 use Rattle.record.specs.Record.{listsIn, planIn, headIn, bodyIn, slicesFrom, outline1From, outline2From, codesFrom, shapesFrom, stitchIn, markOk, frameRows, lengthOf, lengthIn, takenRows, countRows, roomRows, readRows, readRefusal, headOf, valuesOf, recordOf}
 use Rattle.record.specs.RecordLaws.{length-body, size-body}
-use Rattle.record_write.specs.Writer.{keepRows, lengthGiven, writeRows, writeRefusal}
+use Rattle.record_write.specs.Writer.{axesFault, axesRows, keepRows, lengthGiven, writeRows, writeRefusal}
 use Rattle.record_write.specs.Columns.{rows-back}
 use Rattle.record_write.specs.Fits.{Below, fitted-below, below-at, below-take, below-drop, below-column, head-narrow, body-narrow, tolerance-back, numbers-kept}
 
@@ -93,9 +93,12 @@ module _ (b : List ℕ) (octets : Octets b) (l : Lengths) (z : readRefusal form1
   head-below : Below (unpack (form1 .head) b)
   head-below = fitted-below (unpack-fitted (form1 .head) b octets) head-narrow
 
-  tolerance-kept : bitsOf (g .tolerance .position) ≡ getD (unpack (form1 .head) b) 7 0
+  in-range : tolerable (g .tolerance) ≡ true
+  in-range = not-false (tolerable (g .tolerance)) (numbers-clear .0)
+
+  tolerance-kept : bitsOf (g .tolerance .x) ≡ getD (unpack (form1 .head) b) 7 0
   unfolding stitchIn headIn
-  tolerance-kept = tolerance-back (getD (unpack (form1 .head) b) 7 0) (below-at 7 head-below) (not-false (tolerable (g .tolerance)) (numbers-clear .0))
+  tolerance-kept = tolerance-back (getD (unpack (form1 .head) b) 7 0) (below-at 7 head-below) (and-left (tolerableOn (g .tolerance .x)) (tolerableOn (g .tolerance .y)) (unfold tolerable in in-range))
 
   head-same : headOf 1 (planIn g) ≡ unpack (form1 .head) b
   unfolding stitchIn headIn unpack
@@ -174,12 +177,22 @@ module _ (b : List ℕ) (octets : Octets b) (l : Lengths) (z : readRefusal form1
   unfolding stitchIn
   taken = counted .1
 
+  -- what is read has one tolerance for both axes
+  axes : Clear (axesRows (g .tolerance))
+  unfolding axesFault
+  axes = (rw in-range (ap not (eq-eqb (bitsOf (g .tolerance .x)) (bitsOf (g .tolerance .y)) (unfold stitchIn headIn in refl))), tt)
+
   pub written-again : (room : ℕ) → length b ≤ room → writeRefusal form1 g room ≡ 0
   unfolding writeRefusal
   written-again room h =
-      let after = codePart g ++ (numberPart g ++ indexPart g) in
+      let shapes = codePart g ++ (numberPart g ++ indexPart g) in
+      let after = codePart g ++ (axesRows (g .tolerance) ++ (numberPart g ++ indexPart g)) in
+      let rest : Clear (numberPart g ++ indexPart g) = clear-right (codePart g) (numberPart g ++ indexPart g) after-lists in
+      let after-kept : Clear after =
+      clear-both (codePart g) (axesRows (g .tolerance) ++ (numberPart g ++ indexPart g)) (clear-left (codePart g) (numberPart g ++ indexPart g) after-lists)
+      (clear-both (axesRows (g .tolerance)) (numberPart g ++ indexPart g) axes rest) in
       let all : Clear (keepRows g) =
-      clear-both (listPart g) (takenRows (planIn g) ++ after) (clear-left (listPart g) after ok) (clear-both (takenRows (planIn g)) after taken after-lists) in
+      clear-both (listPart g) (takenRows (planIn g) ++ after) (clear-left (listPart g) shapes ok) (clear-both (takenRows (planIn g)) after taken after-kept) in
       let last : Clear (row (ltb room (lengthGiven form1 g)) 9 ∷ []) = (le-ltb room (lengthGiven form1 g) (omega (arith, long, same-length, h)), tt) in
       none-clear (writeRows form1 g room) (clear-both (keepRows g) (row (ltb room (lengthGiven form1 g)) 9 ∷ []) all last)
 

@@ -49,7 +49,7 @@ pub record KeepsIn (p : Plan) : Type 0 where
 -- values for every field of a plan's record, and room for its bytes
 pub record Packs (p : Plan) (values m : ℕ) : Type 0 where
   pub few : KeepsIn p
-  pub tolerance : Number (p .tolerance .position)
+  pub tolerance : Number (p .tolerance .x)
   pub all : values ≡ (p .vc1 + p .vc2) * 3 + p .slices * commonWidth
   pub room : lengthIn form1 p ≤ m
 
@@ -60,7 +60,7 @@ pub record Keeps (g : Given) (m : ℕ) : Type 0 where
   pub long2 : length (g .outline2) ≡ 3 * g .vc2
   pub long3 : length (g .sliceAt) ≡ codeWidth * g .slices
   pub long4 : length (g .slice) ≡ shapeWidth * g .slices
-  pub tolerance : T (not (isNan (g .tolerance .position)))
+  pub tolerance : T (not (isNan (g .tolerance .x)))
   pub plain1 : NoNan (g .outline1)
   pub plain2 : NoNan (g .outline2)
   pub plain3 : NoNan (g .slice)

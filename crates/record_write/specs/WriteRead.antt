@@ -8,15 +8,15 @@ use borrow.Author.Tests.{ltb-false, le-ltb, le-leb, eq-eqb, eqb-true, not-false}
 use lib.Dec.{T, ltb, eqb}
 use lib.ListN.{length, take, drop, length-append, length-map}
 use lib.Seq.{take-at, drop-at, drop-drop}
-use lib.Ieee.{binary64, fits}
+use lib.Ieee.{Float, binary64, fits}
 use Rattle.basis.specs.Choice.{by-test, or-left, or-right}
-use Rattle.basis.specs.Number.{allWithin}
+use Rattle.basis.specs.Number.{allWithin, toleranceOf, alike}
 use Rattle.basis.specs.Refuse.{row, firstOf, sourceFault}
 use Rattle.basis.specs.RefuseLaws.{Clear, clear, clear-left, clear-both, none-clear, choice-ok}
 use Rattle.slice.specs.Slice.{codeWidth, shapeWidth, codesAt}
 use Rattle.slice.specs.Faults.{sourceKnown}
 use Rattle.slice.specs.SliceLaws.{slice-at, turned-at, start-at, offset-at}
-use Rattle.stitch_run.specs.Stitch.{Given}
+use Rattle.stitch_run.specs.Stitch.{Given, planOf}
 use Rattle.stitch_entries.specs.StitchRows.{startsFault}
 use Rattle.fields.specs.Fields.{size, bytesOf, valueOf, pack, unpack, numOf, bitsOf}
 use Rattle.fields.specs.FieldLaws.{unpack-pack, fitted-append, length-pack}
@@ -28,13 +28,14 @@ use Rattle.record.specs.Record.{listsIn, planIn, planAt, headIn, bodyIn, outlin
 use Rattle.record.specs.RecordLaws.{counts-small}
 use Rattle.record_write.specs.Writer.{keepRows, lengthGiven, writeRows, writeRefusal}
 use Rattle.record_write.specs.Ready.{Keeps}
-use Rattle.record_write.specs.KeepLaws.{taken-clear, codes-clear, numbers-clear, indexes-clear, keeps, record-long}
+use Rattle.record_write.specs.KeepLaws.{tolerable-no-nan, taken-clear, codes-clear, numbers-clear, indexes-clear, y-tolerable, one-pattern, keeps, record-long}
 use Rattle.record_write.specs.Columns.{codes-back, numbers-back}
 use Rattle.record_write.specs.Fits.{Held, all-plain, bits-all-below, below-append, CodesFit, vertices-fitted, slices-fitted}
 
 -- every f64 of a stitch is one that the format holds, as all in memory are
 pub record HeldGiven (g : Given) : Type 0 where
-  pub tolerance : T (fits binary64 (g .tolerance .position))
+  pub toleranceX : T (fits binary64 (g .tolerance .x))
+  pub toleranceY : T (fits binary64 (g .tolerance .y))
   pub first : Held (g .outline1)
   pub second : Held (g .outline2)
   pub numbers : Held (g .slice)
@@ -59,8 +60,18 @@ module _ (g : Given) (ok : Clear (keepRows g)) (held : HeldGiven g) where
   plain3 : AllPlain (g .slice)
   plain3 = all-plain (held .numbers) (not-false (allWithin (g .slice)) (numbers-clear g ok .1 .1 .1 .0))
 
-  plain-tolerance : Plain (g .tolerance .position)
-  plain-tolerance = record { held = held .tolerance; number = kept .tolerance }
+  plain-x : Plain (g .tolerance .x)
+  plain-x = record { held = held .toleranceX; number = kept .tolerance }
+
+  plain-y : Plain (g .tolerance .y)
+  plain-y = record { held = held .toleranceY; number = tolerable-no-nan (g .tolerance .y) (y-tolerable g ok) }
+
+  -- so the one of the record is that of both axes
+  tolerance-read : alike (numOf (bitsOf (g .tolerance .x))) ≡ g .tolerance
+  tolerance-read =
+      let x : numOf (bitsOf (g .tolerance .x)) ≡ g .tolerance .x = num-bits (g .tolerance .x) plain-x in
+      let y : numOf (bitsOf (g .tolerance .x)) ≡ g .tolerance .y = ap numOf (one-pattern g ok) ∙ num-bits (g .tolerance .y) plain-y in
+      ap (λ (t : Float). toleranceOf t (numOf (bitsOf (g .tolerance .x)))) x ∙ ap (toleranceOf (g .tolerance .x)) y
 
   abbrev patterns1 : List ℕ
   patterns1 = map bitsOf (g .outline1)
@@ -146,7 +157,7 @@ module _ (g : Given) (ok : Clear (keepRows g)) (held : HeldGiven g) where
       (fit-one n1
       (fit-one n2
       (fit-one sel
-      (fit-one (bits-below (g .tolerance .position) plain-tolerance)
+      (fit-one (bits-below (g .tolerance .x) plain-x)
       (fit-one s1 (fit-one s2 (fit-one s3 (fit-one n3 fit-none)))))))))))
 
   -- ---- the bytes, in their two parts
@@ -161,7 +172,7 @@ module _ (g : Given) (ok : Clear (keepRows g)) (held : HeldGiven g) where
 
   head-back : headIn form1 (recordOf form1 g) ≡ planIn g
   unfolding headIn recordOf
-  head-back = ap (planAt 8) (unpack-pack bodyBytes head-fitted) ∙ rw (num-bits (g .tolerance .position) plain-tolerance)
+  head-back = ap (planAt 8) (unpack-pack bodyBytes head-fitted) ∙ ap (planOf (g .vc1) (g .vc2) (g .slices) (g .starts) (g .selector)) tolerance-read
 
   body-back : bodyIn (size (form1 .head)) (form1 .entry) (planIn g) (recordOf form1 g) ≡ values
   unfolding bodyIn recordOf

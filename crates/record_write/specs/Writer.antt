@@ -1,21 +1,32 @@
 -- Document 02, K1: what the writer refuses, and what it writes.
 use Prim.Native.Nat.{ℕ}
+use mathlib.Core.Bool.{Bool, not, _&&_}
 use mathlib.Core.Path.{_≡_}
 use mathlib.Core.List.{List, [], _∷_, _++_}
-use lib.Dec.{ltb}
+use lib.Dec.{ltb, eqb}
 use lib.ListN.{length}
+use Rattle.basis.specs.declared.number.Tolerance.{Tolerance}
+use Rattle.basis.specs.Number.{tolerable}
 use Rattle.basis.specs.Refuse.{Row, row, firstOf, answer}
 use Rattle.basis.specs.Room.{roomOf}
+use Rattle.fields.specs.Fields.{bitsOf}
 use Rattle.stitch_run.specs.Stitch.{Given}
 use Rattle.stitch_entries.specs.StitchEntry.{listPart, codePart, numberPart, indexPart}
 use Rattle.record.specs.Form.{Form}
 use Rattle.record.specs.Record.{planIn, lengthIn, takenRows, recordOf}
 use Rattle.record_write.specs.declared.write.Written.{Written}
 
+-- K6: "A version 1 record holds one tolerance, so its writer refuses two that differ, with number 4". Of two in range the bit patterns are compared
+unfoldable pub axesFault : Tolerance → Bool
+axesFault t = not (tolerable t && eqb (bitsOf (t .x)) (bitsOf (t .y)))
+
+abbrev pub axesRows : Tolerance → List Row
+axesRows t = row (axesFault t) 4 ∷ []
+
 -- 1 to 8: the refusals of the stitch, and among them, each in its number's place, those of what the program takes.
 -- So every record that is written can be replayed
 abbrev pub keepRows : Given → List Row
-keepRows g = listPart g ++ (takenRows (planIn g) ++ (codePart g ++ (numberPart g ++ indexPart g)))
+keepRows g = listPart g ++ (takenRows (planIn g) ++ (codePart g ++ (axesRows (g .tolerance) ++ (numberPart g ++ indexPart g))))
 
 -- the bytes that a stitch takes
 abbrev pub lengthGiven : Form → Given → ℕ

@@ -15,14 +15,14 @@ use slice::data::CODE_WIDTH;
 use slice::data::SHAPE_WIDTH;
 use stitch_run::plan::Plan;
 
-// The values of the head's fields in version 1.
+// The values of the head's fields in version 1; both axes have one tolerance.
 pub fn head_values(p: Plan) -> [usize; 12]
-    requires { ⌜ Number (p .tolerance .position) ⌝ }
+    requires { ⌜ Number (p .tolerance .x) ⌝ }
     ensures { λ r. ⌜ r ≡ headOf 1 p ⌝ }
 {
     let tolerance = p.tolerance;
     let starts = p.starts;
-    let bits = copy::bits(tolerance.position);
+    let bits = copy::bits(tolerance.x);
     [
         80,
         66,

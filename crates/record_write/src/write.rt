@@ -7,10 +7,14 @@ ghost use Rattle.basis.specs.Refuse.{firstFrom};
 ghost use Rattle.stitch_run.specs.Stitch.{given};
 ghost use Rattle.record.specs.Form.{form1};
 ghost use Rattle.record.specs.Record.{headOf, packed, recordOf};
-ghost use Rattle.record_write.specs.Writer.{keepRows, writtenRefused, writtenGiven, WriteLeft};
+ghost use Rattle.record_write.specs.Writer.{axesFault, axesRows, keepRows, writtenRefused, writtenGiven, WriteLeft};
 ghost use Rattle.record_write.specs.Ready.{Packs, Keeps};
 use crate::pack;
 use crate::values;
+use basis::number;
+use basis::number::Tolerance;
+use basis::refuse;
+use fields::copy;
 use record::form;
 use record::head;
 use stitch_entries::faults;
@@ -37,6 +41,23 @@ fn written_given(length: usize) -> Written
     Written { refusal: 0, length }
 }
 
+// Both axes do not have one tolerance in range.
+fn axes_differ(t: Tolerance) -> bool
+    ensures { λ r. ⌜ r ≡ axesFault t ⌝ }
+{
+    if !number::in_tolerance(t) {
+        return true;
+    }
+    copy::bits(t.x) != copy::bits(t.y)
+}
+
+// Number 4, for two tolerances that differ.
+fn axes_refusal(r: u32, t: Tolerance) -> u32
+    ensures { λ n. ⌜ n ≡ firstFrom r (axesRows t) ⌝ }
+{
+    refuse::or_else(r, axes_differ(t), 4)
+}
+
 // Numbers 1 to 8: what the stitch refuses, and with it what the program does not take.
 fn keep_refusal(
     outline1: &[f64],
@@ -50,6 +71,7 @@ fn keep_refusal(
     let r = faults::list_refusal(outline1, outline2, slice_at, slice, p);
     let r = head::taken_refusal(r, p);
     let r = faults::code_refusal(r, slice_at, p);
+    let r = axes_refusal(r, p.tolerance);
     let r = faults::number_refusal(r, p.tolerance, outline1, outline2, slice);
     faults::index_refusal(r, slice_at, p)
 }

@@ -9,7 +9,7 @@ use lib.Dec.{T, eqb, ltb, leb}
 use borrow.Author.Tests.{eqb-true, eqb-false, ne-eqb, ltb-true, ltb-false, lt-ltb, le-ltb, leb-true}
 use Rattle.basis.specs.Choice.{by-test, T-left, T-right, true-of}
 use Rattle.basis.specs.Refuse.{Row, row, firstOf, answer}
-use Rattle.basis.specs.RefuseLaws.{Clear, clear, first-found, first-later, none-clear}
+use Rattle.basis.specs.RefuseLaws.{Clear, clear, clear-both, first-found, first-later, none-clear}
 use Rattle.store.specs.Machine.{Turn, turn, answers}
 use Rattle.store.specs.Slice.{Slice}
 use Rattle.store.specs.Plain.{Kept, has, Answer, refused, plainStep}
@@ -19,8 +19,8 @@ use Rattle.store_party.specs.Parties.{partOf, rejoined, partyStep}
 use Rattle.store_party.specs.PartiesLaws.{part-sized, rejoined-own, rejoined-other, rejoined-sized}
 use Rattle.store_party.specs.Ready.{share}
 use Rattle.store_entries.specs.StoreRows.{places, sliceRows, roomRows, partyRows}
-use Rattle.store_entries.specs.StoreEntry.{Asked, toPut, toRelease, toList, toCompact, callOf, ownRows, listsRows, askedTurn, plainTurn, Called, called, callRows, callRefusal, storeTurn, refusalIn}
-use Rattle.store_entries.specs.StoreTheorems.{numbered-own, lists-clear, asked-alike, asked-plain}
+use Rattle.store_entries.specs.StoreEntry.{Asked, toPut, toRelease, toList, toCompact, callOf, ownRows, listsRows, askedTurn, plainTurn, Called, called, callRows, callRefusal, storeTurn, lastRows, wholeRows, refusalIn}
+use Rattle.store_entries.specs.StoreTheorems.{numbered-own, lists-clear, asked-alike, asked-plain, whole-table}
 
 -- ---- of a history: the answers that party p got, and p's own calls
 
@@ -161,6 +161,21 @@ undisturbed p w w′ h h′ z z′ r o =
     by-test (ltb p 2)
     (λ e. plain-heard p w h (ltb-true p 2 e) z ∙ rw (r, o) (sym (plain-heard p w′ h′ (ltb-true p 2 e) z′)))
     (λ e. heard-unknown p w h (ltb-false p 2 e) z ∙ rw o (sym (heard-unknown p w′ h′ (ltb-false p 2 e) z′)))
+
+-- ---- "K9's limit reads as 896 for each party": a put that numbers 3 and 5 let through is refused exactly when 896 of the party's are live
+
+pub full-exactly : (p : ℕ) (w : Lists) (x : Slice) → p < 2 → Sized places w → firstOf (sliceRows (x .code) (x .number)) ≡ 0
+    → refusalIn (storeTurn w (called p (toPut x)) .answer) ≡ firstOf (row (eqb (length (plainOf share (partOf share p w))) share) 20 ∷ [])
+full-exactly p w x k z e = whole-table w (called p (toPut x)) ∙ tableOf
+  where
+    own-clear : Clear (sliceRows (x .code) (x .number) ++ partyRows p)
+    own-clear = clear-both (sliceRows (x .code) (x .number)) (partyRows p) (clear (sliceRows (x .code) (x .number)) tt e) (known-rows p k)
+    tableOf : firstOf (wholeRows w (called p (toPut x))) ≡ firstOf (row (eqb (length (plainOf share (partOf share p w))) share) 20 ∷ [])
+    tableOf =
+        unfold wholeRows callRows ownRows lastRows in
+        rw (plain-length share (partOf share p w))
+        (first-later (listsRows w ++ (sliceRows (x .code) (x .number) ++ partyRows p)) (row (eqb (length (livesIn share (partOf share p w))) share) 20 ∷ [])
+        (clear-both (listsRows w) (sliceRows (x .code) (x .number) ++ partyRows p) (lists-clear w z) own-clear))
 
 -- ---- "is never answered 20 below that, whatever the other does"
 

@@ -30,7 +30,7 @@ cut-of-requires : tie.Need-cut-of-requires Inv-loop μ-loop
 cut-of-requires c κs = search (needs, writing)
 
 mul-put-numbers : tie.Need-mul-put-numbers Inv-loop μ-loop
-mul-put-numbers c = search needs
+mul-put-numbers c = search (needs, writing)
 
 put-numbers-requires : tie.Need-put-numbers-requires Inv-loop μ-loop
 put-numbers-requires c κs = search (needs, writing)

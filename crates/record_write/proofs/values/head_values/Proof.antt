@@ -8,7 +8,7 @@ use Rattle.record.specs.Record.{headOf}
 use Rattle.record_write.proofs.values.head_values.Statement.{statement}
 use Rattle.record_write.proofs.values.head_values.Tie as tie
 
-told : (p : Plan) (b : ℕ) → b ≡ bitsOf (p .tolerance .position)
+told : (p : Plan) (b : ℕ) → b ≡ bitsOf (p .tolerance .x)
     → (80 ∷ 66 ∷ 82 ∷ 1 ∷ p .vc1 ∷ p .vc2 ∷ p .selector ∷ b ∷ p .starts .pline2 ∷ p .starts .«pline1_overlapping» ∷ p .starts .«pline2_overlapping» ∷ p .slices ∷ []) ≡ headOf 1 p
 told p b e = rw e
 

@@ -12,6 +12,9 @@ taken-refusal-requires c κs = search needs
 code-refusal-requires : tie.Need-code-refusal-requires
 code-refusal-requires c κs = search needs
 
+axes-refusal-requires : tie.Need-axes-refusal-requires
+axes-refusal-requires c κs = search needs
+
 number-refusal-requires : tie.Need-number-refusal-requires
 number-refusal-requires c κs = search needs
 
@@ -28,6 +31,7 @@ keep-refusal-spec =
     list-refusal-requires
     taken-refusal-requires
     code-refusal-requires
+    axes-refusal-requires
     number-refusal-requires
     index-refusal-requires
     returns)

@@ -1,0 +1,23 @@
+use borrow.Author.Needs.{needs}
+use Rattle.basis.specs.Choice.{cases}
+use Rattle.record_write.proofs.Keeping.{axes}
+use Rattle.record_write.proofs.write.axes_differ.Statement.{statement}
+use Rattle.record_write.proofs.write.axes_differ.Tie as tie
+
+in-tolerance-requires : tie.Need-in-tolerance-requires
+in-tolerance-requires c κs = search needs
+
+returns : tie.Need-returns
+returns c = search (needs, axes, cases)
+
+bits-requires : tie.Need-bits-requires
+bits-requires c κs = search (needs, axes, cases)
+
+bits-requires-2 : tie.Need-bits-requires-2
+bits-requires-2 c κs = search (needs, axes, cases)
+
+returns-2 : tie.Need-returns-2
+returns-2 c = search (needs, axes, cases)
+
+pub axes-differ-spec : {M : Type 1} → statement M
+axes-differ-spec = tie.close (tie.spec in-tolerance-requires returns bits-requires bits-requires-2 returns-2)
