@@ -170,6 +170,7 @@ full-exactly p w x k z e = whole-table w (called p (toPut x)) ∙ tableOf
   where
     own-clear : Clear (sliceRows (x .code) (x .number) ++ partyRows p)
     own-clear = clear-both (sliceRows (x .code) (x .number)) (partyRows p) (clear (sliceRows (x .code) (x .number)) tt e) (known-rows p k)
+
     tableOf : firstOf (wholeRows w (called p (toPut x))) ≡ firstOf (row (eqb (length (plainOf share (partOf share p w))) share) 20 ∷ [])
     tableOf =
         unfold wholeRows callRows ownRows lastRows in

@@ -133,8 +133,10 @@ module _ (held at : List ℕ) (shape : List Float) (edition : List ℕ) where
         same =
             unfold callOf partyStep listStep in
             by-test (eqb (length (livesIn share (partOf share q (lists held at shape edition)))) share) (λ x. rw x) (λ x. rw x)
+
         said : handleFrom h ≡ handleAnswer (partyStep share q (lists held at shape edition) (callOf (toPut (sliceOf c m d))) .answer)
         said = ap handleFrom (t .says) ∙ same
+
         left-is : left ≡ partyStep share q (lists held at shape edition) (callOf (toPut (sliceOf c m d))) .left
         left-is = unfold callOf in t .leaves
 
@@ -165,10 +167,13 @@ module _ (held at : List ℕ) (shape : List Float) (edition : List ℕ) where
       where
         f : PartFits (lists held at shape edition) q
         f = fits-both z
+
         same : doneFrom (keyed handleOf (livesOf share (block share held q)) k) ≡ doneAnswer (partyStep share q (lists held at shape edition) (callOf (toRelease k)) .answer)
         same = unfold callOf partyStep partOf listStep in by-test (keyed handleOf (livesOf share (block share held q)) k) (λ y. rw y) (λ y. rw y)
+
         said : doneFrom found ≡ doneAnswer (partyStep share q (lists held at shape edition) (callOf (toRelease k)) .answer)
         said = ap doneFrom (t .found) ∙ same
+
         left-is : lists held′ at shape edition ≡ partyStep share q (lists held at shape edition) (callOf (toRelease k)) .left
         left-is = unfold callOf in released-left (lists held at shape edition) q k held′ f t
 
@@ -184,6 +189,7 @@ module _ (held at : List ℕ) (shape : List Float) (edition : List ℕ) where
       where
         said : r ≡ doneAnswer (partyStep share q (lists held at shape edition) (callOf toCompact) .answer)
         said = unfold callOf partyStep listStep in x
+
         left-is : left ≡ partyStep share q (lists held at shape edition) (callOf toCompact) .left
         left-is = unfold callOf in t
 
@@ -228,5 +234,6 @@ module _ (held at : List ℕ) (shape : List Float) (edition : List ℕ) where
         whole =
             ap (λ (u : Turn Lists (Answer Slice)). u .answer) (given-turn (lists held at shape edition) (called q (toList (length rh) (length ra) (length rs) (length rd))) n list-number z)
             ∙ (unfold callOf partyStep listStep in refl)
+
         shows : left ≡ shownBy (listed (plainOf share (partOf share q (lists held at shape edition)))) (rooms rh ra rs rd)
         shows = unfold shownBy in t .shows

@@ -81,11 +81,14 @@ released-left w p h held′ f t = go (keyed handleOf (livesOf share (block share
   where
     two : (v : ℕ) {A : Type 0} (l : List A) → length l ≡ v * 2 → v * suc p ≤ length l
     two v l e = let k : v * suc p ≤ v * 2 = mul-le-mul-left v (f .known) in omega arith
+
     kept : keyed handleOf (livesOf share (block share (w .held) p)) h ≡ false → held′ ≡ paste (w .held) (share * p) (block share (w .held) p) share
     kept e = rw e at (t .marks)
+
     gone : keyed handleOf (livesOf share (block share (w .held) p)) h ≡ true
         → held′ ≡ paste (w .held) (share * p) (filled 0 share (without handleOf (livesOf share (block share (w .held) p)) h)) share
     gone e = rw e at (t .marks)
+
     go : (b : Bool) → keyed handleOf (livesOf share (block share (w .held) p)) h ≡ b → lists held′ (w .at) (w .shape) (w .edition) ≡ partyStep share p w (release h) .left
     go true e =
         unfold partyStep rejoined partOf listStep releasedIn in

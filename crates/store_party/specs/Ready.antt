@@ -1,5 +1,5 @@
 -- What the calls of one party require.
-use Prim.Native.Nat.{ℕ, _*_, _<_}
+use Prim.Native.Nat.{ℕ, _*_, _≤_, _<_}
 use mathlib.Core.Bool.{Bool, cond}
 use mathlib.Core.Path.{_≡_}
 use mathlib.Core.List.{List}
@@ -16,6 +16,15 @@ use Rattle.store_party.specs.Parties.{partOf}
 -- "Each party may hold 896": half of the store's places
 abbrev pub share : ℕ
 share = 896
+
+-- one of the two parties
+pub record Known (p : ℕ) : Type 0 where
+  pub below : p < 2
+
+-- where party p's part begins, of a list in which each party has w elements
+pub record Begins (w p r : ℕ) : Type 0 where
+  pub is : r ≡ w * p
+  pub low : r ≤ w
 
 -- the lists of the store, and one of its two parties
 pub record PartFits (w : Lists) (p : ℕ) : Type 0 where

@@ -1,13 +1,21 @@
-// The calls of one party, on its half of the lists: its places start at 896 * party.
+// The calls of one party, on its half of the lists: places 0 to 895 are those of party 0, the others those of party 1.
 ghost use mathlib.Core.Path.{_≡_};
 ghost use Rattle.store.specs.Slice.{sliceOf};
 ghost use Rattle.store.specs.Plain.{put, compact};
 ghost use Rattle.store.specs.Lists.{lists};
 ghost use Rattle.store_write.specs.Calls.{Turned, handleAs, rooms};
 ghost use Rattle.store_party.specs.Parties.{partyStep};
-ghost use Rattle.store_party.specs.Ready.{PartFits, PartPutFits, PartMarksFit, PartReleased, PartListFits, PartListed};
+ghost use Rattle.store_party.specs.Ready.{Known, Begins, PartFits, PartPutFits, PartMarksFit, PartReleased, PartListFits, PartListed};
 use store_write::keep;
 use store_write::keep::Handle;
+
+// Where the party's part of a list begins, of which each party has `width` elements.
+fn first_of(width: usize, party: usize) -> usize
+    requires { ⌜ Known party ⌝ }
+    ensures { λ r. ⌜ Begins width party r ⌝ }
+{
+    if party == 0 { 0 } else { width }
+}
 
 // A slice of the party is put.
 pub fn put(
@@ -26,17 +34,17 @@ pub fn put(
         (put (sliceOf (now («put_at» .entry)) (now («put_shape» .entry)) «put_edition»)))
         r (lists (now (held .exit)) (now (at .exit)) (now (shape .exit)) (now (edition .exit))) ⌝ }
 {
-    let first = 896 * party;
-    let end = first + 896;
-    let first4 = 3584 * party;
-    let end4 = first4 + 3584;
-    let first6 = 5376 * party;
-    let end6 = first6 + 5376;
+    let a = first_of(896, party);
+    let b = a + 896;
+    let a4 = first_of(3584, party);
+    let b4 = a4 + 3584;
+    let a6 = first_of(5376, party);
+    let b6 = a6 + 5376;
     keep::put_slice(
-        &mut held[first..end],
-        &mut at[first4..end4],
-        &mut shape[first6..end6],
-        &mut edition[first..end],
+        &mut held[a..b],
+        &mut at[a4..b4],
+        &mut shape[a6..b6],
+        &mut edition[a..b],
         put_at,
         put_shape,
         put_edition,
@@ -48,7 +56,7 @@ pub fn release(held: &mut [usize], party: usize, handle: usize) -> bool
     requires { ⌜ PartMarksFit (now held) party ⌝ }
     ensures { λ r. ⌜ PartReleased (now (held .entry)) party handle r (now (held .exit)) ⌝ }
 {
-    let a = 896 * party;
+    let a = first_of(896, party);
     let b = a + 896;
     keep::release_slice(&mut held[a..b], handle)
 }
@@ -65,11 +73,11 @@ pub fn compact(
     ensures { λ _. ⌜ lists (now (held .exit)) (now (at .exit)) (now (shape .exit)) (now (edition .exit))
         ≡ partyStep 896 party (lists (now (held .entry)) (now (at .entry)) (now (shape .entry)) (now (edition .entry))) compact .left ⌝ }
 {
-    let a = 896 * party;
+    let a = first_of(896, party);
     let b = a + 896;
-    let a4 = 3584 * party;
+    let a4 = first_of(3584, party);
     let b4 = a4 + 3584;
-    let a6 = 5376 * party;
+    let a6 = first_of(5376, party);
     let b6 = a6 + 5376;
     keep::compact_slices(
         &mut held[a..b],
@@ -96,11 +104,11 @@ pub fn list(
         (rooms (now (handles .entry)) (now («list_at» .entry)) (now («list_shape» .entry)) (now («list_edition» .entry)))
         r (rooms (now (handles .exit)) (now («list_at» .exit)) (now («list_shape» .exit)) (now («list_edition» .exit))) ⌝ }
 {
-    let a = 896 * party;
+    let a = first_of(896, party);
     let b = a + 896;
-    let a4 = 3584 * party;
+    let a4 = first_of(3584, party);
     let b4 = a4 + 3584;
-    let a6 = 5376 * party;
+    let a6 = first_of(5376, party);
     let b6 = a6 + 5376;
     keep::list_slices(
         &held[a..b],

@@ -3,20 +3,20 @@ use borrow.Author.Needs.{needs}
 use Rattle.store_party.proofs.half.compact.Statement.{statement}
 use Rattle.store_party.proofs.half.compact.Tie as tie
 
-mul-a : tie.Need-mul-a
-mul-a c = search needs
+first-of-requires : tie.Need-first-of-requires
+first-of-requires c κs = search needs
 
 add-b : tie.Need-add-b
 add-b c = search needs
 
-mul-a4 : tie.Need-mul-a4
-mul-a4 c = search needs
+first-of-requires-2 : tie.Need-first-of-requires-2
+first-of-requires-2 c κs = search needs
 
 add-b4 : tie.Need-add-b4
 add-b4 c = search needs
 
-mul-a6 : tie.Need-mul-a6
-mul-a6 c = search needs
+first-of-requires-3 : tie.Need-first-of-requires-3
+first-of-requires-3 c κs = search needs
 
 add-b6 : tie.Need-add-b6
 add-b6 c = search needs
@@ -91,11 +91,11 @@ pub compact-spec : {M : Type 1} → statement M
 compact-spec =
     tie.close
     (tie.spec
-    mul-a
+    first-of-requires
     add-b
-    mul-a4
+    first-of-requires-2
     add-b4
-    mul-a6
+    first-of-requires-3
     add-b6
     mul-compact-slices
     sub-compact-slices

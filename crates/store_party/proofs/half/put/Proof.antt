@@ -3,23 +3,23 @@ use borrow.Author.Needs.{needs}
 use Rattle.store_party.proofs.half.put.Statement.{statement}
 use Rattle.store_party.proofs.half.put.Tie as tie
 
-mul-first : tie.Need-mul-first
-mul-first c = search needs
+first-of-requires : tie.Need-first-of-requires
+first-of-requires c κs = search needs
 
-add-end : tie.Need-add-end
-add-end c = search needs
+add-b : tie.Need-add-b
+add-b c = search needs
 
-mul-first4 : tie.Need-mul-first4
-mul-first4 c = search needs
+first-of-requires-2 : tie.Need-first-of-requires-2
+first-of-requires-2 c κs = search needs
 
-add-end4 : tie.Need-add-end4
-add-end4 c = search needs
+add-b4 : tie.Need-add-b4
+add-b4 c = search needs
 
-mul-first6 : tie.Need-mul-first6
-mul-first6 c = search needs
+first-of-requires-3 : tie.Need-first-of-requires-3
+first-of-requires-3 c κs = search needs
 
-add-end6 : tie.Need-add-end6
-add-end6 c = search needs
+add-b6 : tie.Need-add-b6
+add-b6 c = search needs
 
 mul-put-slice : tie.Need-mul-put-slice
 mul-put-slice c = search needs
@@ -91,12 +91,12 @@ pub put-spec : {M : Type 1} → statement M
 put-spec =
     tie.close
     (tie.spec
-    mul-first
-    add-end
-    mul-first4
-    add-end4
-    mul-first6
-    add-end6
+    first-of-requires
+    add-b
+    first-of-requires-2
+    add-b4
+    first-of-requires-3
+    add-b6
     mul-put-slice
     sub-put-slice
     part-put-slice-start

@@ -3,8 +3,8 @@ use borrow.Author.Needs.{needs}
 use Rattle.store_party.proofs.half.release.Statement.{statement}
 use Rattle.store_party.proofs.half.release.Tie as tie
 
-mul-a : tie.Need-mul-a
-mul-a c = search needs
+first-of-requires : tie.Need-first-of-requires
+first-of-requires c κs = search needs
 
 add-b : tie.Need-add-b
 add-b c = search needs
@@ -34,7 +34,7 @@ pub release-spec : {M : Type 1} → statement M
 release-spec =
     tie.close
     (tie.spec
-    mul-a
+    first-of-requires
     add-b
     mul-release-slice
     sub-release-slice
