@@ -20,6 +20,15 @@
  * each above 0 and at most 1. Two points agree where they differ by less than that, on
  * each axis. Where one tolerance will do, give it twice.
  *
+ * An outline has an edition, a number of 32 bits that the host gives it, another one
+ * whenever it changes the outline; 0 is one like any other. What is cut of an outline
+ * keeps its edition: `mask_candidates` writes it beside each candidate, the host keeps
+ * that of outline 2 beside each overlap from when it found it, and `mask_prune` copies
+ * both to the slices. `mask_stitch` and `mask_validate_for_source` compare it with the
+ * outline's and refuse where it differs. So vertex numbers of an old outline are not
+ * read on a new one. `mask_reopen` and `mask_unmoved` are for slices that a late outline
+ * has left behind.
+ *
  * A list that is not const is room for the answer. Its need is stated beside the
  * entry. Where the call is accepted, the items are written from its start on, then
  * 0 up to the need. What lies beyond the need is left as it was. No two lists of a
@@ -30,7 +39,7 @@
  * and memcpy of the C library. So any number of threads may call it at the same time, each
  * with room of its own; lists that are only read may be shared.
  *
- * The entries stand in the order of the work: views and the verdict; cut order,
+ * The entries stand in the order of the work: views, the verdict and reopening; cut order,
  * candidates, pruning, stitch and area pass, each of which takes what the one before it
  * gives; then slices kept between runs; then masks without arcs.
  */
@@ -96,6 +105,8 @@ extern "C" {
 #define MASK_STACK_CREATE_ON_SINGLE_SEGMENT 512
 #define MASK_STACK_FROM_ENTIRE_PLINE 512
 #define MASK_STACK_VALIDATE_FOR_SOURCE 512
+#define MASK_STACK_REOPEN 512
+#define MASK_STACK_UNMOVED 512
 #define MASK_STACK_CUT_ORDER 8192
 #define MASK_STACK_CANDIDATES 40960
 #define MASK_STACK_PRUNE 512
@@ -126,13 +137,14 @@ enum mask_refusal {
     MASK_REFUSED_INDEX = 6,     /* an index is not below the vertex count */
     MASK_REFUSED_COUNT = 7,     /* an offset or a traverse count is out of range */
     MASK_REFUSED_STARTS = 8,    /* the starts of the classes fall back, or lie past the slices */
+    MASK_REFUSED_EDITION = 14,  /* a slice or a view is of another edition than its outline */
     MASK_REFUSED_ROOM = 9,      /* a list lent to be written is shorter than the need */
     MASK_REFUSED_PARTY = 22,    /* a party of the store is neither 0 nor 1 */
     MASK_REFUSED_FULL = 20,     /* the party has as many live slices as places */
     MASK_REFUSED_HANDLE = 21    /* no live slice of the party has the handle */
 };
 
-/* What `mask_validate_for_source` found. 0 stands only beside a refusal. */
+/* What `mask_validate_for_source` and `mask_reopen` found. 0 stands only beside a refusal. */
 enum mask_verdict {
     MASK_VERDICT_NO_SEGMENTS = 1,          /* the outline has fewer than 2 vertices */
     MASK_VERDICT_OFFSET = 2,               /* offset, source_length */
@@ -216,6 +228,25 @@ typedef struct mask_verdict_answer {
     double expected;
 } mask_verdict_answer;
 
+/* The verdict, and the edition that the slice has from now on. */
+typedef struct mask_reopen_answer {
+    uint32_t refusal;
+    uint32_t verdict;
+    size_t offset;
+    size_t source_length;
+    mask_point point;
+    mask_vertex vertex;
+    double updated_bulge;
+    double expected;
+    uint32_t edition; /* the outline's where the verdict is valid, else the view's own */
+} mask_reopen_answer;
+
+typedef struct mask_unmoved_answer {
+    uint32_t refusal;
+    uint32_t unmoved; /* 1 where every vertex is the same, else 0 */
+    size_t first;     /* the lowest number of a vertex that differs; 0 where none does */
+} mask_unmoved_answer;
+
 /* How many items were written. */
 typedef struct mask_count_answer {
     uint32_t refusal;
@@ -268,14 +299,36 @@ mask_view_answer mask_from_entire_pline(const double *outline, size_t outline_le
                                         uint32_t closed);
 
 /*
- * Whether the view fits the outline. A point that is near neither vertex of its
- * segment lies on it where the host says so: `start_on_segment` for the start,
- * `end_on_segment` for the end, 1 for yes and 0 for no. Refusals 1, 2 (too long
- * only), 3, 5, and 6 (outlines of 2 or more vertices only).
+ * Whether the view, of edition `view_edition`, fits the outline, of edition `edition`. A
+ * point that is near neither vertex of its segment lies on it where the host says so:
+ * `start_on_segment` for the start, `end_on_segment` for the end, 1 for yes and 0 for
+ * no. Refusals 1, 2 (too long only), 3, 5, 6 (outlines of 2 or more vertices only), 14
+ * (on an outline that is too short too).
  */
 mask_verdict_answer mask_validate_for_source(const double *outline, size_t outline_len, size_t vc,
-                                             mask_view view, uint32_t start_on_segment,
+                                             uint32_t edition, mask_view view,
+                                             uint32_t view_edition, uint32_t start_on_segment,
                                              uint32_t end_on_segment);
+
+/*
+ * Reopens a slice on an outline of another edition: the same verdict, without comparing
+ * editions, and the edition that the slice has from now on. Nothing else of the slice
+ * changes. The verdict looks at the two ends, so "valid" does not say that the slice is
+ * the piece that it was: `mask_unmoved` does. docs/REOPENING.md says what to do with
+ * each. Refusals 1, 2 (too long only), 3, 5, 6 (outlines of 2 or more vertices only).
+ */
+mask_reopen_answer mask_reopen(const double *outline, size_t outline_len, size_t vc,
+                               uint32_t edition, mask_view view, uint32_t view_edition,
+                               uint32_t start_on_segment, uint32_t end_on_segment);
+
+/*
+ * Whether the view has the same vertices, bit for bit, on two outlines, the old and the
+ * new. Its first and its last vertex are the view's own, so they never differ. 6 and 7
+ * look at both outlines. Refusals 1, 2, 3, 5, 6, 7.
+ */
+mask_unmoved_answer mask_unmoved(const double *outline1, size_t outline1_len, size_t vc1,
+                                 const double *outline2, size_t outline2_len, size_t vc2,
+                                 mask_view view);
 
 /*
  * The cuts of one outline. `source` says which it is, 1 or 2, and `outline` is that
@@ -314,26 +367,30 @@ mask_count_answer mask_cut_order(const double *outline, size_t outline_len, size
  * out again from the same lists. `splits` has 9 numbers to a cut, in that order: the
  * split of the running vertex at the cut (start part x, y, bulge; split vertex x, y,
  * bulge), and the split vertex of the whole segment at the cut, which is used at a
- * segment's last cut only. `count` is the number of candidates, at most one for each
- * cut. Written for each candidate; the need is that for each cut:
- *   cand_at  2: start, offset
- *   cand     6: updated start x, y, bulge, end bulge, end x, y
- *   probe    6: the two vertices whose midpoint the host tests, x, y, bulge each
+ * segment's last cut only. `edition` is the outline's. `count` is the number of
+ * candidates, at most one for each cut. Written for each candidate; the need is that for
+ * each cut:
+ *   cand_at       2: start, offset
+ *   cand          6: updated start x, y, bulge, end bulge, end x, y
+ *   probe         6: the two vertices whose midpoint the host tests, x, y, bulge each
+ *   cand_edition  1: the outline's edition
  * Refusals 1, 2, 3, 4, 5, 6, 7, 9.
  */
 mask_count_answer mask_candidates(const double *outline, size_t outline_len, size_t vc,
-                                  uint32_t source, const size_t *hit_at, size_t hit_at_len,
-                                  const double *hit, size_t hit_len, size_t hits,
-                                  const size_t *lap_at, size_t lap_at_len, const double *lap,
-                                  size_t lap_len, size_t laps, const double *splits,
-                                  size_t splits_len, double tolerance_x, double tolerance_y,
-                                  size_t *cand_at, size_t cand_at_len, double *cand,
-                                  size_t cand_len, double *probe, size_t probe_len);
+                                  uint32_t edition, uint32_t source, const size_t *hit_at,
+                                  size_t hit_at_len, const double *hit, size_t hit_len,
+                                  size_t hits, const size_t *lap_at, size_t lap_at_len,
+                                  const double *lap, size_t lap_len, size_t laps,
+                                  const double *splits, size_t splits_len, double tolerance_x,
+                                  double tolerance_y, size_t *cand_at, size_t cand_at_len,
+                                  double *cand, size_t cand_len, double *probe, size_t probe_len,
+                                  uint32_t *cand_edition, size_t cand_edition_len);
 
 /*
  * Slices are parts of the two outlines, which the stitch joins end to start:
- *   slice_at  4 to a slice: source (1 or 2), inverted (1 or 0), start, offset
- *   slice     6 to a slice: updated start x, y, bulge, end bulge, end x, y
+ *   slice_at       4 to a slice: source (1 or 2), inverted (1 or 0), start, offset
+ *   slice          6 to a slice: updated start x, y, bulge, end bulge, end x, y
+ *   slice_edition  1 to a slice: the edition of the outline that it was cut from
  * There are `slices` of them, at most 1792, in four classes one after the other: of
  * outline 1, of outline 2, overlaps for 1, overlaps for 2. Where the last three begin:
  */
@@ -353,19 +410,24 @@ typedef struct mask_prune_answer {
  * The slices that `mode`, one of `mask_mode`, keeps. `opposing` is 1 where the two
  * outlines run in opposing directions, else 0. The candidates of each outline are as
  * `mask_candidates` gives them, at most 768, and `inside` has for each of them 1 where
- * it lies inside the other outline, else 0. `lap_at` and `lap` are as above. Written
- * are `slice_at` and `slice`; their need is count1 + count2 + 2 laps slices.
- * Refusals 1, 2, 3, 5, 6, 7, 9.
+ * it lies inside the other outline, else 0. `lap_at` and `lap` are as above, and
+ * `lap_edition` has for each overlap the edition of outline 2 when it was found. Written
+ * are `slice_at`, `slice` and `slice_edition`; their need is count1 + count2 + 2 laps
+ * slices. Editions are copied, whatever they are. Refusals 1, 2, 3, 5, 6, 7, 9.
  */
 mask_prune_answer mask_prune(uint32_t mode, uint32_t opposing, size_t vc1, size_t vc2,
                              const size_t *cand_at1, size_t cand_at1_len, const double *cand1,
-                             size_t cand1_len, const uint8_t *inside1, size_t inside1_len,
-                             size_t count1, const size_t *cand_at2, size_t cand_at2_len,
-                             const double *cand2, size_t cand2_len, const uint8_t *inside2,
-                             size_t inside2_len, size_t count2, const size_t *lap_at,
-                             size_t lap_at_len, const double *lap, size_t lap_len, size_t laps,
-                             size_t *slice_at, size_t slice_at_len, double *slice,
-                             size_t slice_len);
+                             size_t cand1_len, const uint32_t *cand_edition1,
+                             size_t cand_edition1_len, const uint8_t *inside1,
+                             size_t inside1_len, size_t count1, const size_t *cand_at2,
+                             size_t cand_at2_len, const double *cand2, size_t cand2_len,
+                             const uint32_t *cand_edition2, size_t cand_edition2_len,
+                             const uint8_t *inside2, size_t inside2_len, size_t count2,
+                             const size_t *lap_at, size_t lap_at_len, const double *lap,
+                             size_t lap_len, const uint32_t *lap_edition,
+                             size_t lap_edition_len, size_t laps, size_t *slice_at,
+                             size_t slice_at_len, double *slice, size_t slice_len,
+                             uint32_t *slice_edition, size_t slice_edition_len);
 
 typedef struct mask_stitch_answer {
     uint32_t refusal;
@@ -375,7 +437,8 @@ typedef struct mask_stitch_answer {
 } mask_stitch_answer;
 
 /*
- * The loops that the slices make. The three starts are those of `mask_starts`;
+ * The loops that the slices make. `edition1` and `edition2` are those of the outlines;
+ * each slice must have its outline's (14). The three starts are those of `mask_starts`;
  * `selector` is one of `mask_selector`. Written:
  *   room        3 to a vertex: x, y, bulge; loop after loop. Its need is 3 numbers for
  *               each of 1 + the sum of (offset + 1) vertices; 0 where there are no slices
@@ -383,17 +446,19 @@ typedef struct mask_stitch_answer {
  *   chain       1 to a slice: its number; chain after chain
  *   chain_ends  1 to a chain: how many slices all chains up to and with it have
  *   chain_how   1 to a chain: how it ended, of `mask_chain_end`
- * The need of each of the last four is one entry per slice. Refusals 1 to 9.
+ * The need of each of the last four is one entry per slice. Refusals 1 to 8, 14, 9.
  */
 mask_stitch_answer mask_stitch(const double *outline1, size_t outline1_len, size_t vc1,
-                               const double *outline2, size_t outline2_len, size_t vc2,
-                               const size_t *slice_at, size_t slice_at_len, const double *slice,
-                               size_t slice_len, size_t slices, size_t pline2,
-                               size_t pline1_overlapping, size_t pline2_overlapping,
-                               uint32_t selector, double tolerance_x, double tolerance_y,
-                               double *room, size_t room_len, size_t *ends, size_t ends_len,
-                               size_t *chain, size_t chain_len, size_t *chain_ends,
-                               size_t chain_ends_len, size_t *chain_how, size_t chain_how_len);
+                               uint32_t edition1, const double *outline2, size_t outline2_len,
+                               size_t vc2, uint32_t edition2, const size_t *slice_at,
+                               size_t slice_at_len, const double *slice, size_t slice_len,
+                               const uint32_t *slice_edition, size_t slice_edition_len,
+                               size_t slices, size_t pline2, size_t pline1_overlapping,
+                               size_t pline2_overlapping, uint32_t selector, double tolerance_x,
+                               double tolerance_y, double *room, size_t room_len, size_t *ends,
+                               size_t ends_len, size_t *chain, size_t chain_len,
+                               size_t *chain_ends, size_t chain_ends_len, size_t *chain_how,
+                               size_t chain_how_len);
 
 /*
  * The loops whose area, whatever its sign, is not less than `limit`, by number, in

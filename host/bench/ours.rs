@@ -3,6 +3,9 @@
 
 use archive::{PruneAnswer, StitchAnswer, Vertex, View};
 
+/// The editions of the two outlines.
+pub const EDITIONS: [u32; 2] = [1, 2];
+
 /// Two outlines and what they share, as flat lists. The crossings and overlaps are the original's own.
 pub struct Pair {
     pub outlines: [Vec<f64>; 2],
@@ -10,6 +13,7 @@ pub struct Pair {
     pub hit: Vec<f64>,
     pub lap_at: Vec<usize>,
     pub lap: Vec<f64>,
+    pub lap_edition: Vec<u32>,
     pub opposing: bool,
     pub tolerance: f64,
 }
@@ -40,6 +44,7 @@ pub struct CutRoom {
     pub cand_at: Vec<usize>,
     pub cand: Vec<f64>,
     pub probe: Vec<f64>,
+    pub cand_edition: Vec<u32>,
     pub inside: Vec<u8>,
     /// How many candidates there are.
     pub count: usize,
@@ -54,6 +59,7 @@ impl CutRoom {
             cand_at: vec![0; 2 * cuts],
             cand: vec![0.0; 6 * cuts],
             probe: vec![0.0; 6 * cuts],
+            cand_edition: vec![0; cuts],
             inside: vec![0; cuts],
             count: 0,
         }
@@ -84,6 +90,7 @@ pub fn candidates(pair: &Pair, outline: usize, room: &mut CutRoom) {
     let answer = archive::candidates(
         &pair.outlines[outline],
         pair.vertex_count(outline),
+        EDITIONS[outline],
         outline as u32 + 1,
         &pair.hit_at,
         &pair.hit,
@@ -97,6 +104,7 @@ pub fn candidates(pair: &Pair, outline: usize, room: &mut CutRoom) {
         &mut room.cand_at,
         &mut room.cand,
         &mut room.probe,
+        &mut room.cand_edition,
     );
     assert_eq!(answer.refusal, 0);
     room.count = answer.count;
@@ -107,6 +115,7 @@ pub fn candidates(pair: &Pair, outline: usize, room: &mut CutRoom) {
 pub struct Slices {
     pub slice_at: Vec<usize>,
     pub slice: Vec<f64>,
+    pub slice_edition: Vec<u32>,
     pub starts: [usize; 3],
 }
 
@@ -115,6 +124,7 @@ impl Slices {
         Slices {
             slice_at: vec![0; 4 * slices],
             slice: vec![0.0; 6 * slices],
+            slice_edition: vec![0; slices],
             starts: [0; 3],
         }
     }
@@ -135,6 +145,7 @@ impl Slices {
         let inverted = usize::from(inverted);
         self.slice_at.extend([outline + 1, inverted, start, offset]);
         self.slice.extend(n);
+        self.slice_edition.push(EDITIONS[outline]);
     }
 }
 
@@ -147,17 +158,21 @@ pub fn prune(pair: &Pair, mode: u32, rooms: &[CutRoom; 2], slices: &mut Slices) 
         pair.vertex_count(1),
         &one.cand_at[..2 * one.count],
         &one.cand[..6 * one.count],
+        &one.cand_edition[..one.count],
         &one.inside[..one.count],
         one.count,
         &two.cand_at[..2 * two.count],
         &two.cand[..6 * two.count],
+        &two.cand_edition[..two.count],
         &two.inside[..two.count],
         two.count,
         &pair.lap_at,
         &pair.lap,
+        &pair.lap_edition,
         pair.laps(),
         &mut slices.slice_at,
         &mut slices.slice,
+        &mut slices.slice_edition,
     );
     assert_eq!(answer.refusal, 0);
     answer
@@ -198,10 +213,13 @@ pub fn stitch(
     let answer = archive::stitch(
         &outlines[0],
         outlines[0].len() / 3,
+        EDITIONS[0],
         &outlines[1],
         outlines[1].len() / 3,
+        EDITIONS[1],
         &slices.slice_at,
         &slices.slice,
+        &slices.slice_edition,
         slices.count(),
         pline2,
         overlaps1,

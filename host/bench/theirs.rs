@@ -2,7 +2,7 @@
 // the spatial index is a plain list, and as module `tree`, where it is a packed tree. `cavalier` is
 // the original, built with the one or the other.
 
-use super::ours::{CutRoom, Pair, Slices, candidates};
+use super::ours::{CutRoom, EDITIONS, Pair, Slices, candidates};
 use cavalier::core::math::Vector2;
 use cavalier::polyline::internal::pline_boolean::{
     NotXorStitchSelector, OrAndStitchSelector, ProcessForBooleanResult, PruneMode, SliceStarts,
@@ -58,6 +58,7 @@ impl Shared {
             hit: Vec::new(),
             lap_at: Vec::new(),
             lap: Vec::new(),
+            lap_edition: Vec::new(),
             opposing: self.info.opposing_directions(),
             tolerance: self.tolerance,
         };
@@ -74,6 +75,7 @@ impl Shared {
             pair.lap_at
                 .extend([view.start_index, view.end_index_offset]);
             pair.lap.extend(view_numbers(view));
+            pair.lap_edition.push(EDITIONS[1]);
         }
         pair
     }

@@ -1,9 +1,9 @@
 /*
- * Calls the six entries over views as a host does, and compares every answer, bit
- * for bit, with what document 01 says. One line for each check; the status is 0
+ * Calls the entries over views as a host does, and compares every answer, bit for
+ * bit, with what documents 01 and 02 say. One line for each check; the status is 0
  * where none failed.
  *
- * The reference below is written from document 01 and from nothing else.
+ * The reference below is written from these documents and from nothing else.
  *
  * Every list is lent from memory that faults when it is written, and that ends
  * where a page begins that faults when it is read.
@@ -53,6 +53,22 @@ AT(mask_verdict_answer, updated_bulge, 64);
 AT(mask_verdict_answer, expected, 72);
 SIZE(mask_verdict_answer, 80);
 
+AT(mask_reopen_answer, refusal, 0);
+AT(mask_reopen_answer, verdict, 4);
+AT(mask_reopen_answer, offset, 8);
+AT(mask_reopen_answer, source_length, 16);
+AT(mask_reopen_answer, point, 24);
+AT(mask_reopen_answer, vertex, 40);
+AT(mask_reopen_answer, updated_bulge, 64);
+AT(mask_reopen_answer, expected, 72);
+AT(mask_reopen_answer, edition, 80);
+SIZE(mask_reopen_answer, 88);
+
+AT(mask_unmoved_answer, refusal, 0);
+AT(mask_unmoved_answer, unmoved, 4);
+AT(mask_unmoved_answer, first, 8);
+SIZE(mask_unmoved_answer, 16);
+
 /* ---- Equal to the bit ---- */
 
 static int same(double a, double b) { return memcmp(&a, &b, sizeof a) == 0; }
@@ -90,6 +106,11 @@ static int same_verdict_answer(mask_verdict_answer a, mask_verdict_answer b)
            same(a.expected, b.expected);
 }
 
+static int same_unmoved_answer(mask_unmoved_answer a, mask_unmoved_answer b)
+{
+    return a.refusal == b.refusal && a.unmoved == b.unmoved && a.first == b.first;
+}
+
 /* A refusal: its number, and all else 0. */
 static mask_vertex_answer no_vertex(uint32_t refusal)
 {
@@ -101,6 +122,11 @@ static mask_view_answer no_view(uint32_t refusal) { return (mask_view_answer){.r
 static mask_verdict_answer no_verdict(uint32_t refusal)
 {
     return (mask_verdict_answer){.refusal = refusal};
+}
+
+static mask_unmoved_answer no_unmoved(uint32_t refusal)
+{
+    return (mask_unmoved_answer){.refusal = refusal};
 }
 
 static mask_vertex_answer the_vertex(double x, double y, double bulge)
@@ -120,12 +146,18 @@ typedef struct outline {
     size_t vc;
 } outline;
 
-enum { OUTLINE, WRITTEN };
+enum { OUTLINE, WRITTEN, NEW_OUTLINE };
 
 /* Lends `len` numbers, and says that they are `vc` vertices. A later call takes them back. */
 static outline lend_outline(const double *from, size_t len, size_t vc)
 {
     return (outline){lend_any(OUTLINE, from, len * sizeof *from), len, vc};
+}
+
+/* The same for an outline beside that one. */
+static outline lend_new(const double *from, size_t len, size_t vc)
+{
+    return (outline){lend_any(NEW_OUTLINE, from, len * sizeof *from), len, vc};
 }
 
 /* A triangle, and A with bulges that differ. */
@@ -178,9 +210,43 @@ static mask_view_answer entire(outline o, uint32_t closed)
     return mask_from_entire_pline(o.list, o.len, o.vc, closed);
 }
 
+/* How many verdicts were asked for with editions that differ, and of how many the answer was wrong. */
+static unsigned reopened, reopened_wrong;
+
+/*
+ * The same call with two editions that differ: 14 where it was accepted; and reopening, which gives
+ * the same verdict and the new edition where that is "valid", else the old one, and 0 where it is
+ * refused. Whether all of that is so.
+ */
+static int with_other_edition(outline o, mask_view v, uint32_t start_on, uint32_t end_on,
+                              mask_verdict_answer a, uint32_t edition, uint32_t own)
+{
+    mask_verdict_answer late =
+        mask_validate_for_source(o.list, o.len, o.vc, edition, v, own, start_on, end_on);
+    mask_reopen_answer r = mask_reopen(o.list, o.len, o.vc, edition, v, own, start_on, end_on);
+    mask_verdict_answer verdict = {r.refusal, r.verdict, r.offset,        r.source_length,
+                                   r.point,   r.vertex,  r.updated_bulge, r.expected};
+    uint32_t left = a.refusal ? 0 : a.verdict == MASK_VERDICT_VALID ? edition : own;
+    return same_verdict_answer(late, no_verdict(a.refusal ? a.refusal : MASK_REFUSED_EDITION)) &&
+           same_verdict_answer(verdict, a) && r.edition == left;
+}
+
+/* With editions that match; and beside it with others. */
 static mask_verdict_answer validate(outline o, mask_view v, uint32_t start_on, uint32_t end_on)
 {
-    return mask_validate_for_source(o.list, o.len, o.vc, v, start_on, end_on);
+    uint32_t edition = EDITIONS[reopened % EDITION_COUNT];
+    uint32_t own = EDITIONS[(reopened + 1 + reopened / EDITION_COUNT % (EDITION_COUNT - 1)) %
+                            EDITION_COUNT];
+    mask_verdict_answer a =
+        mask_validate_for_source(o.list, o.len, o.vc, edition, v, edition, start_on, end_on);
+    reopened++;
+    reopened_wrong += !with_other_edition(o, v, start_on, end_on, a, edition, own);
+    return a;
+}
+
+static mask_unmoved_answer unmoved(outline old, outline new, mask_view v)
+{
+    return mask_unmoved(old.list, old.len, old.vc, new.list, new.len, new.vc, v);
 }
 
 /* ---- The reference: document 01 ---- */
@@ -403,6 +469,23 @@ static mask_verdict_answer judged(outline o, mask_view v, uint32_t start_on, uin
         answer.verdict = 7;
     }
     return answer;
+}
+
+/* "whether the view has the same vertices, bit for bit, on both outlines", and the first that differs
+ */
+static mask_unmoved_answer compared(outline old, outline new, mask_view v)
+{
+    uint32_t one = vertex_of(old, v, 0).refusal, two = vertex_of(new, v, 0).refusal;
+    uint32_t lowest = one == 0 || (two != 0 && two < one) ? two : one;
+    if (lowest != 0)
+        return no_unmoved(lowest);
+    for (size_t k = 0; k < v.end_index_offset + 2; k++) {
+        mask_vertex a = v.inverted_direction ? inverted(old, v, k) : forward(old, v, k);
+        mask_vertex b = v.inverted_direction ? inverted(new, v, k) : forward(new, v, k);
+        if (!same_vertex(a, b))
+            return (mask_unmoved_answer){0, 0, k};
+    }
+    return (mask_unmoved_answer){0, 1, 0};
 }
 
 /* ---- Faults, alone and together ---- */
@@ -636,6 +719,41 @@ static int short_answers(unsigned set, uint32_t refusal)
     return validate_set((set & 1) | (set & ~1u) << 1, 1, v, refusal ? no_verdict(refusal) : none);
 }
 
+static const fault unmoved_faults[] = {
+    {1, "the old outline is one number short"},
+    {1, "the new outline is one number short"},
+    {2, "the old outline has 1025 vertices"},
+    {2, "the new outline has 1 vertex"},
+    {3, "inverted is 2"},
+    {5, "a NaN in the old outline"},
+    {5, "a NaN in the new outline"},
+    {5, "an infinity in the view"},
+    {6, "start equal to the vertex count"},
+    {7, "offset one above the vertex count"},
+};
+
+static int unmoved_answers(unsigned set, uint32_t refusal)
+{
+    double list[LONGEST] = {0};
+    size_t vc1 = set & 4 ? 1025 : 4, vc2 = set & 8 ? 1 : 4;
+    mask_view v = view_on_a();
+    outline old = faulty(set & 1, vc1, set & 32), new;
+    memcpy(list, A, sizeof A);
+    if (set & 64)
+        list[2] = NAN;
+    new = lend_new(list, set & 2 ? 3 * vc2 - 1 : 3 * vc2, vc2);
+    if (set & 16)
+        v.inverted_direction = 2;
+    if (set & 128)
+        v.updated_start.bulge = -INFINITY;
+    if (set & 256)
+        v.start_index = vc2;
+    if (set & 512)
+        v.end_index_offset = vc2 + 1;
+    return same_unmoved_answer(unmoved(old, new, v),
+                               refusal ? no_unmoved(refusal) : (mask_unmoved_answer){0, 1, 0});
+}
+
 static void faults_and_sets(void)
 {
 #define TRY(entry, rows, answers) try_faults(entry, rows, sizeof rows / sizeof *rows, answers)
@@ -646,14 +764,16 @@ static void faults_and_sets(void)
     TRY("from_entire_pline", entire_faults, entire_answers);
     TRY("validate_for_source", validate_faults, validate_answers);
     TRY("validate_for_source, 1 vertex", short_faults, short_answers);
+    TRY("unmoved", unmoved_faults, unmoved_answers);
 #undef TRY
 }
 
 /* ---- Lengths and counts ---- */
 
-/* Whether all six entries refuse the outline with this number. */
+/* Whether all entries refuse the outline with this number. */
 static int all_refuse(outline o, uint32_t refusal)
 {
+    const outline good = lend_new(A, 12, 4);
     mask_verdict_answer v = validate(o, view_on_a(), 1, 1);
     piece p = {1, {4, 2, 0.5}, {4, 3}, {0.5, 0.5}};
     return same_vertex_answer(vertex(o, view_on_a(), 0), no_vertex(refusal)) &&
@@ -661,7 +781,9 @@ static int all_refuse(outline o, uint32_t refusal)
            same_view_answer(create(o, walk_on_a()), no_view(refusal)) &&
            same_view_answer(single(o, p), no_view(refusal)) &&
            same_view_answer(entire(o, 1), no_view(refusal)) &&
-           same_verdict_answer(v, no_verdict(refusal));
+           same_verdict_answer(v, no_verdict(refusal)) &&
+           same_unmoved_answer(unmoved(o, good, view_on_a()), no_unmoved(refusal)) &&
+           same_unmoved_answer(unmoved(good, o, view_on_a()), no_unmoved(refusal));
 }
 
 static void lengths(void)
@@ -1283,6 +1405,153 @@ static void validation_tolerances(void)
           "validate_for_source: bulges just under 1e-5 apart match");
 }
 
+/* ---- Editions, reopening, and what moved ---- */
+
+/* One view for each verdict, 1 to 7, on A, with the host's yes. */
+static mask_view view_of_verdict(unsigned verdict, outline *o)
+{
+    mask_view v = {1, 1, {4, 2, 0.5}, 0.25, {2, 4}, 0};
+    *o = verdict == 1 ? lend_outline(A, 3, 1) : square_a();
+    if (verdict == 2)
+        v.end_index_offset = 5;
+    if (verdict == 5)
+        v.end_point = (mask_point){4, 4};
+    if (verdict == 6)
+        v.end_index_offset = 0, v.end_point = (mask_point){4, 3};
+    return v;
+}
+
+static void editions(void)
+{
+    for (unsigned verdict = 1; verdict <= 7; verdict++) {
+        outline o;
+        mask_view v = view_of_verdict(verdict, &o);
+        uint32_t start_on = verdict != 3, end_on = verdict != 4;
+        int ok = judged(o, v, start_on, end_on).verdict == verdict;
+        for (int i = 0; i < EDITION_COUNT; i++)
+            for (int j = 0; j < EDITION_COUNT; j++) {
+                uint32_t edition = EDITIONS[i], own = EDITIONS[j];
+                mask_verdict_answer meant = judged(o, v, start_on, end_on);
+                mask_reopen_answer r =
+                    mask_reopen(o.list, o.len, o.vc, edition, v, own, start_on, end_on);
+                mask_verdict_answer a = mask_validate_for_source(o.list, o.len, o.vc, edition, v,
+                                                                 own, start_on, end_on);
+                if (i == j)
+                    ok = ok && same_verdict_answer(a, meant) && r.edition == own;
+                else
+                    ok = ok && with_other_edition(o, v, start_on, end_on, meant, edition, own);
+            }
+        check(ok,
+              "editions: verdict %u: 14 where two differ, from 0 to 2^32 - 1; reopened, the view has "
+              "%s",
+              verdict, verdict == 7 ? "the outline's" : "its own");
+    }
+}
+
+/* A view that starts on the outline's last segments, of offset 3; its inner vertices are 3, 0 and 1. */
+static const mask_view ACROSS = {2, 3, {2, 4, 0}, 0, {4, 2}, 0};
+
+static void moved_vertices(void)
+{
+    double list[12];
+    mask_view back = ACROSS;
+    outline old = square_a();
+    back.inverted_direction = 1;
+    check(same_unmoved_answer(unmoved(old, lend_new(A, 12, 4), ACROSS),
+                              (mask_unmoved_answer){0, 1, 0}),
+          "unmoved: the same outline");
+    memcpy(list, A, sizeof A);
+    list[0] = list[1] = 1;
+    check(same_unmoved_answer(unmoved(old, lend_new(list, 12, 4), ACROSS),
+                              (mask_unmoved_answer){0, 0, 2}) &&
+              validate(lend_new(list, 12, 4), ACROSS, 1, 1).verdict == MASK_VERDICT_VALID,
+          "unmoved: (0,0) moved to (1,1): vertex 2 differs, and the verdict is valid");
+    memcpy(list, A, sizeof A);
+    list[6] = list[7] = 5;
+    check(same_unmoved_answer(unmoved(old, lend_new(list, 12, 4), ACROSS),
+                              (mask_unmoved_answer){0, 1, 0}),
+          "unmoved: a vertex that the view has not may move");
+    memcpy(list, A, sizeof A);
+    list[5] = 0.5;
+    check(same_unmoved_answer(unmoved(old, lend_new(list, 12, 4), ACROSS),
+                              (mask_unmoved_answer){0, 1, 0}) &&
+              same_unmoved_answer(unmoved(old, lend_new(list, 12, 4), back),
+                                  (mask_unmoved_answer){0, 1, 0}),
+          "unmoved: the bulge of the vertex at the offset is the view's own, in both directions");
+    memcpy(list, A, sizeof A);
+    list[2] = -0.0;
+    check(same_unmoved_answer(unmoved(old, lend_new(list, 12, 4), ACROSS),
+                              (mask_unmoved_answer){0, 0, 2}) &&
+              same_unmoved_answer(unmoved(old, lend_new(list, 12, 4), back),
+                                  (mask_unmoved_answer){0, 0, 1}),
+          "unmoved: -0 is another bulge than 0; inverted it is that of the vertex after it");
+    check(same_unmoved_answer(unmoved(triangle(), lend_new(A, 12, 4),
+                                      (mask_view){3, 0, {0, 0, 0}, 0, {1, 1}, 0}),
+                              no_unmoved(6)) &&
+              same_unmoved_answer(unmoved(square_a(), lend_new(TRIANGLE, 9, 3),
+                                          (mask_view){3, 0, {0, 0, 0}, 0, {1, 1}, 0}),
+                                  no_unmoved(6)),
+          "unmoved: the start is looked at on both outlines: 6");
+    check(same_unmoved_answer(unmoved(triangle(), lend_new(A, 12, 4),
+                                      (mask_view){0, 4, {0, 0, 0}, 0, {1, 1}, 0}),
+                              no_unmoved(7)) &&
+              same_unmoved_answer(unmoved(square_a(), lend_new(TRIANGLE, 9, 3),
+                                          (mask_view){0, 4, {0, 0, 0}, 0, {1, 1}, 0}),
+                                  no_unmoved(7)),
+          "unmoved: the offset is looked at on both outlines: 7");
+}
+
+/* Every view of an outline, each number of it changed by one bit, beside the reference. */
+static void moved_bits(void)
+{
+    enum { COUNT = 5 };
+    double from[3 * COUNT], to[3 * COUNT];
+    unsigned cases = 0, wrong = 0, same = 0;
+    for (size_t i = 0; i < 3 * COUNT; i++)
+        from[i] = i % 4 ? (double)i / 4 : 0;
+    for (size_t place = 0; place < 3 * COUNT; place++)
+        for (size_t view = 0; view < COUNT * (COUNT + 1) * 2; view++) {
+            mask_view v = {view % COUNT, view / COUNT % (COUNT + 1), {7, 8, 9}, 10, {11, 12},
+                           (uint32_t)(view / COUNT / (COUNT + 1))};
+            outline old = lend_outline(from, 3 * COUNT, COUNT), new;
+            mask_unmoved_answer a;
+            memcpy(to, from, sizeof to);
+            to[place] = to[place] == 0 ? -0.0 : nextafter(to[place], 99);
+            new = lend_new(to, 3 * COUNT, COUNT);
+            a = unmoved(old, new, v);
+            wrong += !same_unmoved_answer(a, compared(old, new, v)) ||
+                     !same_unmoved_answer(a, unmoved(new, old, v)) ||
+                     (v.end_index_offset == 0 && !a.unmoved);
+            same += a.unmoved;
+            cases++;
+        }
+    check(wrong == 0 && same > 100 && same < cases - 100,
+          "unmoved: every view of 5 vertices, each number changed by a bit: %u cases, %u unmoved, "
+          "%u wrong; with offset 0 nothing moves",
+          cases, same, wrong);
+}
+
+/* The longest views, one vertex moved. */
+static void moved_far(void)
+{
+    static double from[3 * MOST_VERTICES], to[3 * MOST_VERTICES];
+    unsigned wrong = 0;
+    for (size_t i = 0; i < 3 * MOST_VERTICES; i++)
+        from[i] = (double)i;
+    for (unsigned i = 0; i < 200; i++) {
+        size_t moved = i < 4 ? (size_t[]){0, 1, 1022, 1023}[i] : below(MOST_VERTICES);
+        mask_view v = {below(MOST_VERTICES), MOST_VERTICES, {7, 8, 9}, 10, {11, 12}, i % 2};
+        outline old, new;
+        memcpy(to, from, sizeof to);
+        to[3 * moved + below(3)] += 0.5;
+        old = lend_outline(from, 3 * MOST_VERTICES, MOST_VERTICES);
+        new = lend_new(to, 3 * MOST_VERTICES, MOST_VERTICES);
+        wrong += !same_unmoved_answer(unmoved(old, new, v), compared(old, new, v));
+    }
+    check(wrong == 0, "unmoved: views round outlines of 1024 vertices, one of them moved: %u wrong",
+          wrong);
+}
+
 /* ---- Drawn cases against the reference ---- */
 
 enum { CASES = 100000 };
@@ -1559,9 +1828,72 @@ static void drawn_verdicts(void)
           "validate_for_source: each refusal and verdict was among them");
 }
 
+/* What comes late: a vertex moved, one inserted, one removed, the numbering turned, or nothing. */
+static outline changed(outline o)
+{
+    double list[LONGEST];
+    size_t vc = o.vc, i;
+    if (!right_length(o.len, 3, vc) || vc < 2 || vc > MOST_VERTICES)
+        return lend_new(o.list, o.len, vc);
+    memcpy(list, o.list, o.len * sizeof *list);
+    i = below(vc);
+    switch (below(6)) {
+    case 0:
+        list[3 * i + below(3)] = drawn_number();
+        break;
+    case 1: /* the last one moves up */
+        memmove(list + 3 * i + 3, list + 3 * i, 3 * (vc - i) * sizeof *list);
+        vc++;
+        break;
+    case 2:
+        memmove(list + 3 * i, list + 3 * i + 3, 3 * (vc - i - 1) * sizeof *list);
+        vc--;
+        break;
+    case 3:
+        memcpy(list, o.list + 3 * i, 3 * (vc - i) * sizeof *list);
+        memcpy(list + 3 * (vc - i), o.list, 3 * i * sizeof *list);
+        break;
+    case 4:
+        list[3 * i] = rarely(8) ? bad_number() : -list[3 * i];
+        break;
+    default:
+        break;
+    }
+    return lend_new(list, 3 * vc, vc);
+}
+
+static void drawn_unmoved(void)
+{
+    int ok = 1;
+    memset(met, 0, sizeof met);
+    for (unsigned i = 0; i < CASES && ok; i++) {
+        outline o = drawn_outline(), n = changed(o);
+        mask_view v = drawn_view(o);
+        mask_unmoved_answer a = unmoved(o, n, v);
+        ok = same_unmoved_answer(a, compared(o, n, v)) &&
+             same_unmoved_answer(unmoved(n, o, v), compared(n, o, v));
+        if (!ok)
+            printf("     case %u: refusal %u unmoved %u first %zu\n", i, (unsigned)a.refusal,
+                   (unsigned)a.unmoved, a.first);
+        met[a.refusal ? a.refusal : 8 + 2 * a.unmoved + (a.refusal == 0 && v.inverted_direction)]++;
+    }
+    check(ok, "unmoved: %u drawn cases as document 02 says", (unsigned)CASES);
+    check(MET({1, 2, 3, 5, 6, 7, 8, 9, 10, 11}), "unmoved: each refusal and answer was among them");
+}
+
+/* The verdicts above, each asked for with editions that differ too. */
+static void verdicts_reopened(void)
+{
+    check(reopened_wrong == 0 && reopened > CASES,
+          "editions: %u verdicts: where the editions differ, 14 in place of each verdict and after each "
+          "other number; reopened, the same verdict and the right edition: %u wrong",
+          reopened, reopened_wrong);
+}
+
 int main(void)
 {
     make_list(OUTLINE, LONGEST);
+    make_list(NEW_OUTLINE, LONGEST);
     make_list(WRITTEN, 3 * (MOST_VERTICES + 2));
     watch("FAIL an entry wrote to a list lent, or read outside it\n");
     seed = 20260101;
@@ -1576,11 +1908,17 @@ int main(void)
     constructors();
     verdicts();
     validation_tolerances();
+    editions();
+    moved_vertices();
+    moved_bits();
+    moved_far();
     drawn_vertices();
     drawn_walks();
     drawn_pieces();
     drawn_outlines();
     drawn_verdicts();
     drawn_views();
+    drawn_unmoved();
+    verdicts_reopened();
     return finish("entries_test");
 }

@@ -58,6 +58,7 @@ static size_t hit_at[2 * HITS], lap_at[7 * LAPS];
 static size_t cut_at[3 * CUTS], cand_at[2 * CUTS];
 static double cut[2 * CUTS], cand[6 * CUTS], probe[6 * CUTS];
 static uint8_t inside[CANDIDATES];
+static uint32_t cand_edition[CUTS], lap_edition[LAPS], slice_edition[SLICES];
 static size_t slice_at[4 * SLICES], ends[SLICES], chain[SLICES], chain_ends[SLICES],
     chain_how[SLICES], kept[SLICES];
 static double vertices[3 * (VC + 2)];
@@ -132,7 +133,17 @@ static void from_entire_pline(void)
 
 static void validate_for_source(void)
 {
-    refusal = mask_validate_for_source(ALL(outline), VC, VIEW, 1, 1).refusal;
+    refusal = mask_validate_for_source(ALL(outline), VC, 0, VIEW, 0, 1, 1).refusal;
+}
+
+static void reopen(void)
+{
+    refusal = mask_reopen(ALL(outline), VC, 1, VIEW, 0, 1, 1).refusal;
+}
+
+static void unmoved(void)
+{
+    refusal = mask_unmoved(ALL(outline), VC, ALL(outline), VC, VIEW).refusal;
 }
 
 static void cut_order(void)
@@ -144,25 +155,26 @@ static void cut_order(void)
 
 static void candidates(void)
 {
-    refusal = mask_candidates(ALL(outline), VC, 1, ALL(hit_at), ALL(hit), HITS, ALL(lap_at),
+    refusal = mask_candidates(ALL(outline), VC, 0, 1, ALL(hit_at), ALL(hit), HITS, ALL(lap_at),
                               ALL(lap), LAPS, ALL(splits), T, T, ALL(cand_at), ALL(cand),
-                              ALL(probe))
+                              ALL(probe), ALL(cand_edition))
                   .refusal;
 }
 
 static void prune(void)
 {
-    refusal = mask_prune(MASK_MODE_UNION, 0, VC, VC, ALL(cand_at), ALL(cand), ALL(inside),
-                         CANDIDATES, ALL(cand_at), ALL(cand), ALL(inside), CANDIDATES, ALL(lap_at),
-                         ALL(lap), LAPS, ALL(slice_at), ALL(slice))
+    refusal = mask_prune(MASK_MODE_UNION, 0, VC, VC, ALL(cand_at), ALL(cand), ALL(cand_edition),
+                         ALL(inside), CANDIDATES, ALL(cand_at), ALL(cand), ALL(cand_edition),
+                         ALL(inside), CANDIDATES, ALL(lap_at), ALL(lap), ALL(lap_edition), LAPS,
+                         ALL(slice_at), ALL(slice), ALL(slice_edition))
                   .refusal;
 }
 
 static void stitch(void)
 {
-    refusal = mask_stitch(ALL(outline), VC, ALL(outline), VC, ALL(slice_at), ALL(slice), SLICES, 0,
-                          SLICES, SLICES, MASK_SELECTOR_OR_AND, 1, 1, ALL(room), ALL(ends),
-                          ALL(chain), ALL(chain_ends), ALL(chain_how))
+    refusal = mask_stitch(ALL(outline), VC, 0, ALL(outline), VC, 0, ALL(slice_at), ALL(slice),
+                          ALL(slice_edition), SLICES, 0, SLICES, SLICES, MASK_SELECTOR_OR_AND, 1,
+                          1, ALL(room), ALL(ends), ALL(chain), ALL(chain_ends), ALL(chain_how))
                   .refusal;
 }
 
@@ -266,6 +278,8 @@ int main(void)
             MASK_STACK_CREATE_ON_SINGLE_SEGMENT);
     measure("mask_from_entire_pline", from_entire_pline, MASK_STACK_FROM_ENTIRE_PLINE);
     measure("mask_validate_for_source", validate_for_source, MASK_STACK_VALIDATE_FOR_SOURCE);
+    measure("mask_reopen", reopen, MASK_STACK_REOPEN);
+    measure("mask_unmoved", unmoved, MASK_STACK_UNMOVED);
     measure("mask_cut_order", cut_order, MASK_STACK_CUT_ORDER);
     measure("mask_stitch", stitch, MASK_STACK_STITCH); /* before the slices are written over */
     measure("mask_candidates", candidates, MASK_STACK_CANDIDATES);

@@ -4,7 +4,8 @@
  * NaN's bits (docs/CONTRACTS.md). Here every room of every entry that is lent one holds
  * NaNs, quiet and signalling, of several payloads, and is compared as bits: beyond the
  * need after an accepted call, all of it after a refused one. NaNs among the numbers
- * handed in are refused, and leave the room as it was too.
+ * handed in are refused, and leave the room as it was too. Rooms of editions hold bits
+ * of their own, and are compared in the same way.
  *
  * One line for each check; the status is 0 where none failed. How lists are lent, and
  * what they hold before a call, stands in testing.h.
@@ -32,6 +33,10 @@ enum {
     SLICE_AT,
     SLICE,
     AREAS,
+    CAND_EDITION1,
+    CAND_EDITION2,
+    LAP_EDITION,
+    SLICE_EDITION,
     FIRST_ROOM, /* from here on written */
     VERTICES = FIRST_ROOM,
     CUT_AT,
@@ -39,8 +44,10 @@ enum {
     CAND_AT,
     CAND,
     PROBE,
+    CAND_EDITION,
     NEW_SLICE_AT,
     NEW_SLICE,
+    NEW_SLICE_EDITION,
     ROOM,
     ENDS,
     CHAIN,
@@ -67,6 +74,7 @@ static struct {
     mask_view view;
     size_t vc1, vc2, pline2;
     uint32_t source, mode, selector;
+    uint32_t edition, cand_edition1[2], cand_edition2[2], lap_edition[1], slice_edition[2];
     double tolerance_x, tolerance_y, limit;
     size_t len[LISTS], need[LISTS];
 } c;
@@ -85,11 +93,13 @@ static void begin(void)
     static const size_t lengths[LISTS] = {
         [OUTLINE1] = 12, [OUTLINE2] = 12, [HIT_AT] = 4, [HIT] = 4,     [LAP_AT] = 7,   [LAP] = 6,
         [SPLITS] = 36,   [CAND_AT1] = 4,  [CAND1] = 12, [INSIDE1] = 2, [CAND_AT2] = 4, [CAND2] = 12,
-        [INSIDE2] = 2,   [SLICE_AT] = 8,  [SLICE] = 12, [AREAS] = 3};
+        [INSIDE2] = 2,   [SLICE_AT] = 8,  [SLICE] = 12, [AREAS] = 3,
+        [CAND_EDITION1] = 2, [CAND_EDITION2] = 2, [LAP_EDITION] = 1, [SLICE_EDITION] = 2};
     static const size_t needs[LISTS] = {
         [VERTICES] = 15, [CUT_AT] = 12,       [CUT] = 8,        [CAND_AT] = 8, [CAND] = 24,
         [PROBE] = 24,    [NEW_SLICE_AT] = 24, [NEW_SLICE] = 36, [ROOM] = 27,   [ENDS] = 2,
-        [CHAIN] = 2,     [CHAIN_ENDS] = 2,    [CHAIN_HOW] = 2,  [KEPT] = 3};
+        [CHAIN] = 2,     [CHAIN_ENDS] = 2,    [CHAIN_HOW] = 2,  [KEPT] = 3,
+        [CAND_EDITION] = 4, [NEW_SLICE_EDITION] = 6};
     memset(&c, 0, sizeof c);
     memcpy(c.outline1, A, sizeof A);
     memcpy(c.outline2, B, sizeof B);
@@ -119,7 +129,9 @@ static void begin(void)
 
 #define READ(list, field) lend(list, c.field, c.len[list]), c.len[list]
 #define READ_BYTES(list, field) lend_bytes(list, c.field, c.len[list]), c.len[list]
+#define READ_EDITIONS(list, field) lend_editions(list, c.field, c.len[list]), c.len[list]
 #define WRITTEN(list) lend_room(list, c.len[list]), c.len[list]
+#define WRITTEN_EDITIONS(list) lend_edition_room(list, c.len[list]), c.len[list]
 
 static uint32_t view_vertices(void)
 {
@@ -136,26 +148,31 @@ static uint32_t cut_order(void)
 
 static uint32_t candidates(void)
 {
-    return mask_candidates(READ(OUTLINE1, outline1), c.vc1, c.source, READ(HIT_AT, hit_at),
-                           READ(HIT, hit), 2, READ(LAP_AT, lap_at), READ(LAP, lap), 1,
-                           READ(SPLITS, splits), c.tolerance_x, c.tolerance_y, WRITTEN(CAND_AT),
-                           WRITTEN(CAND), WRITTEN(PROBE))
+    return mask_candidates(READ(OUTLINE1, outline1), c.vc1, c.edition, c.source,
+                           READ(HIT_AT, hit_at), READ(HIT, hit), 2, READ(LAP_AT, lap_at),
+                           READ(LAP, lap), 1, READ(SPLITS, splits), c.tolerance_x, c.tolerance_y,
+                           WRITTEN(CAND_AT), WRITTEN(CAND), WRITTEN(PROBE),
+                           WRITTEN_EDITIONS(CAND_EDITION))
         .refusal;
 }
 
 static uint32_t prune(void)
 {
     return mask_prune(c.mode, 0, c.vc1, c.vc2, READ(CAND_AT1, cand_at1), READ(CAND1, cand1),
-                      READ_BYTES(INSIDE1, inside1), 2, READ(CAND_AT2, cand_at2), READ(CAND2, cand2),
-                      READ_BYTES(INSIDE2, inside2), 2, READ(LAP_AT, lap_at), READ(LAP, lap), 1,
-                      WRITTEN(NEW_SLICE_AT), WRITTEN(NEW_SLICE))
+                      READ_EDITIONS(CAND_EDITION1, cand_edition1), READ_BYTES(INSIDE1, inside1), 2,
+                      READ(CAND_AT2, cand_at2), READ(CAND2, cand2),
+                      READ_EDITIONS(CAND_EDITION2, cand_edition2), READ_BYTES(INSIDE2, inside2), 2,
+                      READ(LAP_AT, lap_at), READ(LAP, lap), READ_EDITIONS(LAP_EDITION, lap_edition),
+                      1, WRITTEN(NEW_SLICE_AT), WRITTEN(NEW_SLICE),
+                      WRITTEN_EDITIONS(NEW_SLICE_EDITION))
         .refusal;
 }
 
 static uint32_t stitch(void)
 {
-    return mask_stitch(READ(OUTLINE1, outline1), c.vc1, READ(OUTLINE2, outline2), c.vc2,
-                       READ(SLICE_AT, slice_at), READ(SLICE, slice), 2, c.pline2, 2, 2, c.selector,
+    return mask_stitch(READ(OUTLINE1, outline1), c.vc1, c.edition, READ(OUTLINE2, outline2), c.vc2,
+                       c.edition, READ(SLICE_AT, slice_at), READ(SLICE, slice),
+                       READ_EDITIONS(SLICE_EDITION, slice_edition), 2, c.pline2, 2, 2, c.selector,
                        c.tolerance_x, c.tolerance_y, WRITTEN(ROOM), WRITTEN(ENDS), WRITTEN(CHAIN),
                        WRITTEN(CHAIN_ENDS), WRITTEN(CHAIN_HOW))
         .refusal;
@@ -175,9 +192,9 @@ static const struct {
 } ENTRIES[] = {
     {"mask_view_vertices", view_vertices, VERTICES, VERTICES, 1u << OUTLINE1},
     {"mask_cut_order", cut_order, CUT_AT, CUT, 1u << OUTLINE1 | 1u << HIT | 1u << LAP},
-    {"mask_candidates", candidates, CAND_AT, PROBE,
+    {"mask_candidates", candidates, CAND_AT, CAND_EDITION,
      1u << OUTLINE1 | 1u << HIT | 1u << LAP | 1u << SPLITS},
-    {"mask_prune", prune, NEW_SLICE_AT, NEW_SLICE, 1u << CAND1 | 1u << CAND2 | 1u << LAP},
+    {"mask_prune", prune, NEW_SLICE_AT, NEW_SLICE_EDITION, 1u << CAND1 | 1u << CAND2 | 1u << LAP},
     {"mask_stitch", stitch, ROOM, CHAIN_HOW, 1u << OUTLINE1 | 1u << OUTLINE2 | 1u << SLICE},
     {"mask_area_pass", area_pass, KEPT, KEPT, 1u << AREAS},
 };
@@ -185,29 +202,30 @@ enum { ENTRY_COUNT = sizeof ENTRIES / sizeof *ENTRIES };
 
 /* ---- What is compared, as bits ---- */
 
-static const uint64_t *words_of(int list) { return (const uint64_t *)lent[list].end - c.len[list]; }
+/* Whether place i of a room, counted from BEFORE places before it on, holds what it held. */
+static int holds(int list, size_t i)
+{
+    const uint64_t held = guard_word(i);
+    if (list == CAND_EDITION || list == NEW_SLICE_EDITION)
+        return left_editions(list, c.len[list] + BEFORE)[i] == guard_edition(i);
+    return memcmp((const uint64_t *)lent[list].end - c.len[list] - BEFORE + i, &held, 8) == 0;
+}
 
-/* The words from place `from` on, those before the list too where it is 0, hold what they held. */
+/* The places from `from` on, those before the list too where it is 0, hold what they held. */
 static int untouched(int list, size_t from)
 {
-    const uint64_t *words = words_of(list) - BEFORE;
-    for (size_t i = from == 0 ? 0 : BEFORE + from; i < BEFORE + c.len[list]; i++) {
-        uint64_t held = guard_word(i);
-        if (memcmp(words + i, &held, sizeof held) != 0)
+    for (size_t i = from == 0 ? 0 : BEFORE + from; i < BEFORE + c.len[list]; i++)
+        if (!holds(list, i))
             return 0;
-    }
     return 1;
 }
 
-/* So do the words before the list, and none up to the need does. */
+/* So do the places before the list, and none up to the need does. */
 static int written(int list)
 {
-    const uint64_t *words = words_of(list) - BEFORE;
-    for (size_t i = 0; i < BEFORE + c.need[list]; i++) {
-        uint64_t held = guard_word(i);
-        if ((memcmp(words + i, &held, sizeof held) == 0) != (i < BEFORE))
+    for (size_t i = 0; i < BEFORE + c.need[list]; i++)
+        if (holds(list, i) != (i < BEFORE))
             return 0;
-    }
     return 1;
 }
 
@@ -276,6 +294,9 @@ static int spoil(int e, uint32_t number)
     case 8:
         c.pline2 = 3;
         return ENTRIES[e].call == stitch;
+    case 14:
+        c.slice_edition[1] = 1;
+        return ENTRIES[e].call == stitch;
     default:
         return 0;
     }
@@ -284,7 +305,7 @@ static int spoil(int e, uint32_t number)
 static int faults(int e)
 {
     int tried = 0;
-    for (uint32_t number = 1; number <= 8; number++)
+    for (uint32_t number = 1; number <= 14; number++)
         if (spoil(e, number)) {
             if (!is_refused(e, number))
                 return 0;

@@ -66,7 +66,11 @@ enum {
     CAND2,
     INSIDE2,
     LAP_AT,
-    LAP, /* read */
+    LAP,
+    SLICE_EDITION,
+    CAND_EDITION1,
+    CAND_EDITION2,
+    LAP_EDITION, /* read */
     VERTEX_ROOM,
     ENDS,
     CHAIN,
@@ -74,7 +78,8 @@ enum {
     CHAIN_HOW,
     KEPT,
     NEW_SLICE_AT,
-    NEW_SLICE, /* written */
+    NEW_SLICE,
+    NEW_SLICE_EDITION, /* written */
     LISTS
 };
 
@@ -91,8 +96,10 @@ typedef struct call {
     double outline[2][3 * VERTICES];
     size_t slice_at[4 * SLICES];
     double slice[6 * SLICES];
-    size_t outline_len[2], slice_at_len, slice_len;
+    uint32_t slice_edition[SLICES];
+    size_t outline_len[2], slice_at_len, slice_len, slice_edition_len;
     size_t vc[2], slices;
+    uint32_t edition[2];
     mask_starts starts;
     uint32_t selector;
     axes tolerance;
@@ -108,12 +115,14 @@ static void begin(const double *outline1, size_t vc1, const double *outline2, si
     memcpy(c.outline[1], outline2, 3 * vc2 * sizeof *outline2);
     c.vc[0] = vc1;
     c.vc[1] = vc2;
+    c.edition[0] = 0;
+    c.edition[1] = UINT32_MAX;
     c.slices = 0;
     c.selector = selector;
     c.tolerance = both(tolerance);
 }
 
-/* A slice: its start with a bulge, the end bulge, its end. */
+/* A slice: its start with a bulge, the end bulge, its end. It is of its outline's edition. */
 static void add(size_t source, size_t inverted, size_t start, size_t offset, double x, double y,
                 double bulge, double end_bulge, double end_x, double end_y)
 {
@@ -121,7 +130,7 @@ static void add(size_t source, size_t inverted, size_t start, size_t offset, dou
     const double numbers[] = {x, y, bulge, end_bulge, end_x, end_y};
     memcpy(c.slice_at + 4 * c.slices, at, sizeof at);
     memcpy(c.slice + 6 * c.slices, numbers, sizeof numbers);
-    c.slices++;
+    c.slice_edition[c.slices++] = c.edition[source == 1 ? 0 : 1];
 }
 
 static void classes(size_t pline2, size_t pline1_overlapping, size_t pline2_overlapping)
@@ -145,6 +154,7 @@ static void measure(size_t beyond)
     c.outline_len[1] = 3 * c.vc[1];
     c.slice_at_len = 4 * c.slices;
     c.slice_len = 6 * c.slices;
+    c.slice_edition_len = c.slices;
     c.room_len = 3 * vertices_needed() + beyond;
     c.ends_len = c.chain_len = c.chain_ends_len = c.chain_how_len = c.slices + beyond;
 }
@@ -152,9 +162,12 @@ static void measure(size_t beyond)
 static mask_stitch_answer stitch(void)
 {
     return mask_stitch(lend(OUTLINE1, c.outline[0], c.outline_len[0]), c.outline_len[0], c.vc[0],
-                       lend(OUTLINE2, c.outline[1], c.outline_len[1]), c.outline_len[1], c.vc[1],
+                       c.edition[0], lend(OUTLINE2, c.outline[1], c.outline_len[1]),
+                       c.outline_len[1], c.vc[1], c.edition[1],
                        lend(SLICE_AT, c.slice_at, c.slice_at_len), c.slice_at_len,
-                       lend(SLICE, c.slice, c.slice_len), c.slice_len, c.slices, c.starts.pline2,
+                       lend(SLICE, c.slice, c.slice_len), c.slice_len,
+                       lend_editions(SLICE_EDITION, c.slice_edition, c.slice_edition_len),
+                       c.slice_edition_len, c.slices, c.starts.pline2,
                        c.starts.pline1_overlapping, c.starts.pline2_overlapping, c.selector,
                        c.tolerance.x, c.tolerance.y, lend_room(VERTEX_ROOM, c.room_len), c.room_len,
                        lend_room(ENDS, c.ends_len), c.ends_len, lend_room(CHAIN, c.chain_len),
@@ -217,7 +230,8 @@ static uint32_t refused(void)
 {
     if (!right_length(c.outline_len[0], 3, c.vc[0]) ||
         !right_length(c.outline_len[1], 3, c.vc[1]) || !right_length(c.slice_at_len, 4, c.slices) ||
-        !right_length(c.slice_len, 6, c.slices) || c.slices > MOST_SLICES)
+        !right_length(c.slice_len, 6, c.slices) || c.slice_edition_len != c.slices ||
+        c.slices > MOST_SLICES)
         return 1;
     for (int o = 0; o < 2; o++)
         if (c.vc[o] < LEAST_VERTICES || c.vc[o] > MOST_VERTICES)
@@ -242,6 +256,9 @@ static uint32_t refused(void)
         c.starts.pline1_overlapping > c.starts.pline2_overlapping ||
         c.starts.pline2_overlapping > c.slices)
         return 8;
+    for (size_t i = 0; i < c.slices; i++)
+        if (c.slice_edition[i] != c.edition[c.slice_at[4 * i] - 1])
+            return 14;
     if (c.room_len < 3 * vertices_needed() || c.ends_len < c.slices || c.chain_len < c.slices ||
         c.chain_ends_len < c.slices || c.chain_how_len < c.slices)
         return 9;
@@ -481,6 +498,7 @@ static void show(const call *call)
     printf("     selector %u tolerances %.17g %.17g starts %zu %zu %zu slices %zu\n", call->selector,
            call->tolerance.x, call->tolerance.y, call->starts.pline2, call->starts.pline1_overlapping,
            call->starts.pline2_overlapping, call->slices);
+    printf("     editions %u %u\n", call->edition[0], call->edition[1]);
     for (int o = 0; o < 2; o++)
         for (size_t v = 0; v < call->vc[o] && v < 8; v++)
             printf("     outline %d: %.17g %.17g %.17g\n", o + 1, call->outline[o][3 * v],
@@ -488,9 +506,10 @@ static void show(const call *call)
     for (size_t i = 0; i < call->slices && i < 16; i++) {
         const size_t *at = call->slice_at + 4 * i;
         const double *s = call->slice + 6 * i;
-        printf("     slice %zu: source %zu inverted %zu start %zu offset %zu: "
+        printf("     slice %zu: source %zu inverted %zu start %zu offset %zu edition %u: "
                "%.17g %.17g %.17g, %.17g, %.17g %.17g\n",
-               i, at[0], at[1], at[2], at[3], s[0], s[1], s[2], s[3], s[4], s[5]);
+               i, at[0], at[1], at[2], at[3], call->slice_edition[i], s[0], s[1], s[2], s[3], s[4],
+               s[5]);
     }
 }
 
@@ -874,11 +893,13 @@ enum {
     F_START,
     F_OFFSET,
     F_STARTS,
+    F_EDITION,
     F_ROOM,
     F_ENDS,
     F_CHAIN,
     F_CHAIN_ENDS,
-    F_CHAIN_HOW
+    F_CHAIN_HOW,
+    F_EDITION_LEN
 };
 
 static const fault FAULTS[] = {
@@ -943,6 +964,11 @@ static const fault FAULTS[] = {
     {8, F_STARTS, "pline2_overlapping above the slices"},
     {8, F_STARTS, "pline2 SIZE_MAX"},
     {8, F_STARTS, "all SIZE_MAX"},
+    {14, F_EDITION, "the first slice of the edition after"},
+    {14, F_EDITION, "the last slice of the edition before"},
+    {14, F_EDITION, "the editions of the outlines exchanged"},
+    {14, F_EDITION, "outline 1 of another edition"},
+    {14, F_EDITION, "outline 2 of another edition"},
     {9, F_ROOM, "room one short"},
     {9, F_ROOM, "no room"},
     {9, F_ENDS, "ends one short"},
@@ -950,6 +976,9 @@ static const fault FAULTS[] = {
     {9, F_CHAIN_ENDS, "chain_ends one short"},
     {9, F_CHAIN_HOW, "chain_how one short"},
     {9, F_CHAIN_HOW, "no chain_how"},
+    {1, F_EDITION_LEN, "slice_edition one long"},
+    {1, F_EDITION_LEN, "slice_edition one short"},
+    {1, F_EDITION_LEN, "no slice_edition"},
 };
 enum { FAULT_COUNT = sizeof FAULTS / sizeof *FAULTS };
 
@@ -968,9 +997,10 @@ static void spoil(int f)
     case 8: c.slices++; break;
     case 9: c.slices--; break;
     case 10: c.slices = SIZE_MAX; break;
-    case 11: c.slices = HALF, c.slice_at_len = c.slice_len = 0; break;
+    case 11: c.slices = HALF, c.slice_at_len = c.slice_len = c.slice_edition_len = 0; break;
     case 12:
         c.slices = MOST_SLICES + 1, c.slice_at_len = 4 * c.slices, c.slice_len = 6 * c.slices;
+        c.slice_edition_len = c.slices;
         break;
     case 13: c.vc[0] = (size_t)4 * 0xaaaaaaaaaaaaaaab, c.outline_len[0] = 4; break;
     case 14: c.vc[1] = SIZE_MAX; break;
@@ -1020,16 +1050,27 @@ static void spoil(int f)
     case 58: c.starts.pline2_overlapping = 3; break;
     case 59: c.starts.pline2 = SIZE_MAX; break;
     case 60: classes(SIZE_MAX, SIZE_MAX, SIZE_MAX); break;
-    case 61: c.room_len--; break;
-    case 62: c.room_len = 0; break;
-    case 63: c.ends_len--; break;
-    case 64: c.chain_len--; break;
-    case 65: c.chain_ends_len--; break;
-    case 66: c.chain_how_len--; break;
-    case 67: c.chain_how_len = 0; break;
+    case 61: c.slice_edition[0]++; break;
+    case 62: c.slice_edition[1]--; break;
+    case 63: c.edition[0] = UINT32_MAX, c.edition[1] = 0; break;
+    case 64: c.edition[0] = 0x80000000; break;
+    case 65: c.edition[1] = UINT32_MAX - 1; break;
+    case 66: c.room_len--; break;
+    case 67: c.room_len = 0; break;
+    case 68: c.ends_len--; break;
+    case 69: c.chain_len--; break;
+    case 70: c.chain_ends_len--; break;
+    case 71: c.chain_how_len--; break;
+    case 72: c.chain_how_len = 0; break;
+    case 73: c.slice_edition_len++; break;
+    case 74: c.slice_edition_len--; break;
+    case 75: c.slice_edition_len = 0; break;
     default: abort();
     }
 }
+
+/* Where a number stands among the refusals: 14 comes after 8 and before 9, the others in their order. */
+static unsigned rank(uint32_t number) { return number == 14 ? 17 : 2 * number; }
 
 static void refusals(void)
 {
@@ -1042,23 +1083,24 @@ static void refusals(void)
     }
     for (int f = 0; f < FAULT_COUNT; f++)
         for (int g = f + 1; g < FAULT_COUNT; g++) {
-            uint32_t lowest = FAULTS[f].number; /* they stand in ascending order */
+            uint32_t first = FAULTS[f].number;
             if (FAULTS[f].group == FAULTS[g].group ||
                 ((g == 11 || g == 12) && f >= 4 && f <= 7)) /* both set the same lengths */
                 continue;
             union_of_squares();
             spoil(g);
             spoil(f);
-            if (FAULTS[g].number < lowest)
-                lowest = FAULTS[g].number;
+            if (rank(FAULTS[g].number) < rank(first))
+                first = FAULTS[g].number;
             pairs++;
-            if (refused() != lowest || !stitched() || got.refusal != lowest) {
+            if (refused() != first || !stitched() || got.refusal != first) {
                 if (bad++ == 0)
                     printf("     %s, and %s: %u, not %u\n", FAULTS[f].name, FAULTS[g].name,
-                           got.refusal, lowest);
+                           got.refusal, first);
             }
         }
-    check(bad == 0, "stitch: the lowest of two refusals: %u pairs, %u differ", pairs, bad);
+    check(bad == 0, "stitch: the first of two refusals, 14 after 8 and before 9: %u pairs, %u differ",
+          pairs, bad);
 
     /* Just within. */
     union_of_squares();
@@ -1100,6 +1142,59 @@ static void refusals(void)
     check(stitched() && got.refusal == 7, "stitch: an offset is looked at on its own outline");
 }
 
+/* ---- Editions ---- */
+
+/* Editions that match, whatever they are, change nothing; one that differs is 14. */
+static void editions(void)
+{
+    static double loop[3 * 9];
+    unsigned cases = 0, wrong = 0;
+    for (int i = 0; i < EDITION_COUNT; i++)
+        for (int j = 0; j < EDITION_COUNT; j++) {
+            union_of_squares();
+            c.edition[0] = c.slice_edition[0] = EDITIONS[i];
+            c.edition[1] = c.slice_edition[1] = EDITIONS[j];
+            measure(4);
+            wrong += !stitched() || got.refusal != 0;
+            if (i + j == 0)
+                memcpy(loop, left_numbers(VERTEX_ROOM, c.room_len), sizeof loop);
+            wrong += memcmp(loop, left_numbers(VERTEX_ROOM, c.room_len), sizeof loop) != 0;
+            for (int k = 0; k < EDITION_COUNT; k++) {
+                c.slice_edition[0] = EDITIONS[k], c.slice_edition[1] = EDITIONS[j];
+                wrong += !stitched() || got.refusal != (k == i ? 0 : 14);
+                c.slice_edition[0] = EDITIONS[i], c.slice_edition[1] = EDITIONS[k];
+                wrong += !stitched() || got.refusal != (k == j ? 0 : 14);
+                cases += 2;
+            }
+        }
+    check(wrong == 0,
+          "editions: 0, 1, 2^31, 2^32 - 2 and 2^32 - 1 of each outline and each slice: the same loop "
+          "where they match, else 14 and nothing written: %u cases, %u wrong",
+          cases, wrong);
+    begin(A, 4, B, 4, 0, T);
+    classes(0, 0, 0);
+    measure(0);
+    c.edition[0] = 7;
+    check(stitched() && got.refusal == 0, "editions: no slices: any editions are accepted");
+    begin(A, 4, B, 4, 0, T);
+    add(2, 0, 0, 3, 2, 2, 0, 0, 2, 2);
+    c.edition[0] = 7;
+    classes(0, 1, 1);
+    measure(0);
+    check(stitched() && got.refusal == 0,
+          "editions: an outline that no slice is of may have any edition");
+    for (size_t at = 0; at < MOST_SLICES; at += 255) {
+        bare(0, T);
+        for (size_t i = 0; i < MOST_SLICES; i++)
+            line((double)i, 1, (double)i + 1, 1);
+        classes(MOST_SLICES, MOST_SLICES, MOST_SLICES);
+        measure(0);
+        c.slice_edition[at] ^= 1u << at % 32;
+        check(stitched() && got.refusal == 14, "editions: slice %zu of 1,792 differs in one bit: 14",
+              at);
+    }
+}
+
 /* ---- Drawn stitches ---- */
 
 static double drawn_number(double step, size_t places)
@@ -1126,6 +1221,7 @@ static void drawn_call(void)
     if (pick(2))
         c.tolerance.y = tolerances[pick(6)];
     for (int o = 0; o < 2; o++) {
+        c.edition[o] = EDITIONS[pick(EDITION_COUNT)];
         c.vc[o] = 2 + pick(4);
         for (size_t i = 0; i < 3 * c.vc[o]; i++)
             c.outline[o][i] = i % 3 == 2 ? drawn_bulge() : drawn_number(step, places);
@@ -1153,11 +1249,14 @@ static void drawn_call(void)
             }
     classes(s[0], s[1], s[2]);
     measure(pick(2) * pick(9));
+    if (pick(10) == 0 && n > 0)
+        c.slice_edition[pick(n)] = EDITIONS[pick(EDITION_COUNT)];
     if (pick(10) == 0) { /* something short, long or out of range */
         size_t *lengths[] = {&c.outline_len[0],
                              &c.outline_len[1],
                              &c.slice_at_len,
                              &c.slice_len,
+                             &c.slice_edition_len,
                              &c.room_len,
                              &c.ends_len,
                              &c.chain_len,
@@ -1167,7 +1266,7 @@ static void drawn_call(void)
                              &c.starts.pline1_overlapping,
                              &c.starts.pline2_overlapping};
         for (size_t k = 1 + pick(2); k > 0; k--) {
-            size_t *length = lengths[pick(12)];
+            size_t *length = lengths[pick(13)];
             if (pick(2) && n > 0)
                 c.slice_at[4 * pick(n) + pick(4)] = pick(8);
             else if (pick(4) == 0 && n > 0)
@@ -1184,7 +1283,7 @@ static void drawn(unsigned cases)
 {
     static call least;
     static char what[32];
-    unsigned bad = 0, other = 0, by_number[10] = {0};
+    unsigned bad = 0, other = 0, by_number[15] = {0};
     memset(met, 0, sizeof met);
     memset(chosen, 0, sizeof chosen);
     for (unsigned k = 0; k < cases; k++) {
@@ -1195,7 +1294,7 @@ static void drawn(unsigned cases)
                 snprintf(what, sizeof what, "%s", difference);
             }
         }
-        if (got.refusal <= 9)
+        if (got.refusal <= 9 || got.refusal == 14)
             by_number[got.refusal]++;
         else
             other++;
@@ -1205,9 +1304,9 @@ static void drawn(unsigned cases)
         printf("     the smallest, in %s:\n", what);
         show(&least);
     }
-    check(other == 0, "stitch: drawn: no number above 9");
-    for (int n = 1; n < 10; n++)
-        if (n != 2)
+    check(other == 0, "stitch: drawn: no number above 9 but 14");
+    for (int n = 1; n < 15; n++)
+        if (n != 2 && (n < 10 || n == 14))
             check(by_number[n] > 0, "stitch: drawn: refusal %d: %u", n, by_number[n]);
     for (int kind = 0; kind < KINDS; kind++)
         check(met[kind] > 0, "stitch: drawn: %s: %u", KIND[kind], met[kind]);
@@ -1377,11 +1476,14 @@ typedef struct prune_call {
     size_t vc[2], count[2], laps;
     size_t cand_at[2][2 * CANDIDATES];
     double cand[2][6 * CANDIDATES];
+    uint32_t cand_edition[2][CANDIDATES];
     uint8_t inside[2][CANDIDATES];
     size_t lap_at[7 * LAPS];
     double lap[6 * LAPS];
-    size_t cand_at_len[2], cand_len[2], inside_len[2], lap_at_len, lap_len;
-    size_t slice_at_len, slice_len;
+    uint32_t lap_edition[LAPS];
+    size_t cand_at_len[2], cand_len[2], cand_edition_len[2], inside_len[2];
+    size_t lap_at_len, lap_len, lap_edition_len;
+    size_t slice_at_len, slice_len, slice_edition_len;
 } prune_call;
 
 static prune_call q;
@@ -1405,6 +1507,7 @@ static void candidate(int o, size_t start, size_t offset, double x, double y, do
     q.cand_at[o][2 * i] = start;
     q.cand_at[o][2 * i + 1] = offset;
     memcpy(q.cand[o] + 6 * i, numbers, sizeof numbers);
+    q.cand_edition[o][i] = 0x10000u * (unsigned)(o + 1) + (uint32_t)i; /* each its own */
     q.inside[o][i] = inside;
 }
 
@@ -1415,12 +1518,15 @@ static void prune_measure(size_t beyond)
     for (int o = 0; o < 2; o++) {
         q.cand_at_len[o] = 2 * q.count[o];
         q.cand_len[o] = 6 * q.count[o];
+        q.cand_edition_len[o] = q.count[o];
         q.inside_len[o] = q.count[o];
     }
     q.lap_at_len = 7 * q.laps;
     q.lap_len = 6 * q.laps;
+    q.lap_edition_len = q.laps;
     q.slice_at_len = 4 * prune_need() + beyond;
     q.slice_len = 6 * prune_need() + beyond;
+    q.slice_edition_len = prune_need() + beyond;
 }
 
 /* The reference: "Pruning". */
@@ -1429,11 +1535,11 @@ static uint32_t prune_refused(void)
 {
     for (int o = 0; o < 2; o++)
         if (!right_length(q.cand_at_len[o], 2, q.count[o]) ||
-            !right_length(q.cand_len[o], 6, q.count[o]) || q.inside_len[o] != q.count[o] ||
-            q.count[o] > MOST_CANDIDATES)
+            !right_length(q.cand_len[o], 6, q.count[o]) || q.cand_edition_len[o] != q.count[o] ||
+            q.inside_len[o] != q.count[o] || q.count[o] > MOST_CANDIDATES)
             return 1;
     if (!right_length(q.lap_at_len, 7, q.laps) || !right_length(q.lap_len, 6, q.laps) ||
-        q.laps > MOST_LAPS)
+        q.lap_edition_len != q.laps || q.laps > MOST_LAPS)
         return 1;
     for (int o = 0; o < 2; o++)
         if (q.vc[o] < LEAST_VERTICES || q.vc[o] > MOST_VERTICES)
@@ -1467,19 +1573,21 @@ static uint32_t prune_refused(void)
     for (size_t j = 0; j < q.laps; j++)
         if (q.lap_at[7 * j + 6] > q.vc[1])
             return 7;
-    if (q.slice_at_len < 4 * prune_need() || q.slice_len < 6 * prune_need())
+    if (q.slice_at_len < 4 * prune_need() || q.slice_len < 6 * prune_need() ||
+        q.slice_edition_len < prune_need())
         return 9;
     return 0;
 }
 
 static void put_slice(size_t source, size_t inverted, size_t start, size_t offset,
-                      const double *numbers)
+                      const double *numbers, uint32_t edition)
 {
     put_word(NEW_SLICE_AT, source);
     put_word(NEW_SLICE_AT, inverted);
     put_word(NEW_SLICE_AT, start);
     put_word(NEW_SLICE_AT, offset);
     put(NEW_SLICE, numbers, 6);
+    put_edition(NEW_SLICE_EDITION, edition);
 }
 
 /* Of each mode: keep the inside of 1, the inside of 2, opposing wanted. */
@@ -1494,17 +1602,19 @@ static mask_prune_answer ref_prune(void)
         for (size_t i = 0; i < q.count[o]; i++)
             if (q.inside[o][i] == mode[o])
                 put_slice((size_t)o + 1, o == 0 && mode[2] != q.opposing, q.cand_at[o][2 * i],
-                          q.cand_at[o][2 * i + 1], q.cand[o] + 6 * i);
+                          q.cand_at[o][2 * i + 1], q.cand[o] + 6 * i, q.cand_edition[o][i]);
         starts[o] = want[NEW_SLICE_AT].used / 4;
     }
     for (size_t j = 0; j < q.laps; j++)
-        put_slice(2, q.lap_at[7 * j + 4], q.lap_at[7 * j + 5], q.lap_at[7 * j + 6], q.lap + 6 * j);
+        put_slice(2, q.lap_at[7 * j + 4], q.lap_at[7 * j + 5], q.lap_at[7 * j + 6], q.lap + 6 * j,
+                  q.lap_edition[j]);
     a.starts = (mask_starts){starts[0], starts[1], want[NEW_SLICE_AT].used / 4};
     for (size_t j = 0; j < q.laps; j++)
-        put_slice(2, 0, q.lap_at[7 * j + 5], q.lap_at[7 * j + 6], q.lap + 6 * j);
+        put_slice(2, 0, q.lap_at[7 * j + 5], q.lap_at[7 * j + 6], q.lap + 6 * j, q.lap_edition[j]);
     a.slices = want[NEW_SLICE_AT].used / 4;
     fill(NEW_SLICE_AT, 4 * prune_need());
     fill(NEW_SLICE, 6 * prune_need());
+    fill_editions(NEW_SLICE_EDITION, prune_need());
     return a;
 }
 
@@ -1513,35 +1623,54 @@ static int prune_same(void)
     mask_prune_answer a = {prune_refused(), 0, {0, 0, 0}};
     expect(NEW_SLICE_AT, q.slice_at_len);
     expect(NEW_SLICE, q.slice_len);
+    expect_editions(NEW_SLICE_EDITION, q.slice_edition_len);
     if (a.refusal == 0)
         a = ref_prune();
     pruned = mask_prune(
         q.mode, q.opposing, q.vc[0], q.vc[1], lend(CAND_AT1, q.cand_at[0], q.cand_at_len[0]),
         q.cand_at_len[0], lend(CAND1, q.cand[0], q.cand_len[0]), q.cand_len[0],
-        lend_bytes(INSIDE1, q.inside[0], q.inside_len[0]), q.inside_len[0], q.count[0],
-        lend(CAND_AT2, q.cand_at[1], q.cand_at_len[1]), q.cand_at_len[1],
+        lend_editions(CAND_EDITION1, q.cand_edition[0], q.cand_edition_len[0]),
+        q.cand_edition_len[0], lend_bytes(INSIDE1, q.inside[0], q.inside_len[0]), q.inside_len[0],
+        q.count[0], lend(CAND_AT2, q.cand_at[1], q.cand_at_len[1]), q.cand_at_len[1],
         lend(CAND2, q.cand[1], q.cand_len[1]), q.cand_len[1],
-        lend_bytes(INSIDE2, q.inside[1], q.inside_len[1]), q.inside_len[1], q.count[1],
-        lend(LAP_AT, q.lap_at, q.lap_at_len), q.lap_at_len, lend(LAP, q.lap, q.lap_len), q.lap_len,
-        q.laps, lend_room(NEW_SLICE_AT, q.slice_at_len), q.slice_at_len,
-        lend_room(NEW_SLICE, q.slice_len), q.slice_len);
+        lend_editions(CAND_EDITION2, q.cand_edition[1], q.cand_edition_len[1]),
+        q.cand_edition_len[1], lend_bytes(INSIDE2, q.inside[1], q.inside_len[1]), q.inside_len[1],
+        q.count[1], lend(LAP_AT, q.lap_at, q.lap_at_len), q.lap_at_len,
+        lend(LAP, q.lap, q.lap_len), q.lap_len,
+        lend_editions(LAP_EDITION, q.lap_edition, q.lap_edition_len), q.lap_edition_len, q.laps,
+        lend_room(NEW_SLICE_AT, q.slice_at_len), q.slice_at_len, lend_room(NEW_SLICE, q.slice_len),
+        q.slice_len, lend_edition_room(NEW_SLICE_EDITION, q.slice_edition_len),
+        q.slice_edition_len);
     return pruned.refusal == a.refusal && pruned.slices == a.slices &&
            pruned.starts.pline2 == a.starts.pline2 &&
            pruned.starts.pline1_overlapping == a.starts.pline1_overlapping &&
            pruned.starts.pline2_overlapping == a.starts.pline2_overlapping &&
-           as_expected(NEW_SLICE_AT) && as_expected(NEW_SLICE);
+           as_expected(NEW_SLICE_AT) && as_expected(NEW_SLICE) &&
+           editions_as_expected(NEW_SLICE_EDITION);
 }
 
-/* What the last prune left is stitched: it is never refused, given room. */
+/* What the last prune left is stitched: it is never refused, given room and the outlines' editions. */
 static int stitch_pruned(uint32_t selector)
 {
     c.slices = pruned.slices;
     memcpy(c.slice_at, left(NEW_SLICE_AT, q.slice_at_len), 32 * c.slices);
     memcpy(c.slice, left(NEW_SLICE, q.slice_len), 48 * c.slices);
+    memcpy(c.slice_edition, left_editions(NEW_SLICE_EDITION, q.slice_edition_len), 4 * c.slices);
     c.starts = pruned.starts;
     c.selector = selector;
     measure(0);
     return stitched() && got.refusal == 0;
+}
+
+/* All candidates of an outline are of one edition, and the overlaps of outline 2's. */
+static void prune_editions(uint32_t edition1, uint32_t edition2)
+{
+    c.edition[0] = edition1, c.edition[1] = edition2;
+    for (int o = 0; o < 2; o++)
+        for (size_t i = 0; i < q.count[o]; i++)
+            q.cand_edition[o][i] = c.edition[o];
+    for (size_t j = 0; j < q.laps; j++)
+        q.lap_edition[j] = edition2;
 }
 
 /* The squares of the sheet: T1 and T2 are the candidates. */
@@ -1563,6 +1692,7 @@ static void prune_with_lap(void)
     prune_squares(2, 1);
     memcpy(q.lap_at, at, sizeof at);
     memcpy(q.lap, numbers, sizeof numbers);
+    q.lap_edition[0] = UINT32_MAX;
     q.laps = 1;
     prune_measure(0);
 }
@@ -1632,6 +1762,12 @@ static const fault PRUNE_FAULTS[] = {
     {9, P_ROOM, "slice_at one short"},
     {9, P_ROOM, "slice one short"},
     {9, P_ROOM, "no room"},
+    {9, P_ROOM, "slice_edition one short"},
+    {9, P_ROOM, "no slice_edition"},
+    {1, P_LENGTHS, "cand_edition1 one long"},
+    {1, P_LENGTHS, "cand_edition2 one short"},
+    {1, P_LENGTHS, "lap_edition one long"},
+    {1, P_LENGTHS, "no lap_edition"},
 };
 enum { PRUNE_FAULT_COUNT = sizeof PRUNE_FAULTS / sizeof *PRUNE_FAULTS };
 
@@ -1640,6 +1776,7 @@ static void prune_count(int o, size_t count)
     q.count[o] = count;
     q.cand_at_len[o] = 2 * count;
     q.cand_len[o] = 6 * count;
+    q.cand_edition_len[o] = count;
     q.inside_len[o] = count;
 }
 
@@ -1648,12 +1785,18 @@ static void prune_spoil(int f)
     switch (f) {
     case 0: q.count[0]++; break;
     case 1: q.count[0] = SIZE_MAX; break;
-    case 2: q.count[0] = HALF, q.cand_at_len[0] = q.cand_len[0] = q.inside_len[0] = 0; break;
+    case 2:
+        prune_count(0, 0);
+        q.count[0] = HALF;
+        break;
     case 3: prune_count(0, MOST_CANDIDATES + 1); break;
     case 4: q.count[1]--; break;
     case 5: prune_count(1, MOST_CANDIDATES + 1); break;
     case 6: q.laps++; break;
-    case 7: q.laps = MOST_LAPS + 1, q.lap_at_len = 7 * q.laps, q.lap_len = 6 * q.laps; break;
+    case 7:
+        q.laps = MOST_LAPS + 1, q.lap_at_len = 7 * q.laps, q.lap_len = 6 * q.laps;
+        q.lap_edition_len = q.laps;
+        break;
     case 8: q.laps = SIZE_MAX; break;
     case 9: q.cand_at_len[0]++; break;
     case 10: q.cand_len[0]++; break;
@@ -1693,6 +1836,12 @@ static void prune_spoil(int f)
     case 44: q.slice_at_len--; break;
     case 45: q.slice_len--; break;
     case 46: q.slice_at_len = q.slice_len = 0; break;
+    case 47: q.slice_edition_len--; break;
+    case 48: q.slice_edition_len = 0; break;
+    case 49: q.cand_edition_len[0]++; break;
+    case 50: q.cand_edition_len[1]--; break;
+    case 51: q.lap_edition_len++; break;
+    case 52: q.lap_edition_len = 0; break;
     default: abort();
     }
 }
@@ -1709,7 +1858,9 @@ static void prune_refusals(void)
     }
     for (int f = 0; f < PRUNE_FAULT_COUNT; f++)
         for (int g = f + 1; g < PRUNE_FAULT_COUNT; g++) {
-            uint32_t lowest = PRUNE_FAULTS[f].number; /* they stand in ascending order */
+            uint32_t lowest = PRUNE_FAULTS[f].number;
+            if (PRUNE_FAULTS[g].number < lowest)
+                lowest = PRUNE_FAULTS[g].number;
             if (PRUNE_FAULTS[f].group == PRUNE_FAULTS[g].group)
                 continue;
             prune_with_lap();
@@ -1743,6 +1894,14 @@ static void prune_drawn(unsigned cases)
             for (size_t i = 0; i < 6 * q.count[o]; i++)
                 q.cand[o][i] = pick(3) ? drawn_number(0.5, 4) : drawn_bulge();
         }
+        prune_editions(EDITIONS[pick(EDITION_COUNT)], (uint32_t)draw64());
+        if (k % 4 == 0) { /* any editions are copied; they are not stitched */
+            for (int o = 0; o < 2; o++)
+                for (size_t i = 0; i < q.count[o]; i++)
+                    q.cand_edition[o][i] = (uint32_t)draw64();
+            for (size_t j = 0; j < q.laps; j++)
+                q.lap_edition[j] = (uint32_t)draw64();
+        }
         for (size_t j = 0; j < q.laps; j++) {
             for (int i = 0; i < 7; i++)
                 q.lap_at[7 * j + i] = i == 4   ? pick(2)
@@ -1753,10 +1912,11 @@ static void prune_drawn(unsigned cases)
         }
         prune_measure(pick(2) * pick(9));
         if (pick(12) == 0) {
-            size_t *lengths[] = {&q.cand_at_len[0], &q.cand_len[1], &q.inside_len[0],
-                                 &q.inside_len[1],  &q.lap_at_len,  &q.lap_len,
-                                 &q.slice_at_len,   &q.slice_len};
-            size_t *length = lengths[pick(8)];
+            size_t *lengths[] = {&q.cand_at_len[0],  &q.cand_len[1],         &q.inside_len[0],
+                                 &q.inside_len[1],   &q.lap_at_len,          &q.lap_len,
+                                 &q.slice_at_len,    &q.slice_len,           &q.slice_edition_len,
+                                 &q.lap_edition_len, &q.cand_edition_len[0], &q.cand_edition_len[1]};
+            size_t *length = lengths[pick(12)];
             if (pick(2))
                 *length = *length == 0 ? 1 : *length - 1;
             else if (q.count[0] != 0 && pick(2))
@@ -1774,7 +1934,7 @@ static void prune_drawn(unsigned cases)
                     c.outline[o][i] = i % 3 == 2 ? drawn_bulge() : drawn_number(0.5, 4);
             }
             c.tolerance = both(k % 2 ? T : 0.5);
-            if (pruned.slices <= prune_need()) {
+            if (pruned.slices <= prune_need() && k % 4 != 0) {
                 stitches++;
                 bad += !stitch_pruned(q.mode > 1);
             }
@@ -1799,7 +1959,8 @@ static void prune(void)
                   "prune: the two squares, mode %u, opposing %u: starts 1, 2, 2", mode, opposing);
             if (opposing == 0) {
                 begin(A, 4, B, 4, 0, T);
-                check(stitch_pruned(mode > 1) && got.loops == 1 &&
+                prune_editions(0, UINT32_MAX);
+                check(prune_same() && stitch_pruned(mode > 1) && got.loops == 1 &&
                           left(ENDS, c.ends_len)[0] == corners[mode],
                       "prune: the two squares, mode %u: one loop of %zu when stitched", mode,
                       corners[mode]);
@@ -1832,6 +1993,8 @@ static void prune(void)
             q.lap_at[i] = i % 7 == 6 ? 2 : i % 2;
         for (size_t i = 0; i < 6 * MOST_LAPS; i++)
             q.lap[i] = (double)i;
+        for (size_t j = 0; j < MOST_LAPS; j++)
+            q.lap_edition[j] = UINT32_MAX - (uint32_t)j;
         prune_measure(0);
         check(prune_same() && pruned.refusal == 0 &&
                   pruned.slices == (all ? MOST_SLICES : 2 * MOST_LAPS),
@@ -1854,6 +2017,7 @@ int main(void)
     whole_outlines();
     most();
     refusals();
+    editions();
     drawn(30000);
     area();
     prune();

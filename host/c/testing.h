@@ -29,7 +29,8 @@
     _Static_assert(offsetof(type, field) == (place), #type "." #field " stands elsewhere")
 #define SIZE(type, size) _Static_assert(sizeof(type) == (size), #type " has another size")
 
-/* Every list written has elements of 8 bytes. They are compared as words of 64 bits. */
+/* Every list written has elements of 8 bytes, but for editions. They are compared as words of 64 bits.
+ */
 SIZE(size_t, 8);
 SIZE(double, 8);
 
@@ -114,7 +115,7 @@ static inline axes spoiled(axes t, int which, double value)
 /* ---- Memory lent ---- */
 
 enum {
-    MOST_LISTS = 32,
+    MOST_LISTS = 48,
     BEFORE = 8, /* guard values before a list */
     BEYOND = 64 /* at most so many elements beyond the need */
 };
@@ -285,6 +286,63 @@ static inline int as_expected(int list)
 {
     const uint64_t *words = (const uint64_t *)lent[list].end - want[list].len - BEFORE;
     return memcmp(words, want[list].words, 8 * (BEFORE + want[list].len)) == 0;
+}
+
+/* ---- Lists of editions: elements of 4 bytes, lent, written and compared in the same way ---- */
+
+enum { EDITION_COUNT = 5 };
+static const uint32_t EDITIONS[EDITION_COUNT] = {0, 1, 0x80000000, UINT32_MAX - 1, UINT32_MAX};
+
+static inline const uint32_t *lend_editions(int list, const uint32_t *from, size_t len)
+{
+    return lend_bytes(list, from, 4 * len);
+}
+
+static inline uint32_t guard_edition(size_t i)
+{
+    return (uint32_t)(guard_word(i) ^ guard_word(i) >> 32);
+}
+
+static inline void guard_editions(uint32_t *editions, size_t len)
+{
+    for (size_t i = 0; i < BEFORE + len; i++)
+        editions[i] = guard_edition(i);
+}
+
+static inline uint32_t *lend_edition_room(int list, size_t len)
+{
+    uint32_t *editions = (uint32_t *)lent[list].end - len;
+    guard_editions(editions - BEFORE, len);
+    return len == 0 ? NULL : editions;
+}
+
+static inline const uint32_t *left_editions(int list, size_t len)
+{
+    return (const uint32_t *)lent[list].end - len;
+}
+
+static inline void expect_editions(int list, size_t len)
+{
+    guard_editions((uint32_t *)want[list].words, len);
+    want[list].len = len;
+    want[list].used = 0;
+}
+
+static inline void put_edition(int list, uint32_t edition)
+{
+    ((uint32_t *)want[list].words)[BEFORE + want[list].used++] = edition;
+}
+
+static inline void fill_editions(int list, size_t need)
+{
+    while (want[list].used < need)
+        put_edition(list, 0);
+}
+
+static inline int editions_as_expected(int list)
+{
+    const uint32_t *editions = left_editions(list, want[list].len) - BEFORE;
+    return memcmp(editions, want[list].words, 4 * (BEFORE + want[list].len)) == 0;
 }
 
 /* ---- Drawn numbers ---- */

@@ -16,10 +16,12 @@ pub enum Entry {
     Stitch,
     AreaPass,
     ViewVertices,
+    Reopen,
+    Unmoved,
 }
 
 /// How many entries there are.
-pub const COUNT: usize = 11;
+pub const COUNT: usize = 13;
 /// How many of them a record holds: the first ones.
 pub const RECORDED: usize = 10;
 
@@ -35,6 +37,8 @@ pub const ENTRIES: [Entry; COUNT] = [
     Entry::Stitch,
     Entry::AreaPass,
     Entry::ViewVertices,
+    Entry::Reopen,
+    Entry::Unmoved,
 ];
 
 /// What a parameter's words are.
@@ -46,9 +50,18 @@ pub enum Kind {
     Numbers,
     Counts,
     Bytes,
+    /// 32 bits, any of them.
+    Edition,
+    Editions,
 }
 
-use Kind::{Bytes, Code, Count, Counts, Number, Numbers};
+use Kind::{Bytes, Code, Count, Counts, Edition, Editions, Number, Numbers};
+
+impl Kind {
+    pub fn is_edition(self) -> bool {
+        matches!(self, Edition | Editions)
+    }
+}
 
 type Shape = &'static [(&'static str, Kind)];
 
@@ -117,9 +130,11 @@ const CREATE_ON_SINGLE_SEGMENT: Shape = &[
 
 const FROM_ENTIRE_PLINE: Shape = &[("outline", Numbers), ("vc", Count), ("closed", Code)];
 
+/// Reopening takes the same.
 const VALIDATE_FOR_SOURCE: Shape = &[
     ("outline", Numbers),
     ("vc", Count),
+    ("edition", Edition),
     ("view.start_index", Count),
     ("view.end_index_offset", Count),
     ("view.updated_start.x", Number),
@@ -129,8 +144,25 @@ const VALIDATE_FOR_SOURCE: Shape = &[
     ("view.end_point.x", Number),
     ("view.end_point.y", Number),
     ("view.inverted_direction", Code),
+    ("view_edition", Edition),
     ("start_on_segment", Code),
     ("end_on_segment", Code),
+];
+
+const UNMOVED: Shape = &[
+    ("outline1", Numbers),
+    ("vc1", Count),
+    ("outline2", Numbers),
+    ("vc2", Count),
+    ("view.start_index", Count),
+    ("view.end_index_offset", Count),
+    ("view.updated_start.x", Number),
+    ("view.updated_start.y", Number),
+    ("view.updated_start.bulge", Number),
+    ("view.updated_end_bulge", Number),
+    ("view.end_point.x", Number),
+    ("view.end_point.y", Number),
+    ("view.inverted_direction", Code),
 ];
 
 const CUT_ORDER: Shape = &[
@@ -150,6 +182,7 @@ const CUT_ORDER: Shape = &[
 const CANDIDATES: Shape = &[
     ("outline", Numbers),
     ("vc", Count),
+    ("edition", Edition),
     ("source", Code),
     ("hit_at", Counts),
     ("hit", Numbers),
@@ -169,24 +202,30 @@ const PRUNE: Shape = &[
     ("vc2", Count),
     ("cand_at1", Counts),
     ("cand1", Numbers),
+    ("cand_edition1", Editions),
     ("inside1", Bytes),
     ("count1", Count),
     ("cand_at2", Counts),
     ("cand2", Numbers),
+    ("cand_edition2", Editions),
     ("inside2", Bytes),
     ("count2", Count),
     ("lap_at", Counts),
     ("lap", Numbers),
+    ("lap_edition", Editions),
     ("laps", Count),
 ];
 
 const STITCH: Shape = &[
     ("outline1", Numbers),
     ("vc1", Count),
+    ("edition1", Edition),
     ("outline2", Numbers),
     ("vc2", Count),
+    ("edition2", Edition),
     ("slice_at", Counts),
     ("slice", Numbers),
+    ("slice_edition", Editions),
     ("slices", Count),
     ("pline2", Count),
     ("pline1_overlapping", Count),
@@ -200,8 +239,17 @@ const AREA_PASS: Shape = &[("areas", Numbers), ("loops", Count), ("limit", Numbe
 
 const VERTICES_ROOM: Shape = &[("vertices", Numbers)];
 const CUT_ROOM: Shape = &[("cut_at", Counts), ("cut", Numbers)];
-const CANDIDATE_ROOM: Shape = &[("cand_at", Counts), ("cand", Numbers), ("probe", Numbers)];
-const SLICE_ROOM: Shape = &[("slice_at", Counts), ("slice", Numbers)];
+const CANDIDATE_ROOM: Shape = &[
+    ("cand_at", Counts),
+    ("cand", Numbers),
+    ("probe", Numbers),
+    ("cand_edition", Editions),
+];
+const SLICE_ROOM: Shape = &[
+    ("slice_at", Counts),
+    ("slice", Numbers),
+    ("slice_edition", Editions),
+];
 const STITCH_ROOM: Shape = &[
     ("room", Numbers),
     ("ends", Counts),
@@ -231,8 +279,17 @@ impl From<f64> for Axes {
 impl Entry {
     /// Where the tolerance of x stands; that of y is the next parameter.
     pub fn tolerance_at(self) -> Option<usize> {
-        let mut names = self.shape().iter();
-        names.position(|(name, _)| *name == "tolerance_x")
+        self.find("tolerance_x")
+    }
+
+    fn find(self, name: &str) -> Option<usize> {
+        self.shape().iter().position(|(known, _)| *known == name)
+    }
+
+    /// Where the parameter of this name stands.
+    pub fn at(self, name: &str) -> usize {
+        self.find(name)
+            .unwrap_or_else(|| panic!("{} has no {name}", self.name()))
     }
 
     pub fn number(self) -> usize {
@@ -252,6 +309,8 @@ impl Entry {
             Entry::Stitch => "mask_stitch",
             Entry::AreaPass => "mask_area_pass",
             Entry::ViewVertices => "mask_view_vertices",
+            Entry::Reopen => "mask_reopen",
+            Entry::Unmoved => "mask_unmoved",
         }
     }
 
@@ -262,13 +321,14 @@ impl Entry {
             Entry::Create => CREATE,
             Entry::CreateOnSingleSegment => CREATE_ON_SINGLE_SEGMENT,
             Entry::FromEntirePline => FROM_ENTIRE_PLINE,
-            Entry::ValidateForSource => VALIDATE_FOR_SOURCE,
+            Entry::ValidateForSource | Entry::Reopen => VALIDATE_FOR_SOURCE,
             Entry::CutOrder => CUT_ORDER,
             Entry::Candidates => CANDIDATES,
             Entry::Prune => PRUNE,
             Entry::Stitch => STITCH,
             Entry::AreaPass => AREA_PASS,
             Entry::ViewVertices => VIEW_VERTICES,
+            Entry::Unmoved => UNMOVED,
         }
     }
 
@@ -285,14 +345,14 @@ impl Entry {
         }
     }
 
-    /// The refusal numbers that the entry can give.
+    /// The refusal numbers that the entry can give, without 14, which no record holds.
     pub fn refusals(self) -> &'static [usize] {
         match self {
-            Entry::ViewVertex => &[1, 2, 3, 5, 6, 7],
+            Entry::ViewVertex | Entry::Unmoved => &[1, 2, 3, 5, 6, 7],
             Entry::Create => &[1, 2, 4, 5, 6, 7],
             Entry::CreateOnSingleSegment => &[1, 2, 4, 5, 6],
             Entry::FromEntirePline => &[1, 2, 3, 5],
-            Entry::ValidateForSource => &[1, 2, 3, 5, 6],
+            Entry::ValidateForSource | Entry::Reopen => &[1, 2, 3, 5, 6],
             Entry::CutOrder | Entry::Candidates => &[1, 2, 3, 4, 5, 6, 7, 9],
             Entry::Prune => &[1, 2, 3, 5, 6, 7, 9],
             Entry::Stitch => &[1, 2, 3, 4, 5, 6, 7, 8, 9],
@@ -307,6 +367,8 @@ impl Entry {
             Entry::ViewVertex | Entry::Prune => 5,
             Entry::Create | Entry::CreateOnSingleSegment | Entry::FromEntirePline => 11,
             Entry::ValidateForSource => 11,
+            Entry::Reopen => 12,
+            Entry::Unmoved => 3,
             Entry::Stitch => 4,
             Entry::CutOrder | Entry::Candidates | Entry::AreaPass | Entry::ViewVertices => 2,
         }
@@ -436,6 +498,10 @@ impl<'a> Reader<'a> {
     }
 
     pub fn code(&mut self) -> u32 {
+        self.word() as u32
+    }
+
+    pub fn edition(&mut self) -> u32 {
         self.word() as u32
     }
 

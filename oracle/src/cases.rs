@@ -1,6 +1,6 @@
 //! Calls put together from plain values. Lent lists get at least the need, and canaries in them.
 
-use crate::call::{Axes, Call, Entry, words_of};
+use crate::call::{Axes, Call, Entry, Outcome, words_of};
 use crate::random::Random;
 use crate::refusal::stitch_vertices;
 
@@ -11,6 +11,8 @@ pub struct Shared {
     pub hit: Vec<f64>,
     pub lap_at: Vec<usize>,
     pub lap: Vec<f64>,
+    /// Of each lap; outline 2's, mostly.
+    pub lap_edition: Vec<u64>,
 }
 
 impl Shared {
@@ -41,7 +43,38 @@ pub struct ViewCase {
 pub struct CandidateLists {
     pub at: Vec<u64>,
     pub numbers: Vec<u64>,
+    pub edition: Vec<u64>,
     pub inside: Vec<u64>,
+}
+
+/// The edition of an outline. It follows from the outline, so that nothing is drawn for it: 0, the
+/// last, or any.
+pub fn edition_of(outline: &[f64]) -> u64 {
+    let word = outline.iter().fold(outline.len() as u64, |word, number| {
+        let mixed = (word ^ number.to_bits()).wrapping_mul(0x9e37_79b9_7f4a_7c15);
+        mixed.rotate_left(29)
+    });
+    match word % 4 {
+        0 => 0,
+        1 => u64::from(u32::MAX),
+        _ => word >> 32,
+    }
+}
+
+/// The editions of slices that all are of their outline's.
+pub fn matching(outlines: [&[f64]; 2], slice_at: &[u64]) -> Vec<u64> {
+    let editions = outlines.map(edition_of);
+    let of = |at: &[u64]| editions[at[0] as usize - 1];
+    slice_at.chunks_exact(4).map(of).collect()
+}
+
+/// Room for editions. What is drawn for it is drawn apart.
+fn edition_room(rng: &Random, need: usize) -> Vec<u64> {
+    let words = rng.apart().canaries(need);
+    words
+        .iter()
+        .map(|word| word & u64::from(u32::MAX))
+        .collect()
 }
 
 fn list_of(counts: &[usize]) -> Vec<u64> {
@@ -68,13 +101,36 @@ pub fn view_vertices(rng: &mut Random, outline: &[f64], view: &ViewCase) -> Call
     with_view(call, view).lend(rng.canaries(3 * (view.offset + 2)))
 }
 
+/// The verdict on a view of the outline's edition.
 pub fn validate(outline: &[f64], view: &ViewCase, start_on: bool, end_on: bool) -> Call {
-    with_view(
-        with_outline(Call::new(Entry::ValidateForSource), outline),
+    let editions = [edition_of(outline); 2];
+    verdict(
+        Entry::ValidateForSource,
+        outline,
         view,
+        editions,
+        [start_on, end_on],
     )
-    .word(u64::from(start_on))
-    .word(u64::from(end_on))
+}
+
+/// The verdict, or reopening, with the editions of the outline and of the view.
+pub fn verdict(
+    entry: Entry,
+    outline: &[f64],
+    view: &ViewCase,
+    editions: [u64; 2],
+    on_segment: [bool; 2],
+) -> Call {
+    let call = with_outline(Call::new(entry), outline).word(editions[0]);
+    with_view(call, view)
+        .word(editions[1])
+        .word(u64::from(on_segment[0]))
+        .word(u64::from(on_segment[1]))
+}
+
+pub fn unmoved(outlines: [&[f64]; 2], view: &ViewCase) -> Call {
+    let call = with_outline(Call::new(Entry::Unmoved), outlines[0]);
+    with_view(with_outline(call, outlines[1]), view)
 }
 
 pub struct CreateCase {
@@ -149,18 +205,23 @@ pub fn candidates(
     tolerance: impl Into<Axes>,
 ) -> Call {
     let cuts = shared.cuts();
-    let call = with_outline(Call::new(Entry::Candidates), outline).word(source);
+    let call = with_outline(Call::new(Entry::Candidates), outline)
+        .word(edition_of(outline))
+        .word(source);
+    let editions = edition_room(rng, cuts);
     with_shared(call, shared)
         .list(&words_of(splits))
         .axes(tolerance.into())
         .lend(rng.canaries(2 * cuts))
         .lend(rng.canaries(6 * cuts))
         .lend(rng.canaries(6 * cuts))
+        .lend(editions)
 }
 
 fn with_candidates(call: Call, lists: &CandidateLists) -> Call {
     call.list(&lists.at)
         .list(&lists.numbers)
+        .list(&lists.edition)
         .list(&lists.inside)
         .count(lists.inside.len())
 }
@@ -181,36 +242,74 @@ pub fn prune(
         .word(u64::from(opposing))
         .count(vc[0])
         .count(vc[1]);
+    let editions = edition_room(rng, need);
     with_candidates(with_candidates(call, of1), of2)
         .list(&list_of(&shared.lap_at))
         .list(&words_of(&shared.lap))
+        .list(&shared.lap_edition)
         .count(shared.laps())
         .lend(rng.canaries(4 * need))
         .lend(rng.canaries(6 * need))
+        .lend(editions)
 }
 
+/// The slices of a stitch.
+pub struct Slices<'a> {
+    pub at: &'a [u64],
+    pub numbers: &'a [u64],
+    pub editions: &'a [u64],
+    pub starts: [u64; 3],
+}
+
+impl<'a> Slices<'a> {
+    /// Those that a prune left.
+    pub fn of(pruned: &'a Outcome) -> Slices<'a> {
+        let count = pruned.answer[1] as usize;
+        Slices {
+            at: &pruned.lent[0][..4 * count],
+            numbers: &pruned.lent[1][..6 * count],
+            editions: &pruned.lent[2][..count],
+            starts: [pruned.answer[2], pruned.answer[3], pruned.answer[4]],
+        }
+    }
+}
+
+/// A stitch of outlines of their own editions.
 pub fn stitch(
     rng: &mut Random,
     outlines: [&[f64]; 2],
-    slice_at: &[u64],
-    slice: &[u64],
-    starts: [u64; 3],
+    slices: &Slices,
     selector: u64,
     tolerance: impl Into<Axes>,
 ) -> Call {
-    let slices = slice_at.len() / 4;
-    let call = with_outline(Call::new(Entry::Stitch), outlines[0]);
+    let editions = outlines.map(edition_of);
+    stitch_of(rng, outlines, editions, slices, selector, tolerance)
+}
+
+/// The same of outlines of these editions.
+pub fn stitch_of(
+    rng: &mut Random,
+    outlines: [&[f64]; 2],
+    editions: [u64; 2],
+    slices: &Slices,
+    selector: u64,
+    tolerance: impl Into<Axes>,
+) -> Call {
+    let count = slices.editions.len();
+    let call = with_outline(Call::new(Entry::Stitch), outlines[0]).word(editions[0]);
     let call = with_outline(call, outlines[1])
-        .list(slice_at)
-        .list(slice)
-        .count(slices)
-        .word(starts[0])
-        .word(starts[1])
-        .word(starts[2])
+        .word(editions[1])
+        .list(slices.at)
+        .list(slices.numbers)
+        .list(slices.editions)
+        .count(count)
+        .word(slices.starts[0])
+        .word(slices.starts[1])
+        .word(slices.starts[2])
         .word(selector)
         .axes(tolerance.into())
-        .lend(rng.canaries(3 * stitch_vertices(slice_at) as usize));
-    (0..4).fold(call, |call, _| call.lend(rng.canaries(slices)))
+        .lend(rng.canaries(3 * stitch_vertices(slices.at) as usize));
+    (0..4).fold(call, |call, _| call.lend(rng.canaries(count)))
 }
 
 pub fn area_pass(rng: &mut Random, areas: &[f64], limit: f64) -> Call {

@@ -7,7 +7,7 @@ use crate::random::Random;
 use crate::realistic::Pair;
 use crate::stages;
 use crate::tally::Tally;
-use crate::{ours, refusal, straight, theirs};
+use crate::{late, ours, refusal, straight, theirs};
 use cavalier_contours::polyline::internal::pline_boolean::polyline_boolean;
 use cavalier_contours::polyline::{
     BooleanOp, BooleanResultPline, PlineBooleanOptions, PlineSource, PlineVertex, Polyline,
@@ -18,6 +18,7 @@ const TOLERANCE: f64 = 1.0 / 1024.0;
 /// Prints them all.
 pub fn show() {
     straight::show();
+    late::show();
     ties();
     joined_overlap(
         "a union gets a spike",
@@ -99,11 +100,11 @@ fn ties() {
     println!();
 }
 
-fn outline_of(points: &[[f64; 2]]) -> Vec<f64> {
+pub fn outline_of(points: &[[f64; 2]]) -> Vec<f64> {
     points.iter().flat_map(|p| [p[0], p[1], 0.0]).collect()
 }
 
-fn loop_text(l: &[f64]) -> String {
+pub fn loop_text(l: &[f64]) -> String {
     let corners = l.chunks_exact(3).map(|v| format!("({},{})", v[0], v[1]));
     let corners: Vec<String> = corners.collect();
     format!("{} area {}", corners.join(" "), stages::outline(l).area())
@@ -126,7 +127,7 @@ fn union_of_the_crate(a: &[f64], b: &[f64]) -> Vec<Vec<f64>> {
     all.map(numbers).collect()
 }
 
-fn verdict_text(verdict: u64) -> &'static str {
+pub fn verdict_text(verdict: u64) -> &'static str {
     match verdict {
         0 => "refused",
         1 => "1, no segments",

@@ -3,8 +3,8 @@
 //! count; many slices at one point; cuts at equal distances; splits, inside answers and areas that no
 //! geometry gives.
 
-use crate::call::{Axes, Call, ENTRIES, Entry, Outcome, RECORDED, words_of};
-use crate::cases::{self, CandidateLists, CreateCase, Shared, ViewCase};
+use crate::call::{Axes, Call, ENTRIES, Entry, Outcome, Param, RECORDED, words_of};
+use crate::cases::{self, CandidateLists, CreateCase, Shared, Slices, ViewCase};
 use crate::random::Random;
 use crate::tally::{Family, Tally};
 use crate::theirs::{self, PruneSource};
@@ -55,6 +55,8 @@ pub fn any_call(rng: &mut Random, entry: Entry) -> Call {
         Entry::Prune => prune(rng),
         Entry::AreaPass => area_pass(rng),
         Entry::ViewVertices => view_vertices(rng),
+        Entry::Reopen => reopen(rng),
+        Entry::Unmoved => unmoved(rng),
         _ => {
             let t = tolerance(rng).into();
             call_with(rng, entry, t)
@@ -273,6 +275,38 @@ fn validate(rng: &mut Random) -> Call {
     cases::validate(&outline, &view, mostly(rng), mostly(rng))
 }
 
+/// The same to be reopened, mostly with editions that differ.
+fn reopen(rng: &mut Random) -> Call {
+    let mut call = validate(rng);
+    call.entry = Entry::Reopen;
+    for name in ["edition", "view_edition"] {
+        let at = call.entry.at(name);
+        call.inputs[at] = Param::Word(any_edition(rng));
+    }
+    call
+}
+
+/// A view on an outline, and on what that was changed to: a number by one step, its sign, the order of
+/// the vertices, one more, or nothing.
+fn unmoved(rng: &mut Random) -> Call {
+    let (old, view) = outline_and_view(rng);
+    let mut new = old.clone();
+    let place = rng.below(new.len());
+    match rng.below(6) {
+        0 => new[place] = in_range(new[place].next_up()),
+        1 => new[place] = -new[place],
+        2 => new[place] = number(rng),
+        3 => new.rotate_left(3 * (place / 3)),
+        4 => drop(new.splice(place / 3 * 3..place / 3 * 3, vertex(rng))),
+        _ => {}
+    }
+    if rng.once_in(2) {
+        cases::unmoved([&old, &new], &view)
+    } else {
+        cases::unmoved([&new, &old], &view)
+    }
+}
+
 /// A point on one of few circles round a vertex: such points have equal distances.
 fn circle_point(rng: &mut Random, centre: [f64; 2]) -> [f64; 2] {
     let d = rng.pick(&[0.0, 1.0, 1.0, 2.5]);
@@ -339,6 +373,7 @@ fn shared(rng: &mut Random, outlines: [&[f64]; 2], t: Axes) -> Shared {
         shared.lap.extend([bulge(rng), bulge(rng)]);
         shared.lap.extend(point(rng, end));
     }
+    shared.lap_edition = vec![cases::edition_of(outlines[1]); laps];
     shared
 }
 
@@ -414,15 +449,28 @@ fn any_candidates(rng: &mut Random, vc: usize) -> CandidateLists {
         lists.numbers.extend(words_of(&numbers));
         lists.inside.push(rng.below(2) as u64);
     }
+    lists.edition = any_editions(rng, lists.inside.len());
     lists
+}
+
+/// Any editions, drawn apart.
+fn any_editions(rng: &Random, count: usize) -> Vec<u64> {
+    let mut rng = rng.apart();
+    (0..count).map(|_| any_edition(&mut rng)).collect()
+}
+
+fn any_edition(rng: &mut Random) -> u64 {
+    let any = rng.word() >> 32;
+    rng.pick(&[0, 1, u64::from(u32::MAX), any, any])
 }
 
 fn prune(rng: &mut Random) -> Call {
     let t = tolerance(rng).into();
     let outlines = [outline(rng, t, 2), outline(rng, t, 2)];
     let vc = outlines.each_ref().map(|o| o.len() / 3);
-    let shared = shared(rng, [&outlines[0], &outlines[1]], t);
+    let mut shared = shared(rng, [&outlines[0], &outlines[1]], t);
     let lists = vc.map(|vc| any_candidates(rng, vc));
+    shared.lap_edition = any_editions(rng, shared.laps());
     let (mode, opposing) = (rng.below(4) as u64, rng.once_in(2));
     cases::prune(rng, mode, opposing, vc, &lists[0], &lists[1], &shared)
 }
@@ -462,6 +510,7 @@ impl Prunable {
             lists.push(CandidateLists {
                 at: outcome.lent[0][..2 * count].to_vec(),
                 numbers: outcome.lent[1][..6 * count].to_vec(),
+                edition: outcome.lent[3][..count].to_vec(),
                 inside: (0..count).map(|_| rng.below(2) as u64).collect(),
             });
             slicing.push(call);
@@ -525,17 +574,10 @@ fn pair(tally: &mut Tally, rng: &mut Random) {
         tally.check("prune, led by the candidates", &call, || {
             theirs::answer(&call)
         });
-        let slices = pruned.answer[1] as usize;
         for selector in 0..2 {
-            let call = cases::stitch(
-                rng,
-                [&case.outlines[0], &case.outlines[1]],
-                &pruned.lent[0][..4 * slices],
-                &pruned.lent[1][..6 * slices],
-                [pruned.answer[2], pruned.answer[3], pruned.answer[4]],
-                selector,
-                case.tolerance,
-            );
+            let outlines = [&case.outlines[0][..], &case.outlines[1]];
+            let slices = Slices::of(&pruned);
+            let call = cases::stitch(rng, outlines, &slices, selector, case.tolerance);
             tally.compare(FAMILY, &call);
         }
     }
@@ -571,15 +613,14 @@ fn stitch(rng: &mut Random, t: Axes) -> Call {
     let mut starts: [u64; 3] = std::array::from_fn(|_| rng.from(0, slices) as u64);
     starts.sort_unstable();
     let selector = rng.below(2) as u64;
-    cases::stitch(
-        rng,
-        [&outlines[0], &outlines[1]],
-        &slice_at,
-        &slice,
+    let outlines = [&outlines[0][..], &outlines[1]];
+    let slices = Slices {
+        at: &slice_at,
+        numbers: &slice,
+        editions: &cases::matching(outlines, &slice_at),
         starts,
-        selector,
-        t,
-    )
+    };
+    cases::stitch(rng, outlines, &slices, selector, t)
 }
 
 fn area_pass(rng: &mut Random) -> Call {

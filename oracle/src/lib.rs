@@ -10,6 +10,7 @@ pub mod cases;
 pub mod damaged;
 pub mod findings;
 pub mod hostile;
+pub mod late;
 pub mod limits;
 pub mod ours;
 pub mod print;

@@ -1,7 +1,7 @@
 //! The limits: each entry with the largest counts that are accepted.
 
 use crate::call::{Call, words_of};
-use crate::cases::{self, CandidateLists, CreateCase, Shared, ViewCase};
+use crate::cases::{self, CandidateLists, CreateCase, Shared, Slices, ViewCase};
 use crate::random::Random;
 use crate::tally::{Family, Tally};
 use crate::theirs::{self, PruneSource};
@@ -102,6 +102,7 @@ fn shared(rng: &mut Random, hits: usize, laps: usize) -> Shared {
         shared.lap.extend([rng.part(), rng.part()]);
         shared.lap.extend(point(rng));
     }
+    shared.lap_edition = (0..laps as u64).collect();
     shared
 }
 
@@ -147,6 +148,7 @@ fn prunes(tally: &mut Tally, rng: &mut Random, outlines: &[Vec<f64>; 2]) {
         lists.push(CandidateLists {
             at: found.lent[0][..2 * count].to_vec(),
             numbers: found.lent[1][..6 * count].to_vec(),
+            edition: found.lent[3][..count].to_vec(),
             inside: (0..count).map(|_| rng.below(2) as u64).collect(),
         });
     }
@@ -219,9 +221,13 @@ fn stitch(
     starts.sort_unstable();
     let selector = rng.below(2) as u64;
     let outlines = [&outlines[0][..], &outlines[1][..]];
-    cases::stitch(
-        rng, outlines, &slice_at, &slice, starts, selector, TOLERANCE,
-    )
+    let slices = Slices {
+        at: &slice_at,
+        numbers: &slice,
+        editions: &cases::matching(outlines, &slice_at),
+        starts,
+    };
+    cases::stitch(rng, outlines, &slices, selector, TOLERANCE)
 }
 
 fn areas(tally: &mut Tally, rng: &mut Random) {

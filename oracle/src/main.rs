@@ -5,7 +5,7 @@ use oracle::random::Random;
 use oracle::record::Record;
 use oracle::tally::{Tally, quiet_caught_panics};
 use oracle::{
-    axes, damaged, findings, hostile, limits, ours, print, realistic, refusal, second, theirs,
+    axes, damaged, findings, hostile, late, limits, ours, print, realistic, refusal, second, theirs,
 };
 use std::process::ExitCode;
 
@@ -15,6 +15,7 @@ const USAGE: &str = "usage:
   compare --scenario NUMBER SEED    one scenario alone
   compare --axes N SEED             N calls of each entry that takes tolerances, with two that differ
   compare --judges N SEED           the same, only the judges beside each other
+  compare --late N SEED             N pairs of outlines, one of them changed after it was cut
   compare --paste 'WORDS'           one call, as a difference prints it, answered both ways
   compare --findings                the known differences, each at its smallest input";
 
@@ -25,8 +26,9 @@ fn main() -> ExitCode {
     let done = match arguments[..] {
         ["--record", file, count, seed] => record(file, count, seed),
         ["--scenario", number, seed] => one_scenario(number, seed),
-        ["--axes", count, seed] => with_axes(count, seed, axes::scenario),
-        ["--judges", count, seed] => with_axes(count, seed, axes::judges),
+        ["--axes", count, seed] => apart(count, seed, AXES, axes::scenario),
+        ["--judges", count, seed] => apart(count, seed, AXES, axes::judges),
+        ["--late", count, seed] => apart(count, seed, LATE, late::scenario),
         ["--paste", words] => paste(words),
         ["--findings"] => {
             findings::show();
@@ -52,7 +54,10 @@ fn scenario(tally: &mut Tally, seed: u64, number: u64) {
     // What no record holds is drawn apart, so that a record stays as it is.
     let mut later = rng.apart();
     match number % 10 {
-        0..=4 => realistic::scenario(tally, &mut rng),
+        0..=4 => {
+            realistic::scenario(tally, &mut rng);
+            late::scenario(tally, &mut later);
+        }
         5..=8 => {
             hostile::scenario(tally, &mut rng);
             hostile::later_scenario(tally, &mut later);
@@ -79,8 +84,16 @@ fn compare(count: &str, seed: &str) -> Option<ExitCode> {
     Some(report(&tally))
 }
 
-/// Calls with two tolerances.
-fn with_axes(count: &str, seed: &str, make: fn(&mut Tally, &mut Random)) -> Option<ExitCode> {
+const AXES: &str = "calls of each entry that takes tolerances";
+const LATE: &str = "pairs of outlines, one of them changed after it was cut";
+
+/// One family that is drawn apart.
+fn apart(
+    count: &str,
+    seed: &str,
+    what: &str,
+    make: fn(&mut Tally, &mut Random),
+) -> Option<ExitCode> {
     let count: u64 = count.parse().ok()?;
     let seed: u64 = seed.parse().ok()?;
     let mut tally = Tally::default();
@@ -88,7 +101,7 @@ fn with_axes(count: &str, seed: &str, make: fn(&mut Tally, &mut Random)) -> Opti
         tally.scenario = number;
         make(&mut tally, &mut scenario_numbers(seed, number).apart());
     }
-    println!("{count} calls of each entry that takes tolerances, seed {seed}\n");
+    println!("{count} {what}, seed {seed}\n");
     Some(report(&tally))
 }
 

@@ -7,47 +7,96 @@ use archive::*;
 const GUARD: usize = 8;
 const GUARD_WORD: u64 = 0xa5c3_96e1_5a3c_691e;
 
-/// A list between two guards, as 8-byte words or as bytes.
-struct Guarded {
-    words: Vec<u64>,
-    bytes: Vec<u8>,
+/// An element of a list: a word of the call, kept in the width that the archive takes.
+trait Element: Copy + PartialEq {
+    fn of(word: u64) -> Self;
+    fn word(self) -> u64;
+}
+
+macro_rules! elements {
+    ($($kind:ty),*) => {
+        $(
+            impl Element for $kind {
+                fn of(word: u64) -> Self {
+                    word as $kind
+                }
+
+                fn word(self) -> u64 {
+                    self.into()
+                }
+            }
+        )*
+    };
+}
+
+elements!(u64, u32, u8);
+
+/// A list between two guards.
+struct Held<T> {
+    elements: Vec<T>,
     length: usize,
-    is_bytes: bool,
+}
+
+impl<T: Element> Held<T> {
+    fn new(list: &[u64]) -> Held<T> {
+        let guard = [T::of(GUARD_WORD); GUARD];
+        let mut elements = Vec::with_capacity(list.len() + 2 * GUARD);
+        elements.extend(guard);
+        elements.extend(list.iter().map(|word| T::of(*word)));
+        elements.extend(guard);
+        Held {
+            elements,
+            length: list.len(),
+        }
+    }
+
+    fn content(&self) -> Vec<u64> {
+        let list = &self.elements[GUARD..GUARD + self.length];
+        list.iter().map(|element| element.word()).collect()
+    }
+
+    fn guards_hold(&self) -> bool {
+        let untouched = |side: &[T]| side.iter().all(|element| *element == T::of(GUARD_WORD));
+        untouched(&self.elements[..GUARD]) && untouched(&self.elements[GUARD + self.length..])
+    }
+}
+
+/// The same, of 8-byte words, of editions or of bytes.
+enum Guarded {
+    Words(Held<u64>),
+    Editions(Held<u32>),
+    Bytes(Held<u8>),
+}
+
+macro_rules! held {
+    ($guarded:expr, $held:ident => $do:expr) => {
+        match $guarded {
+            Guarded::Words($held) => $do,
+            Guarded::Editions($held) => $do,
+            Guarded::Bytes($held) => $do,
+        }
+    };
 }
 
 impl Guarded {
     fn new(list: &[u64], kind: Kind) -> Guarded {
-        let is_bytes = kind == Kind::Bytes;
-        let mut words = Vec::new();
-        let mut bytes = Vec::new();
-        if is_bytes {
-            bytes.resize(GUARD, GUARD_WORD as u8);
-            bytes.extend(list.iter().map(|w| *w as u8));
-            bytes.resize(bytes.len() + GUARD, GUARD_WORD as u8);
-        } else {
-            words.reserve_exact(list.len() + 2 * GUARD);
-            words.resize(GUARD, GUARD_WORD);
-            words.extend_from_slice(list);
-            words.resize(words.len() + GUARD, GUARD_WORD);
+        match kind {
+            Kind::Bytes => Guarded::Bytes(Held::new(list)),
+            Kind::Editions => Guarded::Editions(Held::new(list)),
+            _ => Guarded::Words(Held::new(list)),
         }
-        Guarded {
-            words,
-            bytes,
-            length: list.len(),
-            is_bytes,
-        }
+    }
+
+    fn length(&self) -> usize {
+        held!(self, held => held.length)
     }
 
     fn start<T>(&mut self) -> *mut T {
-        if self.is_bytes {
-            self.bytes[GUARD..].as_mut_ptr().cast()
-        } else {
-            self.words[GUARD..].as_mut_ptr().cast()
-        }
+        held!(self, held => held.elements[GUARD..].as_mut_ptr().cast())
     }
 
     fn start_or_null<T>(&mut self) -> *const T {
-        if self.length == 0 {
+        if self.length() == 0 {
             std::ptr::null()
         } else {
             self.start::<T>()
@@ -55,23 +104,11 @@ impl Guarded {
     }
 
     fn content(&self) -> Vec<u64> {
-        if self.is_bytes {
-            let bytes = &self.bytes[GUARD..GUARD + self.length];
-            bytes.iter().map(|b| u64::from(*b)).collect()
-        } else {
-            self.words[GUARD..GUARD + self.length].to_vec()
-        }
+        held!(self, held => held.content())
     }
 
     fn guards_hold(&self) -> bool {
-        let (first, last) = (GUARD, GUARD + self.length);
-        if self.is_bytes {
-            let untouched = |side: &[u8]| side.iter().all(|b| *b == GUARD_WORD as u8);
-            untouched(&self.bytes[..first]) && untouched(&self.bytes[last..])
-        } else {
-            let untouched = |side: &[u64]| side.iter().all(|w| *w == GUARD_WORD);
-            untouched(&self.words[..first]) && untouched(&self.words[last..])
-        }
+        held!(self, held => held.guards_hold())
     }
 }
 
@@ -120,6 +157,22 @@ fn verdict_words(a: &VerdictAnswer) -> Vec<u64> {
     words
 }
 
+/// Those of the verdict, and the edition.
+fn reopen_words(a: &ReopenAnswer) -> Vec<u64> {
+    let mut words = verdict_words(&VerdictAnswer {
+        refusal: a.refusal,
+        verdict: a.verdict,
+        offset: a.offset,
+        source_length: a.source_length,
+        point: a.point,
+        vertex: a.vertex,
+        updated_bulge: a.updated_bulge,
+        expected: a.expected,
+    });
+    words.push(u64::from(a.edition));
+    words
+}
+
 fn count_words(a: &CountAnswer) -> Vec<u64> {
     vec![u64::from(a.refusal), a.count as u64]
 }
@@ -163,14 +216,14 @@ fn enter(call: &Call, inputs: &mut [Guarded], lent: &mut [Guarded]) -> Vec<u64> 
         () => {{
             r.list();
             let held = lists.next().unwrap();
-            (held.start_or_null(), held.length)
+            (held.start_or_null(), held.length())
         }};
     }
     let mut rooms = lent.iter_mut();
     macro_rules! room {
         () => {{
             let held = rooms.next().unwrap();
-            (held.start(), held.length)
+            (held.start(), held.length())
         }};
     }
     // Each pointer and length is of a list that lives until the call is over; nothing else is lent.
@@ -230,10 +283,41 @@ fn enter(call: &Call, inputs: &mut [Guarded], lent: &mut [Guarded]) -> Vec<u64> 
                     outline,
                     length,
                     r.count(),
+                    r.edition(),
                     view(r),
+                    r.edition(),
                     r.code(),
                     r.code(),
                 ))
+            }
+            Entry::Reopen => {
+                let (outline, length) = list!();
+                reopen_words(&mask_reopen(
+                    outline,
+                    length,
+                    r.count(),
+                    r.edition(),
+                    view(r),
+                    r.edition(),
+                    r.code(),
+                    r.code(),
+                ))
+            }
+            Entry::Unmoved => {
+                let (outline1, outline1_len) = list!();
+                let vc1 = r.count();
+                let (outline2, outline2_len) = list!();
+                let vc2 = r.count();
+                let a = mask_unmoved(
+                    outline1,
+                    outline1_len,
+                    vc1,
+                    outline2,
+                    outline2_len,
+                    vc2,
+                    view(r),
+                );
+                vec![u64::from(a.refusal), u64::from(a.unmoved), a.first as u64]
             }
             Entry::CutOrder => {
                 let (outline, outline_len) = list!();
@@ -271,7 +355,7 @@ fn enter(call: &Call, inputs: &mut [Guarded], lent: &mut [Guarded]) -> Vec<u64> 
             }
             Entry::Candidates => {
                 let (outline, outline_len) = list!();
-                let (vc, source) = (r.count(), r.code());
+                let (vc, edition, source) = (r.count(), r.edition(), r.code());
                 let (hit_at, hit_at_len) = list!();
                 let (hit, hit_len) = list!();
                 let hits = r.count();
@@ -283,10 +367,12 @@ fn enter(call: &Call, inputs: &mut [Guarded], lent: &mut [Guarded]) -> Vec<u64> 
                 let (cand_at, cand_at_len) = room!();
                 let (cand, cand_len) = room!();
                 let (probe, probe_len) = room!();
+                let (cand_edition, cand_edition_len) = room!();
                 count_words(&mask_candidates(
                     outline,
                     outline_len,
                     vc,
+                    edition,
                     source,
                     hit_at,
                     hit_at_len,
@@ -308,6 +394,8 @@ fn enter(call: &Call, inputs: &mut [Guarded], lent: &mut [Guarded]) -> Vec<u64> 
                     cand_len,
                     probe,
                     probe_len,
+                    cand_edition,
+                    cand_edition_len,
                 ))
             }
             Entry::Prune => {
@@ -315,17 +403,21 @@ fn enter(call: &Call, inputs: &mut [Guarded], lent: &mut [Guarded]) -> Vec<u64> 
                 let (vc1, vc2) = (r.count(), r.count());
                 let (cand_at1, cand_at1_len) = list!();
                 let (cand1, cand1_len) = list!();
+                let (cand_edition1, cand_edition1_len) = list!();
                 let (inside1, inside1_len) = list!();
                 let count1 = r.count();
                 let (cand_at2, cand_at2_len) = list!();
                 let (cand2, cand2_len) = list!();
+                let (cand_edition2, cand_edition2_len) = list!();
                 let (inside2, inside2_len) = list!();
                 let count2 = r.count();
                 let (lap_at, lap_at_len) = list!();
                 let (lap, lap_len) = list!();
+                let (lap_edition, lap_edition_len) = list!();
                 let laps = r.count();
                 let (slice_at, slice_at_len) = room!();
                 let (slice, slice_len) = room!();
+                let (slice_edition, slice_edition_len) = room!();
                 let a = mask_prune(
                     mode,
                     opposing,
@@ -335,6 +427,8 @@ fn enter(call: &Call, inputs: &mut [Guarded], lent: &mut [Guarded]) -> Vec<u64> 
                     cand_at1_len,
                     cand1,
                     cand1_len,
+                    cand_edition1,
+                    cand_edition1_len,
                     inside1,
                     inside1_len,
                     count1,
@@ -342,6 +436,8 @@ fn enter(call: &Call, inputs: &mut [Guarded], lent: &mut [Guarded]) -> Vec<u64> 
                     cand_at2_len,
                     cand2,
                     cand2_len,
+                    cand_edition2,
+                    cand_edition2_len,
                     inside2,
                     inside2_len,
                     count2,
@@ -349,11 +445,15 @@ fn enter(call: &Call, inputs: &mut [Guarded], lent: &mut [Guarded]) -> Vec<u64> 
                     lap_at_len,
                     lap,
                     lap_len,
+                    lap_edition,
+                    lap_edition_len,
                     laps,
                     slice_at,
                     slice_at_len,
                     slice,
                     slice_len,
+                    slice_edition,
+                    slice_edition_len,
                 );
                 vec![
                     u64::from(a.refusal),
@@ -365,11 +465,12 @@ fn enter(call: &Call, inputs: &mut [Guarded], lent: &mut [Guarded]) -> Vec<u64> 
             }
             Entry::Stitch => {
                 let (outline1, outline1_len) = list!();
-                let vc1 = r.count();
+                let (vc1, edition1) = (r.count(), r.edition());
                 let (outline2, outline2_len) = list!();
-                let vc2 = r.count();
+                let (vc2, edition2) = (r.count(), r.edition());
                 let (slice_at, slice_at_len) = list!();
                 let (slice, slice_len) = list!();
+                let (slice_edition, slice_edition_len) = list!();
                 let slices = r.count();
                 let (pline2, pline1_overlapping, pline2_overlapping) =
                     (r.count(), r.count(), r.count());
@@ -383,13 +484,17 @@ fn enter(call: &Call, inputs: &mut [Guarded], lent: &mut [Guarded]) -> Vec<u64> 
                     outline1,
                     outline1_len,
                     vc1,
+                    edition1,
                     outline2,
                     outline2_len,
                     vc2,
+                    edition2,
                     slice_at,
                     slice_at_len,
                     slice,
                     slice_len,
+                    slice_edition,
+                    slice_edition_len,
                     slices,
                     pline2,
                     pline1_overlapping,

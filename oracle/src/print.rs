@@ -95,7 +95,7 @@ pub fn parse(text: &str) -> Result<Call, String> {
     for (_, kind) in entry.shape() {
         let word = next()?;
         call.inputs.push(match kind {
-            Kind::Number | Kind::Count | Kind::Code => Param::Word(word),
+            Kind::Number | Kind::Count | Kind::Code | Kind::Edition => Param::Word(word),
             _ => Param::List((0..word).map(|_| next()).collect::<Result<_, _>>()?),
         });
     }

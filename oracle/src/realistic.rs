@@ -2,7 +2,7 @@
 //! turn as a host would run them, up to the whole operation.
 
 use crate::call::{Outcome, numbers_of};
-use crate::cases::{self, CandidateLists, CreateCase, Shared, ViewCase};
+use crate::cases::{self, CandidateLists, CreateCase, Shared, Slices, ViewCase};
 use crate::random::Random;
 use crate::shapes;
 use crate::stages::{self, Info};
@@ -97,7 +97,8 @@ impl Pair {
     pub fn new(a: Vec<f64>, b: Vec<f64>, tolerance: f64) -> Pair {
         let plines = [stages::outline(&a), stages::outline(&b)];
         let info = stages::find_shared(&plines[0], &plines[1], tolerance);
-        let shared = shared_lists(&info);
+        let mut shared = shared_lists(&info);
+        shared.lap_edition = vec![cases::edition_of(&b); shared.laps()];
         Pair {
             outlines: [a, b],
             plines,
@@ -129,6 +130,18 @@ impl Pair {
             &shared.lap,
             self.info.opposing_directions(),
         );
+    }
+
+    pub fn outlines(&self) -> [&[f64]; 2] {
+        self.outlines.each_ref().map(Vec::as_slice)
+    }
+
+    /// The slices that a mode keeps: what the archive's prune left, or none where a stage is refused.
+    pub fn slices(&self, tally: &mut Tally, rng: &mut Random, mode: u64) -> Option<Outcome> {
+        let first = self.slice(tally, rng, 0)?;
+        let second = self.slice(tally, rng, 1)?;
+        let pruned = self.prune(tally, rng, mode, &first, &second);
+        (pruned.answer[0] == 0).then_some(pruned)
     }
 
     /// The archive's union, or the number with which the prune is refused.
@@ -270,10 +283,7 @@ impl Pair {
     pub fn verdict(&self, tally: &mut Tally, which: usize, view: &ViewCase) -> u64 {
         let pline = &self.plines[which];
         let n = view.numbers;
-        let vc = pline.vertex_count();
-        let start_on = on_segment(pline, view.start, Vector2::new(n[0], n[1]));
-        let end_segment = (view.start + view.offset.min(vc)) % vc;
-        let end_on = on_segment(pline, end_segment, Vector2::new(n[4], n[5]));
+        let [start_on, end_on] = on_segments(&self.outlines[which], view);
         let call = cases::validate(&self.outlines[which], view, start_on, end_on);
         let ours = tally.compare(FAMILY, &call);
         tally.check("verdict, the crate's own closest point", &call, || {
@@ -345,6 +355,7 @@ impl Pair {
         CandidateLists {
             at: found.lent[0][..2 * count].to_vec(),
             numbers: found.lent[1][..6 * count].to_vec(),
+            edition: found.lent[3][..count].to_vec(),
             inside: inside.collect(),
         }
     }
@@ -385,7 +396,7 @@ impl Pair {
             let pruned = stages::prune(pline1, pline2, &self.info, mode, self.tolerance);
             let candidates = first.lists.inside.len() + second.lists.inside.len();
             let need = candidates + 2 * self.shared.laps();
-            theirs::prune_outcome(&pruned, need, &call.lent)
+            theirs::prune_outcome(&pruned, need, &call)
         });
         pruned
     }
@@ -425,16 +436,9 @@ impl Pair {
         pruned: &Outcome,
         selector: u64,
     ) -> Option<Vec<Vec<f64>>> {
-        let slices = pruned.answer[1] as usize;
-        let call = cases::stitch(
-            rng,
-            [&self.outlines[0], &self.outlines[1]],
-            &pruned.lent[0][..4 * slices],
-            &pruned.lent[1][..6 * slices],
-            [pruned.answer[2], pruned.answer[3], pruned.answer[4]],
-            selector,
-            self.tolerance,
-        );
+        let outlines = [&self.outlines[0][..], &self.outlines[1]];
+        let slices = Slices::of(pruned);
+        let call = cases::stitch(rng, outlines, &slices, selector, self.tolerance);
         let stitched = tally.compare(FAMILY, &call);
         (stitched.answer[0] == 0).then(|| loops_of(&stitched))
     }
@@ -528,6 +532,21 @@ pub fn loops_of(stitched: &Outcome) -> Vec<Vec<f64>> {
         from = end;
     }
     loops
+}
+
+/// The crate's own answers on where a view's ends lie. A view that starts past the outline gets a no:
+/// it is refused.
+pub fn on_segments(outline: &[f64], view: &ViewCase) -> [bool; 2] {
+    let pline = stages::outline(outline);
+    let (n, vc) = (view.numbers, pline.vertex_count());
+    if view.start >= vc {
+        return [false; 2];
+    }
+    let end_segment = (view.start + view.offset.min(vc)) % vc;
+    [
+        on_segment(&pline, view.start, Vector2::new(n[0], n[1])),
+        on_segment(&pline, end_segment, Vector2::new(n[4], n[5])),
+    ]
 }
 
 /// The crate's test beyond the near vertices, with its two tolerances.

@@ -1,6 +1,6 @@
 //! Writes compared cases to a file of words. RECORD.md describes the layout.
 
-use crate::call::{Call, ENTRIES, Outcome, RECORDED};
+use crate::call::{Call, ENTRIES, Kind, Outcome, RECORDED};
 use crate::print::input_words;
 use crate::random::Random;
 use crate::tally::Family;
@@ -57,10 +57,12 @@ impl Record {
 
     pub fn offer(&mut self, family: Family, call: &Call, expected: &Outcome, origin: Origin) {
         let number = call.entry.number();
-        if number >= RECORDED || family == Family::Axes || !call.has_one_tolerance() {
+        let is_later = matches!(family, Family::Axes | Family::Late);
+        if number >= RECORDED || is_later || !call.has_one_tolerance() {
             return;
         }
-        let left = &mut self.wanted[number][family as usize][expected.answer[0] as usize];
+        let of_family = &mut self.wanted[number][family as usize];
+        let left = &mut of_family[expected.answer[0] as usize];
         if *left == 0 || !self.choice.once_in(5) {
             return;
         }
@@ -94,22 +96,36 @@ impl Record {
     }
 }
 
-/// The call with its two tolerances, which are alike, as one: so a record holds them.
-fn with_one_tolerance(call: &Call) -> Call {
-    let mut call = call.clone();
+/// The values of these parameters or lists that a record holds: it has no editions, which all match.
+fn without_editions<A: Clone>(values: &[A], shape: &[(&str, Kind)]) -> Vec<A> {
+    let values = values.iter().zip(shape);
+    let held = values.filter(|(_, (_, kind))| !kind.is_edition());
+    held.map(|(value, _)| value.clone()).collect()
+}
+
+/// The call as a record holds it: with its two tolerances, which are alike, as one, and without editions.
+fn as_recorded(call: &Call) -> Call {
+    let (shape, room) = (call.entry.shape(), call.entry.room());
+    let mut inputs = call.inputs.clone();
+    let mut shape = shape.to_vec();
     if let Some(at) = call.entry.tolerance_at() {
-        call.inputs.remove(at + 1);
+        inputs.remove(at + 1);
+        shape.remove(at + 1);
     }
-    call
+    Call {
+        entry: call.entry,
+        inputs: without_editions(&inputs, &shape),
+        lent: without_editions(&call.lent, room),
+    }
 }
 
 /// One case: entry, length of the rest, origin, inputs and lent lists at entry, the expected answer,
 /// the lent lists at exit.
 fn case_words(call: &Call, expected: &Outcome, origin: Origin) -> Vec<u64> {
     let mut rest = vec![origin as u64];
-    rest.extend(input_words(&with_one_tolerance(call)));
+    rest.extend(input_words(&as_recorded(call)));
     rest.extend(&expected.answer);
-    for content in &expected.lent {
+    for content in without_editions(&expected.lent, call.entry.room()) {
         rest.extend(content);
     }
     let mut words = vec![call.entry.number() as u64, rest.len() as u64];

@@ -1,6 +1,7 @@
 //! The refusal table of document 01, with what the requests change of it, written down a second time and without the archive: for any
-//! call, the number it must be refused with, or 0. The numbers are looked at in ascending order, and
-//! where number 1 does not apply every list has the length that its count says.
+//! call, the number it must be refused with, or 0. The numbers are looked at in ascending order, but
+//! for 14, which stands between 8 and 9; and where number 1 does not apply every list has the length
+//! that its count says.
 
 use crate::call::{Axes, Call, Entry, Reader};
 
@@ -11,15 +12,23 @@ const MOST_CANDIDATES: u64 = 768;
 const MOST_SLICES: u64 = 1792;
 const LARGEST: f64 = 1_073_741_824.0;
 
-/// Collects the numbers that apply. The lowest is the answer.
+/// Collects the numbers that apply. The first in their order is the answer.
 struct Faults {
-    lowest: u64,
+    first: u64,
+}
+
+/// Where a number stands among the others: 14 after 8 and before 9.
+fn rank(number: u64) -> u64 {
+    match number {
+        14 => 17,
+        number => 2 * number,
+    }
 }
 
 impl Faults {
     fn note(&mut self, number: u64, applies: bool) {
-        if applies && (self.lowest == 0 || number < self.lowest) {
-            self.lowest = number;
+        if applies && (self.first == 0 || rank(number) < rank(self.first)) {
+            self.first = number;
         }
     }
 
@@ -74,6 +83,10 @@ impl Faults {
         self.note(7, offset > vc);
     }
 
+    fn edition(&mut self, own: u64, outline: u64) {
+        self.note(14, own != outline);
+    }
+
     fn room(&mut self, list: &[u64], width: u64, count: u64) {
         let enough = list.len() as u128 >= u128::from(width) * u128::from(count);
         self.note(9, !enough);
@@ -82,7 +95,7 @@ impl Faults {
 
 /// The number with which the call must be refused, or 0 where it must be accepted.
 pub fn expected(call: &Call) -> u64 {
-    let faults = &mut Faults { lowest: 0 };
+    let faults = &mut Faults { first: 0 };
     let r = &mut call.read();
     match call.entry {
         Entry::ViewVertex => {
@@ -91,7 +104,14 @@ pub fn expected(call: &Call) -> u64 {
         Entry::Create => create(faults, r),
         Entry::CreateOnSingleSegment => create_on_single_segment(faults, r),
         Entry::FromEntirePline => from_entire_pline(faults, r),
-        Entry::ValidateForSource => validate_for_source(faults, r),
+        Entry::ValidateForSource => {
+            let [own, outline] = verdict(faults, r);
+            faults.edition(own, outline);
+        }
+        Entry::Reopen => {
+            verdict(faults, r);
+        }
+        Entry::Unmoved => unmoved(faults, r),
         Entry::CutOrder => cut_order(faults, r, &call.lent),
         Entry::Candidates => candidates(faults, r, &call.lent),
         Entry::Prune => prune(faults, r, &call.lent),
@@ -99,7 +119,7 @@ pub fn expected(call: &Call) -> u64 {
         Entry::AreaPass => area_pass(faults, r, &call.lent),
         Entry::ViewVertices => view_vertices(faults, r, &call.lent),
     }
-    faults.lowest
+    faults.first
 }
 
 /// A view's nine words: what every entry looks at. Its start and offset are given back.
@@ -161,15 +181,31 @@ fn from_entire_pline(faults: &mut Faults, r: &mut Reader) {
     faults.yes_or_no(r.word());
 }
 
-fn validate_for_source(faults: &mut Faults, r: &mut Reader) {
-    let (outline, vc) = (r.list(), r.word());
+/// What the verdict and reopening look at. Gives the two editions back, the view's and the outline's.
+fn verdict(faults: &mut Faults, r: &mut Reader) -> [u64; 2] {
+    let (outline, vc, edition) = (r.list(), r.word(), r.word());
     faults.length(outline, 3, vc);
     faults.note(2, vc > MOST_VERTICES);
     faults.numbers(outline);
     let (start, _) = view(faults, r);
     faults.note(6, vc >= 2 && start >= vc);
+    let own = r.word();
     faults.yes_or_no(r.word());
     faults.yes_or_no(r.word());
+    [own, edition]
+}
+
+/// The view is looked at on both outlines.
+fn unmoved(faults: &mut Faults, r: &mut Reader) {
+    let (outline1, vc1) = (r.list(), r.word());
+    let (outline2, vc2) = (r.list(), r.word());
+    faults.outline(outline1, vc1);
+    faults.outline(outline2, vc2);
+    let (start, offset) = view(faults, r);
+    for vc in [vc1, vc2] {
+        faults.index(start, vc);
+        faults.offset(offset, vc);
+    }
 }
 
 /// The lists of hits and laps, as the two entries of one outline look at them. Gives the cuts back.
@@ -212,7 +248,7 @@ fn cut_order(faults: &mut Faults, r: &mut Reader, lent: &[Vec<u64>]) {
 }
 
 fn candidates(faults: &mut Faults, r: &mut Reader, lent: &[Vec<u64>]) {
-    let (outline, vc, source) = (r.list(), r.word(), r.word());
+    let (outline, vc, _edition, source) = (r.list(), r.word(), r.word(), r.word());
     faults.outline(outline, vc);
     faults.note(3, source != 1 && source != 2);
     let cuts = shared(faults, r, vc, source);
@@ -223,13 +259,16 @@ fn candidates(faults: &mut Faults, r: &mut Reader, lent: &[Vec<u64>]) {
     faults.room(&lent[0], 2, cuts);
     faults.room(&lent[1], 6, cuts);
     faults.room(&lent[2], 6, cuts);
+    faults.room(&lent[3], 1, cuts);
 }
 
 /// The candidates of one outline, as the prune looks at them. Gives their count back.
 fn candidate_lists(faults: &mut Faults, r: &mut Reader, vc: u64) -> u64 {
-    let (cand_at, cand, inside, count) = (r.list(), r.list(), r.list(), r.word());
+    let (cand_at, cand, editions) = (r.list(), r.list(), r.list());
+    let (inside, count) = (r.list(), r.word());
     faults.length(cand_at, 2, count);
     faults.length(cand, 6, count);
+    faults.length(editions, 1, count);
     faults.length(inside, 1, count);
     faults.most(count, MOST_CANDIDATES);
     faults.numbers(cand);
@@ -251,9 +290,10 @@ fn prune(faults: &mut Faults, r: &mut Reader, lent: &[Vec<u64>]) {
     faults.vertex_count(vc2);
     let count1 = candidate_lists(faults, r, vc1);
     let count2 = candidate_lists(faults, r, vc2);
-    let (lap_at, lap, laps) = (r.list(), r.list(), r.word());
+    let (lap_at, lap, editions, laps) = (r.list(), r.list(), r.list(), r.word());
     faults.length(lap_at, 7, laps);
     faults.length(lap, 6, laps);
+    faults.length(editions, 1, laps);
     faults.most(laps, MOST_LAPS);
     faults.numbers(lap);
     for item in lap_at.chunks_exact(7) {
@@ -270,16 +310,18 @@ fn prune(faults: &mut Faults, r: &mut Reader, lent: &[Vec<u64>]) {
         .saturating_add(laps.saturating_mul(2));
     faults.room(&lent[0], 4, need);
     faults.room(&lent[1], 6, need);
+    faults.room(&lent[2], 1, need);
 }
 
 fn stitch(faults: &mut Faults, r: &mut Reader, lent: &[Vec<u64>]) {
-    let (outline1, vc1) = (r.list(), r.word());
-    let (outline2, vc2) = (r.list(), r.word());
+    let (outline1, vc1, edition1) = (r.list(), r.word(), r.word());
+    let (outline2, vc2, edition2) = (r.list(), r.word(), r.word());
     faults.outline(outline1, vc1);
     faults.outline(outline2, vc2);
-    let (slice_at, slice, slices) = (r.list(), r.list(), r.word());
+    let (slice_at, slice, editions, slices) = (r.list(), r.list(), r.list(), r.word());
     faults.length(slice_at, 4, slices);
     faults.length(slice, 6, slices);
+    faults.length(editions, 1, slices);
     faults.most(slices, MOST_SLICES);
     faults.numbers(slice);
     for item in slice_at.chunks_exact(4) {
@@ -288,6 +330,9 @@ fn stitch(faults: &mut Faults, r: &mut Reader, lent: &[Vec<u64>]) {
         let vc = if item[0] == 1 { vc1 } else { vc2 };
         faults.index(item[2], vc);
         faults.offset(item[3], vc);
+    }
+    for (item, own) in slice_at.chunks_exact(4).zip(editions) {
+        faults.edition(*own, if item[0] == 1 { edition1 } else { edition2 });
     }
     let starts = [r.word(), r.word(), r.word(), slices];
     faults.note(8, starts.windows(2).any(|pair| pair[0] > pair[1]));

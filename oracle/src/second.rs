@@ -198,6 +198,7 @@ struct Cut {
 /// An outline with its hits and laps, as the two entries over cuts take them.
 struct Crossed {
     outline: Outline,
+    edition: u64,
     source: usize,
     hit_at: Vec<usize>,
     hit: Vec<f64>,
@@ -206,9 +207,11 @@ struct Crossed {
 }
 
 impl Crossed {
-    fn read(r: &mut Reader) -> Crossed {
+    /// The candidates have the outline's edition before the source; the cut order has none.
+    fn read(r: &mut Reader, has_edition: bool) -> Crossed {
         let counts = |words: &[u64]| words.iter().map(|w| *w as usize).collect();
         let outline = Outline::read(r);
+        let edition = if has_edition { r.word() } else { 0 };
         let source = r.count();
         let (hit_at, hit) = (counts(r.list()), numbers_of(r.list()));
         r.count();
@@ -216,6 +219,7 @@ impl Crossed {
         r.count();
         Crossed {
             outline,
+            edition,
             source,
             hit_at,
             hit,
@@ -283,7 +287,7 @@ impl Crossed {
 }
 
 fn cut_order(r: &mut Reader, lent: &[Vec<u64>]) -> Outcome {
-    let crossed = Crossed::read(r);
+    let crossed = Crossed::read(r, false);
     let cuts = crossed.in_order(r.axes());
     let (mut cut_at, mut cut) = (Vec::new(), Vec::new());
     for c in &cuts {
@@ -346,7 +350,7 @@ fn sliced(outline: &Outline, cuts: &[Cut], splits: &[Split], t: Axes) -> Vec<Can
 }
 
 fn candidates(r: &mut Reader, lent: &[Vec<u64>]) -> Outcome {
-    let crossed = Crossed::read(r);
+    let crossed = Crossed::read(r, true);
     let need = crossed.need();
     let numbers = numbers_of(r.list());
     let splits: Vec<Split> = numbers
@@ -371,6 +375,7 @@ fn candidates(r: &mut Reader, lent: &[Vec<u64>]) -> Outcome {
             left(&lent[0], cand_at, 2 * need),
             left(&lent[1], cand, 6 * need),
             left(&lent[2], probe, 6 * need),
+            left(&lent[3], vec![crossed.edition; found.len()], need),
         ],
     }
 }
@@ -503,8 +508,13 @@ impl Stitch {
 }
 
 fn stitch(r: &mut Reader, lent: &[Vec<u64>]) -> Outcome {
-    let outlines = [Outline::read(r), Outline::read(r)];
+    let outlines = [0; 2].map(|_| {
+        let outline = Outline::read(r);
+        r.edition();
+        outline
+    });
     let (slice_at, numbers) = (r.list(), numbers_of(r.list()));
+    r.list();
     let count = r.count();
     let slice = |(at, n): (&[u64], &[f64])| {
         let view = View {

@@ -1,6 +1,7 @@
 //! Compares one call after the other, and counts.
 
 use crate::call::{COUNT, Call, ENTRIES, Entry, Outcome, Param};
+use crate::late::Counts;
 use crate::record::{Origin, Record};
 use crate::{ours, print, refusal, scaled, second, theirs};
 use std::collections::BTreeMap;
@@ -14,14 +15,16 @@ pub enum Family {
     Damaged,
     Limits,
     Axes,
+    Late,
 }
 
-pub const FAMILIES: [Family; 5] = [
+pub const FAMILIES: [Family; 6] = [
     Family::Realistic,
     Family::Hostile,
     Family::Damaged,
     Family::Limits,
     Family::Axes,
+    Family::Late,
 ];
 
 /// Differences that are written out. The others are only counted.
@@ -40,14 +43,24 @@ pub fn quiet_caught_panics() {
     }));
 }
 
+/// What the original gives, or none where it panicked.
+pub fn caught<A>(original: impl FnOnce() -> A) -> Option<A> {
+    CATCHING.store(true, Ordering::Relaxed);
+    let outcome = catch_unwind(AssertUnwindSafe(original)).ok();
+    CATCHING.store(false, Ordering::Relaxed);
+    outcome
+}
+
 #[derive(Default)]
 pub struct Tally {
-    compared: [[u64; COUNT]; 5],
-    refused: [[u64; 10]; COUNT],
+    compared: [[u64; COUNT]; FAMILIES.len()],
+    refused: [[u64; 15]; COUNT],
     ended: [u64; 4],
     extra: BTreeMap<&'static str, u64>,
     explained: BTreeMap<&'static str, u64>,
     unexplained: u64,
+    /// What came of old slices on outlines that were changed late.
+    pub late: Counts,
     /// The scenario that runs now, for the print of a difference.
     pub scenario: u64,
     pub record: Option<Record>,
@@ -166,9 +179,7 @@ impl Tally {
 
     /// What the original gives, or none where it panicked. A panic is a difference.
     fn run<A>(&mut self, call: &Call, original: impl FnOnce() -> A) -> Option<A> {
-        CATCHING.store(true, Ordering::Relaxed);
-        let outcome = catch_unwind(AssertUnwindSafe(original)).ok();
-        CATCHING.store(false, Ordering::Relaxed);
+        let outcome = caught(original);
         if outcome.is_none() {
             self.complain("the original panicked", &print::call(call));
         }
@@ -203,6 +214,11 @@ impl Tally {
         }
     }
 
+    /// Whether no difference is left unexplained.
+    pub fn is_clean(&self) -> bool {
+        self.unexplained == 0
+    }
+
     pub fn total(&self) -> u64 {
         self.compared.iter().flatten().sum()
     }
@@ -210,8 +226,15 @@ impl Tally {
     /// Prints the counts. Gives the number of unexplained differences.
     pub fn report(&self) -> u64 {
         println!(
-            "{:30} {:>10} {:>10} {:>10} {:>10} {:>10} {:>10}",
-            "entry calls compared", "realistic", "hostile", "damaged", "limits", "axes", "all"
+            "{:30} {:>10} {:>10} {:>10} {:>10} {:>10} {:>10} {:>10}",
+            "entry calls compared",
+            "realistic",
+            "hostile",
+            "damaged",
+            "limits",
+            "axes",
+            "late",
+            "all"
         );
         for entry in ENTRIES {
             self.report_row(entry.name(), |family| {
@@ -231,6 +254,9 @@ impl Tally {
             "\nchains: {closed} closed, {small} too small, {no_candidate} with no candidate, \
              {not_selected} with none selected"
         );
+        if !self.late.is_empty() {
+            println!("\noutlines changed late\n{}", self.late);
+        }
         println!("\nthe same by another road, beside the calls above");
         for (name, count) in &self.extra {
             println!("{count:>10} {name}");
@@ -308,7 +334,9 @@ fn in_order_of_arrival(call: &Call, expected: &Outcome) -> Outcome {
 fn order_of(call: &Call) -> Call {
     let mut order = Call::new(Entry::CutOrder);
     order.inputs = call.inputs.clone();
-    order.inputs.remove(9);
+    for name in ["splits", "edition"] {
+        order.inputs.remove(call.entry.at(name));
+    }
     let room = 3 * call.lent[0].len();
     order.lent = vec![vec![1; room], vec![1; room]];
     order
@@ -338,16 +366,16 @@ fn order_is_not_scaled(call: &Call, scaled: &Outcome, second: &Outcome) -> bool 
 
 /// Whether candidates are accepted, at most one per cut, with 0 up to the need and nothing beyond.
 fn frame_holds(call: &Call, ours: &Outcome) -> bool {
-    let length = |at: usize| match &call.inputs[at] {
+    let length = |name: &str| match &call.inputs[call.entry.at(name)] {
         Param::List(words) => words.len(),
         Param::Word(_) => 0,
     };
-    let need = length(3) / 2 + 2 * (length(6) / 7);
+    let need = length("hit_at") / 2 + 2 * (length("lap_at") / 7);
     let count = ours.answer[1] as usize;
-    let widths = [2, 6, 6];
+    let widths = [2, 6, 6, 1];
     ours.answer[0] == 0
         && count <= need
-        && (0..3).all(|i| {
+        && (0..4).all(|i| {
             let (list, width) = (&ours.lent[i], widths[i]);
             let beyond = width * need;
             list[width * count..beyond].iter().all(|word| *word == 0)

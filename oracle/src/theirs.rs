@@ -44,7 +44,9 @@ pub fn answer(call: &Call) -> Outcome {
         Entry::Create => create(r),
         Entry::CreateOnSingleSegment => create_on_single_segment(r),
         Entry::FromEntirePline => from_entire_pline(r),
-        Entry::ValidateForSource => validate_for_source(r),
+        Entry::ValidateForSource => validate_for_source(r).0,
+        Entry::Reopen => reopen(r),
+        Entry::Unmoved => unmoved(r),
         Entry::CutOrder => cut_order(r, &call.lent),
         Entry::Candidates => candidates(r, &call.lent, true),
         Entry::Prune => prune(call),
@@ -290,16 +292,45 @@ impl Host for OnSegment {
     fn midpoint(&mut self, _: PlineVertex, _: PlineVertex) {}
 }
 
-fn validate_for_source(r: &mut Reader) -> Outcome {
+/// The verdict, and the editions of the outline and of the view, which the original has not.
+fn validate_for_source(r: &mut Reader) -> (Outcome, [u64; 2]) {
     let pline = HostOutline::new(&numbers_of(r.list()));
     r.count();
+    let edition = r.word();
     let view = view(r);
+    let editions = [edition, r.word()];
     let host = OnSegment {
         reads: pline.reads.clone(),
         start: r.code() == 1,
         end: r.code() == 1,
     };
-    verdict_answer(with_host(host, || stages::validate(&pline, &view)))
+    let verdict = with_host(host, || stages::validate(&pline, &view));
+    (verdict_answer(verdict), editions)
+}
+
+/// The same verdict; "only 'valid' gives the slice the new edition".
+fn reopen(r: &mut Reader) -> Outcome {
+    let (mut outcome, [edition, own]) = validate_for_source(r);
+    let is_valid = outcome.answer[1] == 7;
+    outcome.answer.push(if is_valid { edition } else { own });
+    outcome
+}
+
+/// The original's vertices of the view on both outlines, compared as bits.
+fn unmoved(r: &mut Reader) -> Outcome {
+    let [old, new] = [0; 2].map(|_| {
+        let pline = stages::outline(&numbers_of(r.list()));
+        r.count();
+        pline
+    });
+    let view = view(r);
+    let [old, new] = [old, new].map(|pline| stages::view_vertices(&pline, view));
+    let differs = |k: &usize| vertex_words(old[*k]) != vertex_words(new[*k]);
+    let first = (0..old.len()).find(differs);
+    Outcome {
+        answer: vec![0, u64::from(first.is_none()), first.unwrap_or(0) as u64],
+        lent: Vec::new(),
+    }
 }
 
 /// The verdict as the archive's answer.
@@ -354,6 +385,7 @@ pub struct Cut {
 /// What the two entries of one outline share, read from a call.
 struct OneOutline {
     pline: Polyline,
+    edition: u64,
     second: bool,
     hit_at: Vec<usize>,
     hit: Vec<f64>,
@@ -362,9 +394,11 @@ struct OneOutline {
 }
 
 impl OneOutline {
-    fn read(r: &mut Reader) -> OneOutline {
+    /// The candidates have the outline's edition before the source; the cut order has none.
+    fn read(r: &mut Reader, has_edition: bool) -> OneOutline {
         let pline = stages::outline(&numbers_of(r.list()));
         r.count();
+        let edition = if has_edition { r.word() } else { 0 };
         let second = r.code() == 2;
         let (hit_at, hit) = (counts_of(r.list()), numbers_of(r.list()));
         r.count();
@@ -372,6 +406,7 @@ impl OneOutline {
         r.count();
         OneOutline {
             pline,
+            edition,
             second,
             hit_at,
             hit,
@@ -454,7 +489,7 @@ pub fn cuts(pline: &Polyline, info: &Info, second: bool, tolerance: f64) -> Vec<
 }
 
 fn cut_order(r: &mut Reader, lent: &[Vec<u64>]) -> Outcome {
-    let one = OneOutline::read(r);
+    let one = OneOutline::read(r, false);
     let cuts = cuts(&one.pline, &one.info(), one.second, r.tolerance());
     let mut cut_at = Vec::new();
     let mut cut = Vec::new();
@@ -564,7 +599,7 @@ impl Host for Splitter {
 
 /// The candidates of a call. The splits are the call's, or else the crate's own.
 fn candidates(r: &mut Reader, lent: &[Vec<u64>], from_list: bool) -> Outcome {
-    let one = OneOutline::read(r);
+    let one = OneOutline::read(r, true);
     let splits = numbers_of(r.list());
     let tolerance = r.tolerance();
     let info = one.info();
@@ -602,6 +637,7 @@ fn candidates(r: &mut Reader, lent: &[Vec<u64>], from_list: bool) -> Outcome {
             written(&lent[0], &cand_at, 2 * need),
             written(&lent[1], &cand, 6 * need),
             written(&lent[2], &probe, 6 * need),
+            written(&lent[3], &vec![one.edition; slices.len()], need),
         ],
     }
 }
@@ -626,6 +662,7 @@ pub struct PruneSource<'a> {
 struct Given {
     at: Vec<usize>,
     numbers: Vec<f64>,
+    edition: Vec<u64>,
     inside: Vec<bool>,
 }
 
@@ -634,6 +671,7 @@ impl Given {
         let given = Given {
             at: counts_of(r.list()),
             numbers: numbers_of(r.list()),
+            edition: r.list().to_vec(),
             inside: r.list().iter().map(|code| *code == 1).collect(),
         };
         r.word();
@@ -649,6 +687,7 @@ struct PruneCall {
     of2: Given,
     lap_at: Vec<usize>,
     lap: Vec<f64>,
+    lap_edition: Vec<u64>,
 }
 
 impl PruneCall {
@@ -664,7 +703,27 @@ impl PruneCall {
             of2: Given::read(r),
             lap_at: counts_of(r.list()),
             lap: numbers_of(r.list()),
+            lap_edition: r.list().to_vec(),
         }
+    }
+
+    /// Which candidates of outline 1, and of outline 2, the mode keeps: the inside ones, or the others.
+    fn keeps_inside(&self) -> [bool; 2] {
+        [[1, 3], [1, 2]].map(|modes| modes.contains(&self.mode))
+    }
+
+    /// The editions of the slices, copied: the original has none. Kept of 1, kept of 2, the overlaps for
+    /// 1 and for 2.
+    fn editions(&self) -> Vec<u64> {
+        let kept = |of: &Given, inside: bool| -> Vec<u64> {
+            let all = of.edition.iter().zip(&of.inside);
+            all.filter(|(_, is)| **is == inside)
+                .map(|(e, _)| *e)
+                .collect()
+        };
+        let [inside1, inside2] = self.keeps_inside();
+        let kept = [kept(&self.of1, inside1), kept(&self.of2, inside2)].concat();
+        [&kept[..], &self.lap_edition, &self.lap_edition].concat()
     }
 
     fn need(&self) -> usize {
@@ -701,7 +760,7 @@ impl PruneCall {
 /// The prune of a call whose candidates came of `source`.
 pub fn prune_of(call: &Call, source: &PruneSource) -> Outcome {
     let given = PruneCall::read(call);
-    prune_outcome(&given.run(source), given.need(), &call.lent)
+    prune_outcome(&given.run(source), given.need(), call)
 }
 
 /// The prune of any candidates. Two outlines are made for the purpose: candidate k is the walk from
@@ -738,7 +797,7 @@ fn prune(call: &Call) -> Outcome {
         splits2: &splits(1, &given.of2.numbers),
         tolerance: CARRIER_TOLERANCE,
     };
-    let keeps_inside = [[1, 3], [1, 2]].map(|modes| modes.contains(&given.mode));
+    let keeps_inside = given.keeps_inside();
     given.of1.inside.extend([!keeps_inside[0]; 2]);
     given.of2.inside.extend([!keeps_inside[1]; 2]);
 
@@ -758,7 +817,7 @@ fn prune(call: &Call) -> Outcome {
             view.end_index_offset = of.at[2 * number + 1];
         }
     }
-    prune_outcome(&pruned, need, &call.lent)
+    prune_outcome(&pruned, need, call)
 }
 
 const CARRIER_TOLERANCE: f64 = 0.5;
@@ -791,8 +850,13 @@ fn carrier_splits(cuts: &[Cut], numbers: &[f64]) -> Vec<f64> {
     splits
 }
 
-/// The pruned slices as the archive's outcome.
-pub fn prune_outcome(pruned: &PrunedSlices<f64>, need: usize, lent: &[Vec<u64>]) -> Outcome {
+/// The pruned slices as the archive's outcome. The editions are the call's.
+pub fn prune_outcome(pruned: &PrunedSlices<f64>, need: usize, call: &Call) -> Outcome {
+    let (lent, editions) = (&call.lent, PruneCall::read(call).editions());
+    assert!(
+        pruned.slices_remaining.len() == editions.len(),
+        "another number of slices than candidates kept and overlaps"
+    );
     let mut slice_at = Vec::new();
     let mut slice = Vec::new();
     for s in &pruned.slices_remaining {
@@ -817,6 +881,7 @@ pub fn prune_outcome(pruned: &PrunedSlices<f64>, need: usize, lent: &[Vec<u64>])
         lent: vec![
             written(&lent[0], &slice_at, 4 * need),
             written(&lent[1], &slice, 6 * need),
+            written(&lent[2], &editions, need),
         ],
     }
 }
@@ -1044,12 +1109,15 @@ pub fn stitch_watched(
 }
 
 fn stitch(r: &mut Reader, lent: &[Vec<u64>]) -> Outcome {
-    let pline1 = stages::outline(&numbers_of(r.list()));
-    r.count();
-    let pline2 = stages::outline(&numbers_of(r.list()));
-    r.count();
+    let [pline1, pline2] = [0; 2].map(|_| {
+        let pline = stages::outline(&numbers_of(r.list()));
+        r.count();
+        r.edition();
+        pline
+    });
     let slice_at = r.list();
     let slices = stages::slices(&counts_of(slice_at), &numbers_of(r.list()));
+    r.list();
     r.count();
     let starts = SliceStarts {
         pline2: r.count(),

@@ -1,9 +1,9 @@
--- The entry `mask_candidates`: its refusals, its answer, and what its three lent lists hold. It works the order out itself, from the same lists as `mask_cut_order`.
+-- The entry `mask_candidates`: its refusals, its answer, and what its four lent lists hold. It works the order out itself, from the same lists as `mask_cut_order`.
 use Prim.Native.Nat.{ℕ, _+_, _*_, _≤_}
 use mathlib.Core.Bool.{not}
 use mathlib.Core.Path.{_≡_}
 use mathlib.Core.List.{List, [], _∷_, _++_}
-use lib.ListN.{length, take}
+use lib.ListN.{length, take, replicate}
 use lib.Dec.{ltb}
 use lib.Ieee.{Float}
 use Rattle.basis.specs.Number.{+0, allWithin}
@@ -17,8 +17,8 @@ use Rattle.cut.specs.Cuts.{Given, cutCount}
 use Rattle.cut.specs.Order as order
 use Rattle.cut.specs.Order.{cutNumbers, cutPoints}
 use Rattle.candidate.specs.Candidates as slices
-use Rattle.candidate.specs.Ready.{Rooms, Roomy, Ready}
-use Rattle.cut_entries.specs.CutRows.{listRows, valueRows, indexRows}
+use Rattle.candidate.specs.Ready.{Rooms, rooms, Roomy, Ready, Written}
+use Rattle.cut_entries.specs.CutRows.{listRows, valueRows, indexRows, FewCuts}
 use Rattle.candidate_entries.specs.declared.slicing.Lengths.{Lengths}
 
 -- what the slices are cut from: the cuts in their order, and the splits along them
@@ -26,9 +26,23 @@ abbrev pub alongCuts : Given → List Float → slices.Given
 alongCuts g splits =
     record { outline = g .outline; vc = g .vc; cutAt = cutNumbers g; cut = cutPoints g; count = cutCount g; splits = splits; tolerance = g .tolerance }
 
+-- the lent lists, the last of which is for the editions
+pub record Lent : Type 0 where
+  pub at : List ℕ
+  pub cand : List Float
+  pub probe : List Float
+  pub edition : List ℕ
+
+abbrev pub lent : List ℕ → List Float → List Float → List ℕ → Lent
+lent at cand probe edition = record { at = at; cand = cand; probe = probe; edition = edition }
+
+-- those that hold the candidates themselves
+abbrev pub roomsOf : Lent → Rooms
+roomsOf l = rooms (l .at) (l .cand) (l .probe)
+
 -- how long the lent lists are
-abbrev pub lengths : Rooms → Lengths
-lengths l = record { at = length (l .at); cand = length (l .cand); probe = length (l .probe) }
+abbrev pub lengths : Lent → Lengths
+lengths l = record { at = length (l .at); cand = length (l .cand); probe = length (l .probe); edition = length (l .edition) }
 
 -- 1: nine numbers of splits a cut
 abbrev pub splitLengthRows : ℕ → ℕ → List Row
@@ -38,31 +52,34 @@ splitLengthRows count len = row (lengthFault 9 len count) 1 ∷ []
 abbrev pub splitRows : List Float → List Row
 splitRows splits = row (not (allWithin splits)) 5 ∷ []
 
--- 9: `cand_at` has 2 elements a cut, `cand` and `probe` have 6
+-- 9: `cand_at` has 2 elements a cut, `cand` and `probe` have 6, `cand_edition` has 1
 abbrev pub candRoomRows : ℕ → Lengths → List Row
-candRoomRows count lent = row (ltb (lent .at) (2 * count)) 9 ∷ row (ltb (lent .cand) (6 * count)) 9 ∷ row (ltb (lent .probe) (6 * count)) 9 ∷ []
+candRoomRows count n =
+    row (ltb (n .at) (2 * count)) 9 ∷ row (ltb (n .cand) (6 * count)) 9 ∷ row (ltb (n .probe) (6 * count)) 9 ∷ row (ltb (n .edition) count) 9 ∷ []
 
 -- all that is looked at behind the first lists' lengths and counts, 1 to 9
 unfoldable pub laterRows : Given → List Float → Lengths → List Row
-laterRows g splits lent =
-    splitLengthRows (cutCount g) (length splits) ++ (valueRows g ++ (splitRows splits ++ (indexRows g ++ candRoomRows (cutCount g) lent)))
+laterRows g splits n =
+    splitLengthRows (cutCount g) (length splits) ++ (valueRows g ++ (splitRows splits ++ (indexRows g ++ candRoomRows (cutCount g) n)))
 
 abbrev pub candidatesRows : Given → List Float → Lengths → List Row
-candidatesRows g splits lent = listRows g ++ laterRows g splits lent
+candidatesRows g splits n = listRows g ++ laterRows g splits n
 
 unfoldable pub candidatesRefusal : Given → List Float → Lengths → ℕ
-candidatesRefusal g splits lent = firstOf (candidatesRows g splits lent)
+candidatesRefusal g splits n = firstOf (candidatesRows g splits n)
 
 -- the number of a call with these lists lent
-abbrev pub candNumber : Given → List Float → Rooms → ℕ
+abbrev pub candNumber : Given → List Float → Lent → ℕ
 candNumber g splits l = candidatesRefusal g splits (lengths l)
 
--- the answer, and each lent list at exit: by the room rule where the call is accepted, untouched where it is refused
-pub record Sliced (g : Given) (splits : List Float) (l : Rooms) (r : CountAnswer) (left : Rooms) : Type 0 where
+-- the answer, and each lent list at exit: by the room rule where the call is accepted, untouched where it is refused. Each candidate has the outline's edition, for
+-- "each slice the edition it was cut from"
+pub record Sliced (g : Given) (splits : List Float) (edition : ℕ) (l : Lent) (r : CountAnswer) (left : Lent) : Type 0 where
   pub answers : r ≡ answer countRefused (candNumber g splits l) (counted (slices.candCount (alongCuts g splits)))
   pub at : left .at ≡ answer (λ _. l .at) (candNumber g splits l) (roomOf 0 2 (cutCount g) (slices.candNumbers (alongCuts g splits)) (l .at))
   pub cand : left .cand ≡ answer (λ _. l .cand) (candNumber g splits l) (roomOf +0 6 (cutCount g) (slices.candShapes (alongCuts g splits)) (l .cand))
   pub probe : left .probe ≡ answer (λ _. l .probe) (candNumber g splits l) (roomOf +0 6 (cutCount g) (slices.probeNumbers (alongCuts g splits)) (l .probe))
+  pub editions : left .edition ≡ answer (λ _. l .edition) (candNumber g splits l) (roomOf 0 1 (cutCount g) (replicate (slices.candCount (alongCuts g splits)) edition) (l .edition))
 
 -- ---- what an accepted call has
 pub record Along (g : Given) (splits : List Float) : Type 0 where
@@ -72,6 +89,17 @@ pub record Along (g : Given) (splits : List Float) : Type 0 where
 pub record Accepted (g : Given) (splits : List Float) (l : Rooms) : Type 0 where
   pub along : Along g splits
   pub roomy : Roomy (cutCount g) l
+
+-- with room for the editions
+pub record Roomed (g : Given) (splits : List Float) (l : Lent) : Type 0 where
+  pub ok : Accepted g splits (roomsOf l)
+  pub few : FewCuts (cutCount g)
+  pub editions : cutCount g ≤ length (l .edition)
+
+-- the candidates were written, and the edition beside each
+pub record Dated (g : Given) (splits : List Float) (edition : ℕ) (l : Lent) (m : ℕ) (left : Lent) : Type 0 where
+  pub written : Written (alongCuts g splits) (roomsOf l) m (roomsOf left)
+  pub editions : left .edition ≡ roomOf 0 1 (cutCount g) (replicate m edition) (l .edition)
 
 -- the same over cuts that stand in front of longer lists
 abbrev pub frontsOf : List Float → List ℕ → List Float → List Float → Case → slices.Given

@@ -1,5 +1,5 @@
 -- What acceptance by `mask_candidates` tells.
-use Prim.Native.Nat.{ℕ, _*_}
+use Prim.Native.Nat.{ℕ, _*_, _≤_}
 use mathlib.Core.Bool.{true}
 use mathlib.Core.Path.{_≡_, sym, _∙_}
 use mathlib.Core.List.{List, _++_}
@@ -12,11 +12,11 @@ use Rattle.basis.specs.Number.{allWithin}
 use Rattle.basis.specs.RefuseLaws.{Clear, clear, clear-left, clear-right, length-ok}
 use Rattle.cut.specs.Cuts.{Given, cutCount}
 use Rattle.cut_order.specs.CutsLaws.{numbers-length, points-length, segment-below, segments-ascend}
-use Rattle.candidate.specs.Ready.{Sound, Rooms}
+use Rattle.candidate.specs.Ready.{Sound}
 use Rattle.cut_entries.specs.CutRows.{listRows, valueRows, indexRows}
 use Rattle.cut_entries.specs.CutRowsLaws.{CutsPass, cuts-pass, cuts-accepted}
 use Rattle.candidate_entries.specs.declared.slicing.Lengths.{Lengths}
-use Rattle.candidate_entries.specs.Candidates.{alongCuts, lengths, splitLengthRows, splitRows, candRoomRows, laterRows, candidatesRows, candidatesRefusal, candNumber, Along, Accepted}
+use Rattle.candidate_entries.specs.Candidates.{alongCuts, Lent, roomsOf, lengths, splitLengthRows, splitRows, candRoomRows, laterRows, candidatesRows, candidatesRefusal, candNumber, Along, Accepted}
 
 -- the rows without a fault, one by one
 pub record SplitsPass (g : Given) (splits : List Float) (lent : Lengths) : Type 0 where
@@ -63,7 +63,7 @@ along-sound g splits a =
       ascend = λ p q h k. segments-ascend g p q h k;
     }
 
-pub cand-accepted : (g : Given) (splits : List Float) (l : Rooms) → candNumber g splits l ≡ 0 → Accepted g splits l
+pub cand-accepted : (g : Given) (splits : List Float) (l : Lent) → candNumber g splits l ≡ 0 → Accepted g splits (roomsOf l)
 cand-accepted g splits l z =
     let p = cand-pass g splits (lengths l) z in
     record {
@@ -75,3 +75,7 @@ cand-accepted g splits l z =
             probe = ltb-false (length (l .probe)) (6 * cutCount g) (p .rooms .1 .1 .0);
           };
     }
+
+-- and there is room for an edition a cut
+pub editions-roomy : (g : Given) (splits : List Float) (l : Lent) → candNumber g splits l ≡ 0 → cutCount g ≤ length (l .edition)
+editions-roomy g splits l z = ltb-false (length (l .edition)) (cutCount g) (cand-pass g splits (lengths l) z .rooms .1 .1 .1 .0)

@@ -6,7 +6,7 @@ ghost use Rattle.basis.specs.Refuse.{firstFrom};
 ghost use Rattle.cut.specs.Cuts.{given, caseOf};
 ghost use Rattle.candidate.specs.Ready.{rooms, Written};
 ghost use Rattle.cut_entries.specs.CutRows.{FewCuts};
-ghost use Rattle.candidate_entries.specs.Candidates.{alongCuts, frontsOf, InFront, splitLengthRows, splitRows, candRoomRows, laterRows, candidatesRefusal, Accepted, Sliced, FoundRoom, Few};
+ghost use Rattle.candidate_entries.specs.Candidates.{alongCuts, lent, frontsOf, InFront, splitLengthRows, splitRows, candRoomRows, laterRows, candidatesRefusal, Accepted, Roomed, Dated, Sliced, FoundRoom, Few};
 use basis::answer;
 use basis::answer::CountAnswer;
 use basis::number;
@@ -17,11 +17,12 @@ use candidate_write::write;
 use cut::arrival::Case;
 use cut_entries::faults;
 
-// How long the three lent lists are.
+// How long the four lent lists are.
 pub struct Lengths {
     pub at: usize,
     pub cand: usize,
     pub probe: usize,
+    pub edition: usize,
 }
 
 // Number 1, of the splits, for so many cuts.
@@ -45,7 +46,8 @@ fn room_refusal(r: u32, count: usize, lent: Lengths) -> u32
 {
     let r = refuse::or_else(r, lent.at < 2 * count, 9);
     let r = refuse::or_else(r, lent.cand < 6 * count, 9);
-    refuse::or_else(r, lent.probe < 6 * count, 9)
+    let r = refuse::or_else(r, lent.probe < 6 * count, 9);
+    refuse::or_else(r, lent.edition < count, 9)
 }
 
 // What is looked at behind the first lists' lengths and counts, once these are right: there are few cuts.
@@ -305,8 +307,8 @@ fn found(
     )
 }
 
-// The answer, refused or not.
-fn sliced(
+// The same, with the edition beside each.
+fn dated(
     outline: &[f64],
     hit_at: &[usize],
     hit: &[f64],
@@ -314,22 +316,16 @@ fn sliced(
     lap: &[f64],
     splits: &[f64],
     s: Case,
+    edition: u32,
     cand_at: &mut [usize],
     cand: &mut [f64],
     probe: &mut [f64],
-) -> CountAnswer
-    ensures { λ r. ⌜ Sliced (given (now (outline .entry)) (now («hit_at» .entry)) (now (hit .entry)) (now («lap_at» .entry)) (now (lap .entry)) s) (now (splits .entry)) (rooms (now («cand_at» .entry)) (now (cand .entry)) (now (probe .entry))) r (rooms (now («cand_at» .exit)) (now (cand .exit)) (now (probe .exit))) ⌝ }
+    cand_edition: &mut [u32],
+) -> usize
+    requires { ⌜ Roomed (given (now outline) (now «hit_at») (now hit) (now «lap_at») (now lap) s) (now splits) (lent (now «cand_at») (now cand) (now probe) (now «cand_edition»)) ⌝ }
+    ensures { λ r. ⌜ Dated (given (now (outline .entry)) (now («hit_at» .entry)) (now (hit .entry)) (now («lap_at» .entry)) (now (lap .entry)) s) (now (splits .entry)) edition (lent (now («cand_at» .entry)) (now (cand .entry)) (now (probe .entry)) (now («cand_edition» .entry))) r (lent (now («cand_at» .exit)) (now (cand .exit)) (now (probe .exit)) (now («cand_edition» .exit))) ⌝ }
 {
-    let lent = Lengths {
-        at: cand_at.len(),
-        cand: cand.len(),
-        probe: probe.len(),
-    };
-    let number = refusal(outline, hit_at, hit, lap_at, lap, splits, s, lent);
-    if number != 0 {
-        return answer::count_refused(number);
-    }
-    answer::counted_as(found(
+    let m = found(
         outline,
         hit_at,
         hit,
@@ -340,13 +336,60 @@ fn sliced(
         cand_at,
         cand,
         probe,
+    );
+    write::write_editions(cand_edition, m, s.hits + 2 * s.laps, edition);
+    m
+}
+
+// The answer, refused or not.
+fn sliced(
+    outline: &[f64],
+    hit_at: &[usize],
+    hit: &[f64],
+    lap_at: &[usize],
+    lap: &[f64],
+    splits: &[f64],
+    s: Case,
+    edition: u32,
+    cand_at: &mut [usize],
+    cand: &mut [f64],
+    probe: &mut [f64],
+    cand_edition: &mut [u32],
+) -> CountAnswer
+    ensures { λ r. ⌜ Sliced (given (now (outline .entry)) (now («hit_at» .entry)) (now (hit .entry)) (now («lap_at» .entry)) (now (lap .entry)) s) (now (splits .entry)) edition (lent (now («cand_at» .entry)) (now (cand .entry)) (now (probe .entry)) (now («cand_edition» .entry))) r (lent (now («cand_at» .exit)) (now (cand .exit)) (now (probe .exit)) (now («cand_edition» .exit))) ⌝ }
+{
+    let lent = Lengths {
+        at: cand_at.len(),
+        cand: cand.len(),
+        probe: probe.len(),
+        edition: cand_edition.len(),
+    };
+    let number = refusal(outline, hit_at, hit, lap_at, lap, splits, s, lent);
+    if number != 0 {
+        return answer::count_refused(number);
+    }
+    answer::counted_as(dated(
+        outline,
+        hit_at,
+        hit,
+        lap_at,
+        lap,
+        splits,
+        s,
+        edition,
+        cand_at,
+        cand,
+        probe,
+        cand_edition,
     ))
 }
 
 // The candidates of the outline that the source names: the pieces between neighbouring cuts, and the walks from a segment's last cut to the next segment that has one.
+// Beside each stands the outline's edition.
 pub fn entry(
     outline: &[f64],
     vc: usize,
+    edition: u32,
     source: u32,
     hit_at: &[usize],
     hit: &[f64],
@@ -360,8 +403,9 @@ pub fn entry(
     cand_at: &mut [usize],
     cand: &mut [f64],
     probe: &mut [f64],
+    cand_edition: &mut [u32],
 ) -> CountAnswer
-    ensures { λ r. ⌜ Sliced (given (now (outline .entry)) (now («hit_at» .entry)) (now (hit .entry)) (now («lap_at» .entry)) (now (lap .entry)) (caseOf vc source hits laps (toleranceOf «tolerance_x» «tolerance_y»))) (now (splits .entry)) (rooms (now («cand_at» .entry)) (now (cand .entry)) (now (probe .entry))) r (rooms (now («cand_at» .exit)) (now (cand .exit)) (now (probe .exit))) ⌝ }
+    ensures { λ r. ⌜ Sliced (given (now (outline .entry)) (now («hit_at» .entry)) (now (hit .entry)) (now («lap_at» .entry)) (now (lap .entry)) (caseOf vc source hits laps (toleranceOf «tolerance_x» «tolerance_y»))) (now (splits .entry)) edition (lent (now («cand_at» .entry)) (now (cand .entry)) (now (probe .entry)) (now («cand_edition» .entry))) r (lent (now («cand_at» .exit)) (now (cand .exit)) (now (probe .exit)) (now («cand_edition» .exit))) ⌝ }
 {
     let t = Tolerance {
         x: tolerance_x,
@@ -382,8 +426,10 @@ pub fn entry(
         lap,
         splits,
         s,
+        edition,
         cand_at,
         cand,
         probe,
+        cand_edition,
     )
 }

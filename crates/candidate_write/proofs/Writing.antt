@@ -5,9 +5,10 @@ use mathlib.Core.List.{List, _++_, flatMap}
 use native.Mathlib.Nat.{mul-add}
 use native.Mathlib.Numerals.{add-one}
 use native.Mathlib.Omega.{arith}
-use lib.ListN.{length, take, drop, length-append, length-drop}
+use lib.ListN.{length, take, drop, replicate, length-append, length-drop, length-replicate}
 use lib.Seq.{sets, sets-eq, length-sets, take-at, drop-append-add, drop-drop}
 use Rattle.basis.specs.Number.{+0}
+use Rattle.basis.specs.Room.{roomOf, cleared, Stretch}
 use Rattle.basis.specs.RoomLaws.{room-left}
 use Rattle.candidate.specs.declared.at_cut.Candidate.{Candidate}
 use Rattle.candidate.specs.Candidates.{Given, candidateAt, kept, candidatesTo, candidatesOf, numbersOf, shapeOf, probeOf, candNumbers, candShapes, probeNumbers}
@@ -119,5 +120,20 @@ written-of g l l′ l″ m i z =
       cand = room-left +0 6 (g .count) (candShapes g) (l .cand) (l′ .cand) (l″ .cand) (6 * m) (6 * g .count) (z .cand) (i .cand) (rw (i .counted) (sym (flat-length 6 shapeOf wide-shapes g (g .count)))) refl (omega (arith, i .few));
       probe = room-left +0 6 (g .count) (probeNumbers g) (l .probe) (l′ .probe) (l″ .probe) (6 * m) (6 * g .count) (z .probe) (i .probe) (rw (i .counted) (sym (flat-length 6 probeOf wide-probes g (g .count)))) refl (omega (arith, i .few));
     }
+
+-- one edition throughout, in front
+fill-front : (l l₁ : List ℕ) (m edition : ℕ) → l₁ ≡ cleared edition 0 m l → l₁ ≡ replicate m edition ++ drop m l
+unfolding cleared
+fill-front l l₁ m edition p = let e : m - 0 ≡ m = omega arith in p ∙ ap (λ (k : ℕ). replicate k edition ++ drop m l) e
+
+module _ (l l₁ : List ℕ) (m need edition : ℕ) (h : Stretch l m need) (p : l₁ ≡ cleared edition 0 m l) where
+  pub editions-front : Stretch l₁ m need
+  editions-front =
+      let n = ap length (fill-front l l₁ m edition p) ∙ length-append (replicate m edition) (drop m l) in
+      record { ordered = h .ordered; inside = omega (arith, h .inside, h .ordered, n, length-replicate m edition, length-drop m l) }
+
+  pub editions-written : (l₂ : List ℕ) → l₂ ≡ cleared 0 m need l₁ → l₂ ≡ roomOf 0 1 need (replicate m edition) l
+  editions-written l₂ q =
+      room-left 0 1 need (replicate m edition) l l₁ l₂ m need q (fill-front l l₁ m edition p) (sym (length-replicate m edition)) (omega arith) (h .ordered)
 
 pub ruleset wholes = (rest-fit, written-of)

@@ -1,4 +1,7 @@
 // The candidates of one outline, written into lent room.
+ghost use mathlib.Core.Path.{_≡_};
+ghost use lib.ListN.{replicate};
+ghost use Rattle.basis.specs.Room.{roomOf, Stretch};
 ghost use Rattle.candidate.specs.Candidates.{given};
 ghost use Rattle.candidate.specs.Ready.{rooms, Ready, Written};
 ghost use Rattle.candidate.specs.Steps.{Items, ClearFit, Cleared};
@@ -6,6 +9,7 @@ use crate::put;
 use basis::room;
 use candidate::at_cut;
 use cut::arrival::Case;
+use slice::edition as editions;
 
 // Writes the candidates in order of places, and says how many there are.
 fn write_items(
@@ -59,4 +63,13 @@ pub fn write_candidates(
     let m = write_items(outline, cut_at, cut, splits, s, cand_at, cand, probe);
     clear_rest(cand_at, cand, probe, m, s.hits + 2 * s.laps);
     m
+}
+
+// Writes the outline's edition beside each of m candidates, then zero up to the need.
+pub fn write_editions(cand_edition: &mut [u32], m: usize, need: usize, edition: u32)
+    requires { ⌜ Stretch (now «cand_edition») m need ⌝ }
+    ensures { λ _. ⌜ now («cand_edition» .exit) ≡ roomOf 0 1 need (replicate m edition) (now («cand_edition» .entry)) ⌝ }
+{
+    editions::fill(cand_edition, 0, m, edition);
+    editions::fill(cand_edition, m, need, 0);
 }

@@ -1,17 +1,18 @@
 -- What an accepted call leaves, and what a call needs to be accepted: the entries of the pipeline one by one.
-use Prim.Native.Nat.{ℕ, _+_, _*_, _≤_}
+use Prim.Native.Nat.{ℕ, _+_, _*_, _≤_, _<_}
 use mathlib.Core.Bool.{Bool, true, false, not}
 use mathlib.Core.Path.{_≡_, refl, sym, ap, subst, _∙_}
 use mathlib.Core.List.{List, _++_}
 use native.Mathlib.Nat.{add-zero}
 use native.Mathlib.Omega.{arith}
-use lib.ListN.{length, take}
+use lib.ListN.{length, take, getD, replicate, length-map, length-replicate}
 use lib.Ieee.{Float}
 use borrow.Author.Tests.{le-ltb}
 use Rattle.basis.specs.Number.{+0, allWithin, tolerable}
 use Rattle.basis.specs.Sizes.{mostCandidates, mostLaps, mostSlices}
 use Rattle.basis.specs.Each.{placesBelow, placesAtMost, choicesKnown}
 use Rattle.basis.specs.EachLaws.{at-below, at-most}
+use Rattle.basis.specs.Room.{roomOf}
 use Rattle.basis.specs.RoomLaws.{room-front}
 use Rattle.basis.specs.Refuse.{sizeFault}
 use Rattle.basis.specs.RefuseLaws.{Clear, clear-both, none-clear, answer-zero, answer-accepted, ok-length, ok-size}
@@ -19,21 +20,21 @@ use Rattle.outline.specs.Outline.{Whole}
 use Rattle.cut.specs.Cuts as cuts
 use Rattle.cut_order.specs.CutsLaws.{points-within}
 use Rattle.candidate.specs.Candidates.{candCount, candNumbers, candShapes, candidatesOf, numbersOf, shapeOf}
-use Rattle.candidate.specs.Ready as slices
 use Rattle.candidate_write.specs.ItemLaws.{flat-length, wide-numbers, wide-shapes}
 use Rattle.candidate_write.specs.CandidateTheorems.{count-most, starts-below, offsets-most}
 use Rattle.candidate_write.specs.RangeTheorems.{InRange, shapes-in}
 use Rattle.basis.specs.declared.answer.CountAnswer.{CountAnswer}
 use Rattle.basis.specs.Answers.{countRefused}
-use Rattle.candidate_entries.specs.Candidates.{alongCuts, lengths, candNumber, Sliced, Accepted}
+use Rattle.candidate_entries.specs.Candidates.{alongCuts, Lent, roomsOf, lengths, candNumber, Sliced, Accepted}
 use Rattle.candidate_entries.specs.CandidatesLaws.{SplitsPass, cand-pass, along-sound, cand-accepted}
 use Rattle.select.specs.declared.class.Starts.{Starts}
 use Rattle.slice.specs.Slice.{codeWidth, shapeWidth}
 use Rattle.slice.specs.Ready as slice
+use Rattle.slice.specs.Editions.{Editions, editions, editionOf, editionFault}
 use Rattle.slice.specs.Sound as sound
-use Rattle.prune.specs.Prune.{Cands, Overlaps, Given, needOf, prunedOf, sliceCodes, sliceShapes}
+use Rattle.prune.specs.Prune.{Cands, Overlaps, Given, needOf, prunedOf, slicesOf, sliceCodes, sliceShapes, sliceEditions}
 use Rattle.prune.specs.Ready.{OverlapsFit}
-use Rattle.prune_write.specs.PruneTheorems.{slices-few, starts-ascend, stitch-accepts}
+use Rattle.prune_write.specs.PruneTheorems.{slices-few, slices-counted, starts-ascend, stitch-accepts, editions-carried}
 use Rattle.prune_entries.specs.declared.answer.PruneAnswer.{PruneAnswer}
 use Rattle.prune_entries.specs.Answers.{pruneRefused, pruneGiven}
 use Rattle.prune_entries.specs.PruneEntry.{candsRows, lapsRows, codesRows, numbersRows, startsRows, reachesRows, inputRows, lentRows, pruneRefusal, pruneNumber, PruneLeft}
@@ -42,7 +43,8 @@ use Rattle.stitch_run.specs.Stitch as stitch
 use Rattle.stitch.specs.Lent.{Lists, Long}
 use Rattle.stitch_entries.specs.StitchRows.{startsFault}
 use Rattle.stitch_entries.specs.StitchEntry as stitched
-use Rattle.stitch_entries.specs.StitchEntry.{shapeRows, stitchRefusal, stitchNumber}
+use Rattle.stitch_entries.specs.StitchEntry.{shapeRows, stitchNumber}
+use Rattle.stitch_entries.specs.Matching.{Matched, baseRefusal, base-number}
 
 -- ---- `mask_candidates`
 
@@ -55,7 +57,7 @@ pub record CandsMade (vc count : ℕ) (at : List ℕ) (shape : List Float) : Typ
   pub reaches : placesAtMost 2 1 vc at ≡ true
   pub numbers : allWithin shape ≡ true
 
-module _ (g : cuts.Given) (splits : List Float) (l : slices.Rooms) (r : CountAnswer) (left : slices.Rooms) (sliced : Sliced g splits l r left) (accepted : r .refusal ≡ 0) where
+module _ (g : cuts.Given) (splits : List Float) (edition : ℕ) (l : Lent) (r : CountAnswer) (left : Lent) (sliced : Sliced g splits edition l r left) (accepted : r .refusal ≡ 0) where
   cand-zero : candNumber g splits l ≡ 0
   cand-zero = answer-zero countRefused (λ a. a .refusal) (candNumber g splits l) _ r (λ k. refl) (sliced .answers) accepted
 
@@ -66,11 +68,20 @@ module _ (g : cuts.Given) (splits : List Float) (l : slices.Rooms) (r : CountAns
   cand-told : r .count ≡ candCount (alongCuts g splits)
   cand-told = ap (λ (a : CountAnswer). a .count) (answer-accepted countRefused (candNumber g splits l) _ r (sliced .answers) cand-zero)
 
+  -- beside each candidate the outline's edition
+  pub cands-dated : take (r .count) (left .edition) ≡ replicate (r .count) edition
+  cands-dated =
+      let n = cand-told in
+      room-front 0 1 (cuts.cutCount g) (replicate (r .count) edition) (l .edition) (left .edition) (r .count)
+      (answer-accepted (λ _. l .edition) (candNumber g splits l) _ (left .edition) (sliced .editions) cand-zero
+      ∙ ap (λ (k : ℕ). roomOf 0 1 (cuts.cutCount g) (replicate k edition) (l .edition)) (sym n))
+      (length-replicate (r .count) edition)
+
   -- what the host hands on: as many items of each list as were counted
   pub cands-made : CandsMade (g .vc) (r .count) (take (2 * r .count) (left .at)) (take (6 * r .count) (left .cand))
   unfolding candidatesOf
   cands-made =
-      let ok : Accepted g splits l = cand-accepted g splits l cand-zero in
+      let ok : Accepted g splits (roomsOf l) = cand-accepted g splits l cand-zero in
       let along = alongCuts g splits in
       let sound = along-sound g splits (ok .along) in
       let p = made-pass in
@@ -97,6 +108,7 @@ module _ (g : cuts.Given) (splits : List Float) (l : slices.Rooms) (r : CountAns
 -- the candidates of an outline, with a yes or no for each
 pub record CandsPass (vc count : ℕ) (c : Cands) : Type 0 where
   pub made : CandsMade vc count (c .at) (c .shape)
+  pub dated : length (c .edition) ≡ count
   pub told : length (c .inside) ≡ count
   pub known : choicesKnown 1 0 (c .inside) ≡ true
 
@@ -132,8 +144,8 @@ cands-clear vc count c p = (
   (
     ok-length shapeWidth (length (c .shape)) count (p .made .shapes),
     (
-      ok-length 1 (length (c .inside)) count (let e = p .told in omega arith),
-      (le-ltb mostCandidates count (p .made .few), tt),
+      ok-length 1 (length (c .edition)) count (let e = p .dated in omega arith),
+      (ok-length 1 (length (c .inside)) count (let e = p .told in omega arith), (le-ltb mostCandidates count (p .made .few), tt)),
     ),
   ),
 )
@@ -145,7 +157,10 @@ prune-passes g l p =
     let o = p .laps in
     let laps : Clear (lapsRows g) = (
       ok-length 7 (length (g .laps .at)) (c .laps) (o .fit .at),
-      (ok-length shapeWidth (length (g .laps .shape)) (c .laps) (o .fit .shape), (le-ltb mostLaps (c .laps) (o .fit .few), tt)),
+      (
+        ok-length shapeWidth (length (g .laps .shape)) (c .laps) (o .fit .shape),
+        (ok-length 1 (length (g .laps .edition)) (c .laps) (let e = o .fit .edition in omega (arith, e)), (le-ltb mostLaps (c .laps) (o .fit .few), tt)),
+      ),
     ) in
     let codes : Clear (codesRows g) =
     (p .sized1, (p .sized2, (le-ltb 3 (c .mode) (p .mode), (le-ltb 1 (c .opposing) (p .choice), (told-no (p .first .known), (told-no (p .second .known), (told-no (o .codes), tt))))))) in
@@ -153,15 +168,16 @@ prune-passes g l p =
     let starts : Clear (startsRows g) =
     (told-no (p .first .made .starts), (told-no (p .second .made .starts), (told-no (o .starts1), (told-no (o .starts2), (told-no (o .ends1), (told-no (o .ends2), (told-no (o .views), tt))))))) in
     let reaches : Clear (reachesRows g) = (told-no (p .first .made .reaches), (told-no (p .second .made .reaches), (told-no (o .reaches), tt))) in
-    let lent : Clear (lentRows g (length (l .at)) (length (l .shape))) = (le-ltb _ _ (p .roomy .at), (le-ltb _ _ (p .roomy .shape), tt)) in
+    let rooms = lentRows g (length (l .at)) (length (l .shape)) (length (l .edition)) in
+    let lent : Clear rooms = (le-ltb _ _ (p .roomy .at), (le-ltb _ _ (p .roomy .shape), (le-ltb _ _ (p .roomy .edition), tt))) in
     let first = candsRows (g .first) (c .count1) in
     let second = candsRows (g .second) (c .count2) in
     let a = startsRows g ++ reachesRows g in
     let b = numbersRows g ++ a in
     let d = codesRows g ++ b in
     let e = lapsRows g ++ d in
-    none-clear (inputRows g ++ lentRows g (length (l .at)) (length (l .shape)))
-    (clear-both (inputRows g) (lentRows g (length (l .at)) (length (l .shape)))
+    none-clear (inputRows g ++ rooms)
+    (clear-both (inputRows g) rooms
     (clear-both first (second ++ e) (cands-clear (c .vc1) (c .count1) (g .first) (p .first))
     (clear-both second e (cands-clear (c .vc2) (c .count2) (g .second) (p .second))
     (clear-both (lapsRows g) d laps (clear-both (codesRows g) b codes (clear-both (numbersRows g) a numbers (clear-both (startsRows g) (reachesRows g) starts reaches))))))
@@ -177,25 +193,54 @@ module _ (g : Given) (l : slice.Rooms) (r : PruneAnswer) (left : slice.Rooms) (h
   prune-zero : pruneNumber g l ≡ 0
   prune-zero = answer-zero pruneRefused (λ a. a .refusal) (pruneNumber g l) _ r (λ k. refl) (holds .answers) accepted
 
+  given-is : r ≡ pruneGiven (prunedOf g)
+  given-is = answer-accepted pruneRefused (pruneNumber g l) _ r (holds .answers) prune-zero
+
+  count-is : r .slices ≡ prunedOf g .slices
+  count-is = ap (λ (a : PruneAnswer). a .slices) given-is
+
+  fit : sound.Accepted (g .call .vc1) (g .call .vc2) (prunedOf g .slices) (sliceCodes g) (sliceShapes g)
+  fit = let passed = prune-sound g l 0 (sym prune-zero) refl in stitch-accepts g (passed .first) (passed .second) (passed .laps)
+
+  -- as many slices of each list as were counted
+  codes-are : take (codeWidth * r .slices) (left .at) ≡ sliceCodes g
+  codes-are =
+      room-front 0 codeWidth (needOf (g .call)) (sliceCodes g) (l .at) (left .at) (codeWidth * r .slices) (answer-accepted (λ _. l .at) (pruneNumber g l) _ (left .at) (holds .at) prune-zero)
+      (fit .codes ∙ ap (λ (k : ℕ). codeWidth * k) (sym count-is))
+
+  shapes-are : take (shapeWidth * r .slices) (left .shape) ≡ sliceShapes g
+  shapes-are =
+      room-front +0 shapeWidth (needOf (g .call)) (sliceShapes g) (l .shape) (left .shape) (shapeWidth * r .slices) (answer-accepted (λ _. l .shape) (pruneNumber g l) _ (left .shape) (holds .shape) prune-zero)
+      (fit .shapes ∙ ap (λ (k : ℕ). shapeWidth * k) (sym count-is))
+
+  editions-counted : length (sliceEditions g) ≡ r .slices
+  editions-counted = length-map (slicesOf g) (λ s. s .edition) ∙ sym (slices-counted g) ∙ sym count-is
+
+  editions-are : take (r .slices) (left .edition) ≡ sliceEditions g
+  editions-are =
+      room-front 0 1 (needOf (g .call)) (sliceEditions g) (l .edition) (left .edition) (r .slices) (answer-accepted (λ _. l .edition) (pruneNumber g l) _ (left .edition) (holds .edition) prune-zero)
+      editions-counted
+
+  -- what was copied is an edition a slice
+  pub slices-dated : length (take (r .slices) (left .edition)) ≡ r .slices
+  slices-dated = ap length editions-are ∙ editions-counted
+
+  -- and, where every candidate has its outline's and every overlap outline 2's, each slice's is that of its source
+  pub slices-matched : (first second : ℕ) → ((k : ℕ) → k < g .call .count1 → getD (g .first .edition) k 0 ≡ first) → ((k : ℕ) → k < g .call .count2 → getD (g .second .edition) k 0 ≡ second)
+      → ((j : ℕ) → j < g .call .laps → getD (g .laps .edition) j 0 ≡ second)
+      → editionFault (editions first second (take (r .slices) (left .edition))) (take (codeWidth * r .slices) (left .at)) ≡ false
+  slices-matched first second a b c = rw (editions-are, codes-are) (editions-carried first second g a b c)
+
   pub slices-made : SlicesMade (g .call .vc1) (g .call .vc2) (r .slices) (r .starts) (take (codeWidth * r .slices) (left .at)) (take (shapeWidth * r .slices) (left .shape))
   unfolding startsFault
   slices-made =
-      let given : r ≡ pruneGiven (prunedOf g) = answer-accepted pruneRefused (pruneNumber g l) _ r (holds .answers) prune-zero in
       let ready = prune-accepted g l 0 (sym prune-zero) refl in
-      let passed = prune-sound g l 0 (sym prune-zero) refl in
-      let n : r .slices ≡ prunedOf g .slices = ap (λ (a : PruneAnswer). a .slices) given in
-      let s : r .starts ≡ prunedOf g .starts = ap (λ (a : PruneAnswer). a .starts) given in
-      let fit = stitch-accepts g (passed .first) (passed .second) (passed .laps) in
-      let at : take (codeWidth * r .slices) (left .at) ≡ sliceCodes g =
-      room-front 0 codeWidth (needOf (g .call)) (sliceCodes g) (l .at) (left .at) (codeWidth * r .slices) (answer-accepted (λ _. l .at) (pruneNumber g l) _ (left .at) (holds .at) prune-zero)
-      (fit .codes ∙ ap (λ (k : ℕ). codeWidth * k) (sym n)) in
-      let shape : take (shapeWidth * r .slices) (left .shape) ≡ sliceShapes g =
-      room-front +0 shapeWidth (needOf (g .call)) (sliceShapes g) (l .shape) (left .shape) (shapeWidth * r .slices) (answer-accepted (λ _. l .shape) (pruneNumber g l) _ (left .shape) (holds .shape) prune-zero)
-      (fit .shapes ∙ ap (λ (k : ℕ). shapeWidth * k) (sym n)) in
+      let n = count-is in
+      let s : r .starts ≡ prunedOf g .starts = ap (λ (a : PruneAnswer). a .starts) given-is in
       let up = starts-ascend g in
       record {
         few = omega (arith, n, slices-few g, ready .few .first, ready .few .second, ready .few .laps);
-        fit = rw (at, shape, n) fit;
+        fit = rw (codes-are, shapes-are, n) fit;
         ascend =
             subst (λ (k : ℕ). startsFault (r .starts) k ≡ false) (sym n)
             (subst (λ (x : Starts). startsFault x (prunedOf g .slices) ≡ false) (sym s)
@@ -205,7 +250,7 @@ module _ (g : Given) (l : slice.Rooms) (r : PruneAnswer) (left : slice.Rooms) (h
 -- ---- `mask_stitch`
 
 -- a call in which nothing is out of order
-pub record StitchPass (g : stitch.Given) (x : Lists) : Type 0 where
+pub record StitchPass (g : stitch.Given) (e : Editions) (x : Lists) : Type 0 where
   pub whole1 : Whole (g .outline1) (g .vc1)
   pub whole2 : Whole (g .outline2) (g .vc2)
   pub numbers1 : allWithin (g .outline1) ≡ true
@@ -213,11 +258,12 @@ pub record StitchPass (g : stitch.Given) (x : Lists) : Type 0 where
   pub tolerance : tolerable (g .tolerance) ≡ true
   pub selector : g .selector ≤ 1
   pub slices : SlicesMade (g .vc1) (g .vc2) (g .slices) (g .starts) (g .sliceAt) (g .slice)
+  pub matched : Matched g e
   pub long : Long g x
 
-pub stitch-passes : (g : stitch.Given) (x : Lists) → StitchPass g x → stitchNumber g x ≡ 0
-unfolding stitchRefusal
-stitch-passes g x p =
+pub stitch-passes : (g : stitch.Given) (e : Editions) (x : Lists) → StitchPass g e x → stitchNumber g e x ≡ 0
+unfolding baseRefusal
+stitch-passes g e x p =
     let listed = stitched.listPart g in
     let coded = stitched.codePart g in
     let numbered = stitched.numberPart g in
@@ -244,7 +290,8 @@ stitch-passes g x p =
     let indexes : Clear indexed = (told-no (a .starts), (told-no (a .reaches), (s .ascend, tt))) in
     let rooms : Clear lent =
     (le-ltb _ _ (p .long .room), (le-ltb _ _ (p .long .ends), (le-ltb _ _ (p .long .chain), (le-ltb _ _ (p .long .chainEnds), (le-ltb _ _ (p .long .chainHow), tt))))) in
-    none-clear (shapeRows g ++ lent)
+    base-number g e (stitched.lengthsOf x) (p .matched)
+    ∙ none-clear (shapeRows g ++ lent)
     (clear-both (shapeRows g) lent
     (clear-both listed (coded ++ (numbered ++ indexed)) lists (clear-both coded (numbered ++ indexed) codes (clear-both numbered indexed numbers indexes)))
     rooms)

@@ -18,7 +18,8 @@ use Rattle.view_entries.specs.ViewVertices.{viewVerticesRows, viewVerticesRefus
 use Rattle.view_entries.specs.CreateEntry.{createRows, createRefusal}
 use Rattle.view_entries.specs.SingleEntry.{singleRows, singleRefusal}
 use Rattle.view_entries.specs.EntireEntry.{entireRows, entireRefusal}
-use Rattle.verdict_entries.specs.ValidateEntry.{validateRows, validateRefusal}
+use Rattle.verdict_entries.specs.ValidateEntry.{askRows, askRefusal, validateRows, validateRefusal}
+use Rattle.unmoved_entries.specs.UnmovedEntry.{unmovedRows, unmovedRefusal}
 use Rattle.cut.specs.Cuts as cuts
 use Rattle.cut_entries.specs.CutRows.{listRows, valueRows, indexRows}
 use Rattle.cut_entries.specs.CutOrder.{cutInputRows, cutOrderRows, cutOrderRefusal}
@@ -29,7 +30,8 @@ use Rattle.prune_entries.specs.PruneEntry.{inputRows, lentRows, pruneRefusal}
 use Rattle.stitch_run.specs.Stitch as stitch
 use Rattle.stitch_entries.specs.declared.faults.Lengths.{Lengths}
 use Rattle.stitch_entries.specs.StitchEntry as stitched
-use Rattle.stitch_entries.specs.StitchEntry.{shapeRows, roomPart, stitchRefusal}
+use Rattle.slice.specs.Editions.{Editions}
+use Rattle.stitch_entries.specs.StitchEntry.{stitchRows, stitchRefusal}
 use Rattle.area_entries.specs.AreaEntry.{areaRows, areaRefusal}
 use Rattle.straight_entries.specs.WindingEntry.{windingRows, windingRefusal}
 use Rattle.straight_entries.specs.AreaEntry as straight
@@ -58,9 +60,18 @@ pub entire-first : (o : List Float) (vc closed : ℕ) → First (entireRows o vc
 unfolding entireRefusal before refusalOrder
 entire-first o vc closed = first-of (entireRows o vc closed) tt
 
-pub validate-first : (o : List Float) (vc : ℕ) (v : View) (startOn endOn : ℕ) → First (validateRows o vc v startOn endOn) (validateRefusal o vc v startOn endOn)
+pub validate-first : (o : List Float) (vc edition : ℕ) (v : View) (viewEdition startOn endOn : ℕ)
+    → First (validateRows o vc edition v viewEdition startOn endOn) (validateRefusal o vc edition v viewEdition startOn endOn)
 unfolding validateRefusal before refusalOrder
-validate-first o vc v startOn endOn = first-of (validateRows o vc v startOn endOn) tt
+validate-first o vc edition v viewEdition startOn endOn = first-of (validateRows o vc edition v viewEdition startOn endOn) tt
+
+pub reopen-first : (o : List Float) (vc : ℕ) (v : View) (startOn endOn : ℕ) → First (askRows o vc v startOn endOn) (askRefusal o vc v startOn endOn)
+unfolding askRefusal before refusalOrder
+reopen-first o vc v startOn endOn = first-of (askRows o vc v startOn endOn) tt
+
+pub unmoved-first : (o1 : List Float) (vc1 : ℕ) (o2 : List Float) (vc2 : ℕ) (v : View) → First (unmovedRows o1 vc1 o2 vc2 v) (unmovedRefusal o1 vc1 o2 vc2 v)
+unfolding unmovedRefusal before refusalOrder
+unmoved-first o1 vc1 o2 vc2 v = first-of (unmovedRows o1 vc1 o2 vc2 v) tt
 
 pub order-first : (g : cuts.Given) (numbers points : ℕ) → First (cutOrderRows g numbers points) (cutOrderRefusal g numbers points)
 unfolding cutOrderRefusal cutInputRows listRows valueRows indexRows before refusalOrder
@@ -70,13 +81,13 @@ pub candidates-first : (g : cuts.Given) (splits : List Float) (lent : candidate.
 unfolding candidatesRefusal listRows laterRows valueRows indexRows before refusalOrder
 candidates-first g splits lent = first-of (candidatesRows g splits lent) tt
 
-pub prune-first : (g : Prune.Given) (at slice : ℕ) → First (inputRows g ++ lentRows g at slice) (pruneRefusal g at slice)
+pub prune-first : (g : Prune.Given) (at slice edition : ℕ) → First (inputRows g ++ lentRows g at slice edition) (pruneRefusal g at slice edition)
 unfolding pruneRefusal inputRows before refusalOrder
-prune-first g at slice = first-of (inputRows g ++ lentRows g at slice) tt
+prune-first g at slice edition = first-of (inputRows g ++ lentRows g at slice edition) tt
 
-pub stitch-first : (g : stitch.Given) (l : Lengths) → First (shapeRows g ++ roomPart g l) (stitchRefusal g l)
+pub stitch-first : (g : stitch.Given) (e : Editions) (l : Lengths) → First (stitchRows g e l) (stitchRefusal g e l)
 unfolding stitchRefusal before refusalOrder
-stitch-first g l = first-of (shapeRows g ++ roomPart g l) tt
+stitch-first g e l = first-of (stitchRows g e l) tt
 
 pub area-first : (areas : List Float) (loops : ℕ) (limit : Float) (kept : ℕ) → First (areaRows areas loops limit kept) (areaRefusal areas loops limit kept)
 unfolding areaRefusal before refusalOrder

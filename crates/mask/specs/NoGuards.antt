@@ -17,10 +17,11 @@ use Rattle.view.specs.Create.{viewOf}
 use Rattle.cut.specs.Cuts.{Given, cutCount}
 use Rattle.candidate.specs.declared.at_cut.Candidate.the-variants.{Slice}
 use Rattle.candidate.specs.Candidates.{segmentAt, hasCut, traverseOf, pieceOf}
-use Rattle.candidate.specs.Ready.{Rooms, Sound}
+use Rattle.candidate.specs.Ready.{Sound}
 use Rattle.candidate_write.specs.CandidateTheorems.{Reaches, walk-reaches, piece-view}
-use Rattle.candidate_entries.specs.Candidates.{alongCuts, lengths, Sliced}
+use Rattle.candidate_entries.specs.Candidates.{alongCuts, Lent, lengths, Sliced}
 use Rattle.candidate_entries.specs.CandidatesLaws.{along, along-sound}
+use Rattle.slice.specs.Editions.{Editions}
 use Rattle.stitch_run.specs.Stitch as stitch
 use Rattle.stitch.specs.Lent.{Lists}
 use Rattle.stitch_entries.specs.declared.answer.StitchAnswer.{StitchAnswer}
@@ -31,9 +32,9 @@ use Rattle.mask.specs.Accept.{made-pass}
 
 -- ---- a walk: "the segment where a walk began has a cut"
 
-module _ (g : Given) (splits : List Float) (l : Rooms) (r : CountAnswer) (left : Rooms) (holds : Sliced g splits l r left) (accepted : r .refusal ≡ 0) where
+module _ (g : Given) (splits : List Float) (edition : ℕ) (l : Lent) (r : CountAnswer) (left : Lent) (holds : Sliced g splits edition l r left) (accepted : r .refusal ≡ 0) where
   sound : Sound (alongCuts g splits)
-  sound = along-sound g splits (along g splits (lengths l) (made-pass g splits l r left holds accepted))
+  sound = along-sound g splits (along g splits (lengths l) (made-pass g splits edition l r left holds accepted))
 
   -- From every cut of an accepted call a walk goes 1 to vc segments on, to a segment that has a cut: at most once round.
   pub walk-once-round : (p : ℕ) → p < cutCount g
@@ -53,8 +54,8 @@ each-within n [] h = tt
 each-within n (c ∷ l) h = let e = length-append c (flatten l) in (omega (arith, e), each-within n l (omega (arith, e)))
 
 -- The chains that an accepted stitch of n slices lists hold each slice once (`stitch-demand`), and a round lists one slice: so no chain takes more than n rounds.
-module _ (g : stitch.Given) (x : Lists) (r : StitchAnswer) (left : Lists) (holds : StitchLeft g x r left) (accepted : r .refusal ≡ 0) where
+module _ (g : stitch.Given) (e : Editions) (x : Lists) (r : StitchAnswer) (left : Lists) (holds : StitchLeft g e x r left) (accepted : r .refusal ≡ 0) where
   pub rounds-at-most : All (λ c. length c ≤ g .slices) (chainsIn (r .chains) left)
   rounds-at-most =
-      let d = stitch-demand g x r left holds accepted in
+      let d = stitch-demand g e x r left holds accepted in
       each-within (g .slices) (chainsIn (r .chains) left) (le-of-eq (ap length (d .whole) ∙ d .permutation .size))

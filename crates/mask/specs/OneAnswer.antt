@@ -14,18 +14,22 @@ use Rattle.view_entries.specs.declared.input.Split.{Split}
 use Rattle.view_entries.specs.declared.answer.VertexAnswer.{VertexAnswer}
 use Rattle.view_entries.specs.declared.answer.ViewAnswer.{ViewAnswer}
 use Rattle.verdict_entries.specs.declared.answer.VerdictAnswer.{VerdictAnswer}
+use Rattle.verdict_entries.specs.declared.answer.ReopenAnswer.{ReopenAnswer}
+use Rattle.unmoved_entries.specs.declared.answer.UnmovedAnswer.{UnmovedAnswer}
 use Rattle.view_entries.specs.ViewVertex.{viewVertexAnswer}
 use Rattle.view_entries.specs.ViewVertices.{VerticesLeft}
 use Rattle.view_entries.specs.CreateEntry.{createAnswer}
 use Rattle.view_entries.specs.SingleEntry.{singleAnswer}
 use Rattle.view_entries.specs.EntireEntry.{entireAnswer}
 use Rattle.verdict_entries.specs.ValidateEntry.{validateAnswer}
+use Rattle.verdict_entries.specs.ReopenEntry.{reopenAnswer}
+use Rattle.unmoved_entries.specs.UnmovedEntry.{unmovedAnswer}
 use Rattle.cut.specs.Cuts as cuts
-use Rattle.candidate.specs.Ready as slices
 use Rattle.basis.specs.declared.answer.CountAnswer.{CountAnswer}
 use Rattle.cut_entries.specs.CutOrder.{CutOrdered}
-use Rattle.candidate_entries.specs.Candidates.{Sliced}
+use Rattle.candidate_entries.specs.Candidates.{Lent, Sliced}
 use Rattle.slice.specs.Ready as slice
+use Rattle.slice.specs.Editions.{Editions}
 use Rattle.prune.specs.Prune.{Given}
 use Rattle.prune_entries.specs.declared.answer.PruneAnswer.{PruneAnswer}
 use Rattle.prune_entries.specs.PruneEntry.{PruneLeft}
@@ -63,28 +67,45 @@ single-one o vc start first end t r s e f = one-answer r s (singleAnswer o vc st
 pub entire-one : (o : List Float) (vc closed : ℕ) (r s : ViewAnswer) → r ≡ entireAnswer o vc closed → s ≡ entireAnswer o vc closed → r ≡ s
 entire-one o vc closed r s e f = one-answer r s (entireAnswer o vc closed) e f
 
-pub validate-one : (o : List Float) (vc : ℕ) (v : View) (startOn endOn : ℕ) (r s : VerdictAnswer) → r ≡ validateAnswer o vc v startOn endOn → s ≡ validateAnswer o vc v startOn endOn → r ≡ s
-validate-one o vc v startOn endOn r s e f = one-answer r s (validateAnswer o vc v startOn endOn) e f
+pub validate-one : (o : List Float) (vc edition : ℕ) (v : View) (viewEdition startOn endOn : ℕ) (r s : VerdictAnswer)
+    → r ≡ validateAnswer o vc edition v viewEdition startOn endOn → s ≡ validateAnswer o vc edition v viewEdition startOn endOn → r ≡ s
+validate-one o vc edition v viewEdition startOn endOn r s e f = one-answer r s (validateAnswer o vc edition v viewEdition startOn endOn) e f
+
+pub reopen-one : (o : List Float) (vc edition : ℕ) (v : View) (viewEdition startOn endOn : ℕ) (r s : ReopenAnswer)
+    → r ≡ reopenAnswer o vc edition v viewEdition startOn endOn → s ≡ reopenAnswer o vc edition v viewEdition startOn endOn → r ≡ s
+reopen-one o vc edition v viewEdition startOn endOn r s e f = one-answer r s (reopenAnswer o vc edition v viewEdition startOn endOn) e f
+
+pub unmoved-one : (o1 : List Float) (vc1 : ℕ) (o2 : List Float) (vc2 : ℕ) (v : View) (r s : UnmovedAnswer) → r ≡ unmovedAnswer o1 vc1 o2 vc2 v → s ≡ unmovedAnswer o1 vc1 o2 vc2 v → r ≡ s
+unmoved-one o1 vc1 o2 vc2 v r s e f = one-answer r s (unmovedAnswer o1 vc1 o2 vc2 v) e f
 
 pub order-one : (g : cuts.Given) (cutAt : List ℕ) (cut : List Float) (r s : CountAnswer) (a b : List ℕ) (p q : List Float)
     → CutOrdered g cutAt cut r a p → CutOrdered g cutAt cut s b q → (r ≡ s) × (a ≡ b) × (p ≡ q)
 order-one g cutAt cut r s a b p q x y =
     (one-answer r s _ (x .answers) (y .answers), one-answer a b _ (x .numbers) (y .numbers), one-answer p q _ (x .points) (y .points))
 
-pub candidates-one : (g : cuts.Given) (splits : List Float) (l : slices.Rooms) (r s : CountAnswer) (a b : slices.Rooms)
-    → Sliced g splits l r a → Sliced g splits l s b → (r ≡ s) × (a .at ≡ b .at) × (a .cand ≡ b .cand) × (a .probe ≡ b .probe)
-candidates-one g splits l r s a b x y =
-    (one-answer r s _ (x .answers) (y .answers), one-answer (a .at) (b .at) _ (x .at) (y .at), one-answer (a .cand) (b .cand) _ (x .cand) (y .cand), one-answer (a .probe) (b .probe) _ (x .probe) (y .probe))
+pub candidates-one : (g : cuts.Given) (splits : List Float) (edition : ℕ) (l : Lent) (r s : CountAnswer) (a b : Lent)
+    → Sliced g splits edition l r a → Sliced g splits edition l s b → (r ≡ s) × (a .at ≡ b .at) × (a .cand ≡ b .cand) × (a .probe ≡ b .probe) × (a .edition ≡ b .edition)
+candidates-one g splits edition l r s a b x y = (
+  one-answer r s _ (x .answers) (y .answers),
+  one-answer (a .at) (b .at) _ (x .at) (y .at),
+  one-answer (a .cand) (b .cand) _ (x .cand) (y .cand),
+  one-answer (a .probe) (b .probe) _ (x .probe) (y .probe),
+  one-answer (a .edition) (b .edition) _ (x .editions) (y .editions),
+)
 
 pub prune-one : (c : Given) (l : slice.Rooms) (r s : PruneAnswer) (a b : slice.Rooms)
-    → PruneLeft c l r a → PruneLeft c l s b → (r ≡ s) × (a .at ≡ b .at) × (a .shape ≡ b .shape)
-prune-one c l r s a b x y =
-    (one-answer r s _ (x .answers) (y .answers), one-answer (a .at) (b .at) _ (x .at) (y .at), one-answer (a .shape) (b .shape) _ (x .shape) (y .shape))
+    → PruneLeft c l r a → PruneLeft c l s b → (r ≡ s) × (a .at ≡ b .at) × (a .shape ≡ b .shape) × (a .edition ≡ b .edition)
+prune-one c l r s a b x y = (
+  one-answer r s _ (x .answers) (y .answers),
+  one-answer (a .at) (b .at) _ (x .at) (y .at),
+  one-answer (a .shape) (b .shape) _ (x .shape) (y .shape),
+  one-answer (a .edition) (b .edition) _ (x .edition) (y .edition),
+)
 
-pub stitch-one : (g : stitch.Given) (l : Lists) (r s : StitchAnswer) (a b : Lists)
-    → StitchLeft g l r a → StitchLeft g l s b
+pub stitch-one : (g : stitch.Given) (e : Editions) (l : Lists) (r s : StitchAnswer) (a b : Lists)
+    → StitchLeft g e l r a → StitchLeft g e l s b
     → (r ≡ s) × (a .room ≡ b .room) × (a .ends ≡ b .ends) × (a .chain ≡ b .chain) × (a .chainEnds ≡ b .chainEnds) × (a .chainHow ≡ b .chainHow)
-stitch-one g l r s a b x y = (
+stitch-one g e l r s a b x y = (
   one-answer r s _ (x .answers) (y .answers),
   one-answer (a .room) (b .room) _ (x .room) (y .room),
   one-answer (a .ends) (b .ends) _ (x .ends) (y .ends),

@@ -1,22 +1,22 @@
 -- The pipeline never refuses itself: what `mask_candidates` returns for both outlines, `mask_prune` accepts, and what `mask_prune` returns, `mask_stitch` accepts.
 -- Each call is taken by its contract, so this holds of the exported entries.
-use Prim.Native.Nat.{ℕ, _+_, _*_, _≤_}
+use Prim.Native.Nat.{ℕ, _+_, _*_, _≤_, _<_}
 use mathlib.Core.Bool.{Bool, true}
-use mathlib.Core.Path.{_≡_, ap, subst}
+use mathlib.Core.Path.{_≡_, refl, sym, ap, subst, _∙_}
 use mathlib.Core.List.{List}
-use lib.ListN.{length, take}
+use lib.ListN.{length, take, getD, replicate, length-replicate, getD-replicate}
 use lib.Ieee.{Float}
 use Rattle.basis.specs.Each.{placesBelow, placesAtMost, choicesKnown}
 use Rattle.basis.specs.RefuseLaws.{answer-accepted}
 use Rattle.outline.specs.Outline.{Whole}
 use Rattle.cut.specs.Cuts as cuts
 use Rattle.cut.specs.Cuts.{whichOf}
-use Rattle.candidate.specs.Ready as slices
 use Rattle.basis.specs.declared.answer.CountAnswer.{CountAnswer}
 use Rattle.cut_entries.specs.CutRowsLaws.{CutsPass, cuts-accepted}
-use Rattle.candidate_entries.specs.Candidates.{Sliced}
+use Rattle.candidate_entries.specs.Candidates.{Lent, Sliced}
 use Rattle.slice.specs.Slice.{codeWidth, shapeWidth}
 use Rattle.slice.specs.Ready as slice
+use Rattle.slice.specs.Editions.{Editions, editions}
 use Rattle.prune.specs.Prune.{Cands, Given, callOf, cands, overlaps, given, needOf}
 use Rattle.prune_entries.specs.declared.answer.PruneAnswer.{PruneAnswer}
 use Rattle.prune_entries.specs.Answers.{pruneRefused}
@@ -26,7 +26,8 @@ use Rattle.stitch.specs.Lent.{Lists, Long}
 use Rattle.stitch_entries.specs.declared.answer.StitchAnswer.{StitchAnswer}
 use Rattle.stitch_entries.specs.Answers.{stitchRefused}
 use Rattle.stitch_entries.specs.StitchEntry.{stitchNumber, StitchLeft}
-use Rattle.mask.specs.Accept.{made-pass, cands-made, CandsPass, LapsPass, prune-passes, slices-made, stitch-passes}
+use Rattle.stitch_entries.specs.Matching.{Matched}
+use Rattle.mask.specs.Accept.{made-pass, cands-made, cands-dated, CandsPass, LapsPass, prune-passes, slices-made, slices-dated, slices-matched, stitch-passes}
 
 -- ---- from the candidates to the slices
 
@@ -35,35 +36,45 @@ pub record Made (source : ℕ) : Type 0 where
   pub handed : cuts.Given
   pub of : handed .source ≡ source
   pub splits : List Float
-  pub lent : slices.Rooms
+  pub edition : ℕ
+  pub lent : Lent
   pub answer : CountAnswer
-  pub left : slices.Rooms
-  pub holds : Sliced handed splits lent answer left
+  pub left : Lent
+  pub holds : Sliced handed splits edition lent answer left
   pub accepted : answer .refusal ≡ 0
 
 -- what the host hands on: as many items as were counted, and its yes or no for each
 abbrev pub handOn : {source : ℕ} → Made source → List ℕ → Cands
-handOn m inside = cands (take (2 * m .answer .count) (m .left .at)) (take (shapeWidth * m .answer .count) (m .left .cand)) inside
+handOn m inside =
+    cands (take (2 * m .answer .count) (m .left .at)) (take (shapeWidth * m .answer .count) (m .left .cand)) (take (m .answer .count) (m .left .edition)) inside
 
 -- one yes or no for each candidate
 pub record Told (n : ℕ) (inside : List ℕ) : Type 0 where
   pub each : length inside ≡ n
   pub known : choicesKnown 1 0 inside ≡ true
 
+-- and beside each overlap the edition of outline 2, which its view is of
 abbrev pub pruneCall : Made 1 → Made 2 → ℕ → ℕ → List ℕ → List ℕ → Given
 pruneCall one two mode opposing inside1 inside2 =
     given (callOf mode opposing (one .handed .vc) (two .handed .vc) (one .answer .count) (two .answer .count) (one .handed .laps)) (handOn one inside1) (handOn two inside2)
-    (overlaps (one .handed .lapAt) (one .handed .lap))
+    (overlaps (one .handed .lapAt) (one .handed .lap) (replicate (one .handed .laps) (two .edition)))
 
 passed : {source : ℕ} (m : Made source) → CutsPass (m .handed)
-passed m = made-pass (m .handed) (m .splits) (m .lent) (m .answer) (m .left) (m .holds) (m .accepted) .cuts
+passed m = made-pass (m .handed) (m .splits) (m .edition) (m .lent) (m .answer) (m .left) (m .holds) (m .accepted) .cuts
 
 whole-of : {source : ℕ} (m : Made source) → Whole (m .handed .outline) (m .handed .vc)
 whole-of m = cuts-accepted (m .handed) (passed m) .ready .whole
 
+dated : {source : ℕ} (m : Made source) → take (m .answer .count) (m .left .edition) ≡ replicate (m .answer .count) (m .edition)
+dated m = cands-dated (m .handed) (m .splits) (m .edition) (m .lent) (m .answer) (m .left) (m .holds) (m .accepted)
+
+-- each candidate that is handed on has the edition that it was cut from
+dated-at : {source : ℕ} (m : Made source) (k : ℕ) → k < m .answer .count → getD (take (m .answer .count) (m .left .edition)) k 0 ≡ m .edition
+dated-at m k h = ap (λ (l : List ℕ). getD l k 0) (dated m) ∙ getD-replicate (m .answer .count) k (m .edition) 0 h
+
 cands-pass : {source : ℕ} (m : Made source) (inside : List ℕ) → Told (m .answer .count) inside → CandsPass (m .handed .vc) (m .answer .count) (handOn m inside)
 cands-pass m inside t =
-    record { made = cands-made (m .handed) (m .splits) (m .lent) (m .answer) (m .left) (m .holds) (m .accepted); told = t .each; known = t .known }
+    record { made = cands-made (m .handed) (m .splits) (m .edition) (m .lent) (m .answer) (m .left) (m .holds) (m .accepted); dated = ap length (dated m) ∙ length-replicate (m .answer .count) (m .edition); told = t .each; known = t .known }
 
 -- both calls had the same overlaps: each looked at their indexes on its own outline, and the second at their views
 module _ (one : Made 1) (two : Made 2) (same : two .handed .lapAt ≡ one .handed .lapAt) where
@@ -76,13 +87,13 @@ module _ (one : Made 1) (two : Made 2) (same : two .handed .lapAt ≡ one .hande
   of-first : (test : List ℕ → Bool) → test (two .handed .lapAt) ≡ true → test (one .handed .lapAt) ≡ true
   of-first test h = subst (λ (l : List ℕ). test l ≡ true) same h
 
-  laps-pass : LapsPass (one .handed .vc) (two .handed .vc) (one .handed .laps) (overlaps (one .handed .lapAt) (one .handed .lap))
+  laps-pass : LapsPass (one .handed .vc) (two .handed .vc) (one .handed .laps) (overlaps (one .handed .lapAt) (one .handed .lap) (replicate (one .handed .laps) (two .edition)))
   unfolding whichOf
   laps-pass =
       let p = passed one in
       let q = passed two in
       record {
-        fit = record { few = p .fewLaps; at = p .lapAtLength; shape = p .lapLength };
+        fit = record { few = p .fewLaps; at = p .lapAtLength; shape = p .lapLength; edition = length-replicate (one .handed .laps) (two .edition) };
         codes = p .opposing;
         starts1 = index-row one (λ n. n) (p .startsBelow);
         starts2 = of-first (placesBelow 7 1 (two .handed .vc)) (index-row two (λ n. n) (q .startsBelow));
@@ -124,9 +135,23 @@ module _ (one : Made 1) (two : Made 2) (same : two .handed .lapAt ≡ one .hande
       pub pruned : r .refusal ≡ 0
       pruned = ap (λ (a : PruneAnswer). a .refusal) (answer-accepted pruneRefused (pruneNumber call l) _ r (holds .answers) (prune-accepts l roomy))
 
-      pub stitch-accepts : (selector : ℕ) (x : Lists) → selector ≤ 1 → Long (stitchCall selector) x → stitchNumber (stitchCall selector) x ≡ 0
+      -- their editions, beside those of the two outlines
+      abbrev pub carried : ℕ → ℕ → Editions
+      carried first second = editions first second (take (r .slices) (left .edition))
+
+      -- the editions that the outlines had when they were cut match, whatever the outlines are by now
+      pub carried-match : (g : stitch.Given) → g .slices ≡ r .slices → g .sliceAt ≡ take (codeWidth * r .slices) (left .at) → Matched g (carried (one .edition) (two .edition))
+      carried-match g n at =
+          record {
+            each = slices-dated call l r left holds pruned ∙ sym n;
+            same =
+                rw at
+                (slices-matched call l r left holds pruned (one .edition) (two .edition) (dated-at one) (dated-at two) (λ j h. getD-replicate (one .handed .laps) j (two .edition) 0 h));
+          }
+
+      pub stitch-accepts : (selector : ℕ) (x : Lists) → selector ≤ 1 → Long (stitchCall selector) x → stitchNumber (stitchCall selector) (carried (one .edition) (two .edition)) x ≡ 0
       stitch-accepts selector x choice long =
-          stitch-passes (stitchCall selector) x
+          stitch-passes (stitchCall selector) (carried (one .edition) (two .edition)) x
           (record {
             whole1 = whole-of one;
             whole2 = whole-of two;
@@ -135,11 +160,12 @@ module _ (one : Made 1) (two : Made 2) (same : two .handed .lapAt ≡ one .hande
             tolerance = passed one .tolerance;
             selector = choice;
             slices = slices-made call l r left holds pruned;
+            matched = carried-match (stitchCall selector) refl refl;
             long = long;
           })
 
       -- so a host that goes by the needs never sees a refusal in the middle
-      pub never-refuses : (selector : ℕ) (x : Lists) (s : StitchAnswer) (y : Lists) → selector ≤ 1 → Long (stitchCall selector) x → StitchLeft (stitchCall selector) x s y
+      pub never-refuses : (selector : ℕ) (x : Lists) (s : StitchAnswer) (y : Lists) → selector ≤ 1 → Long (stitchCall selector) x → StitchLeft (stitchCall selector) (carried (one .edition) (two .edition)) x s y
           → (r .refusal ≡ 0) × (s .refusal ≡ 0)
       never-refuses selector x s y choice long kept =
-          (pruned, ap (λ (a : StitchAnswer). a .refusal) (answer-accepted stitchRefused (stitchNumber (stitchCall selector) x) _ s (kept .answers) (stitch-accepts selector x choice long)))
+          (pruned, ap (λ (a : StitchAnswer). a .refusal) (answer-accepted stitchRefused (stitchNumber (stitchCall selector) (carried (one .edition) (two .edition)) x) _ s (kept .answers) (stitch-accepts selector x choice long)))

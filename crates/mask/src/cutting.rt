@@ -1,9 +1,8 @@
 // Cuts and candidates.
 ghost use Rattle.basis.specs.Number.{toleranceOf};
 ghost use Rattle.cut.specs.Cuts.{given, caseOf};
-ghost use Rattle.candidate.specs.Ready.{rooms};
 ghost use Rattle.cut_entries.specs.CutOrder.{CutOrdered};
-ghost use Rattle.candidate_entries.specs.Candidates.{Sliced};
+ghost use Rattle.candidate_entries.specs.Candidates.{lent, Sliced};
 use basis::answer::CountAnswer;
 
 // The cuts of the outline that the source names, in their order: segment, overlap mark, number of arrival and point of each.
@@ -43,10 +42,12 @@ pub extern "C" fn mask_cut_order(
 }
 
 // The candidates of the outline that the source names: the pieces between neighbouring cuts, and the walks from a segment's last cut to the next segment that has one.
+// Beside each stands the outline's edition.
 #[no_mangle]
 pub extern "C" fn mask_candidates(
     outline: &[f64],
     vc: usize,
+    edition: u32,
     source: u32,
     hit_at: &[usize],
     hit: &[f64],
@@ -60,12 +61,14 @@ pub extern "C" fn mask_candidates(
     cand_at: &mut [usize],
     cand: &mut [f64],
     probe: &mut [f64],
+    cand_edition: &mut [u32],
 ) -> CountAnswer
-    ensures { λ r. ⌜ Sliced (given (now (outline .entry)) (now («hit_at» .entry)) (now (hit .entry)) (now («lap_at» .entry)) (now (lap .entry)) (caseOf vc source hits laps (toleranceOf «tolerance_x» «tolerance_y»))) (now (splits .entry)) (rooms (now («cand_at» .entry)) (now (cand .entry)) (now (probe .entry))) r (rooms (now («cand_at» .exit)) (now (cand .exit)) (now (probe .exit))) ⌝ }
+    ensures { λ r. ⌜ Sliced (given (now (outline .entry)) (now («hit_at» .entry)) (now (hit .entry)) (now («lap_at» .entry)) (now (lap .entry)) (caseOf vc source hits laps (toleranceOf «tolerance_x» «tolerance_y»))) (now (splits .entry)) edition (lent (now («cand_at» .entry)) (now (cand .entry)) (now (probe .entry)) (now («cand_edition» .entry))) r (lent (now («cand_at» .exit)) (now (cand .exit)) (now (probe .exit)) (now («cand_edition» .exit))) ⌝ }
 {
     candidate_entries::slicing::entry(
         outline,
         vc,
+        edition,
         source,
         hit_at,
         hit,
@@ -79,5 +82,6 @@ pub extern "C" fn mask_candidates(
         cand_at,
         cand,
         probe,
+        cand_edition,
     )
 }

@@ -3,5 +3,6 @@ pub mod cutting;
 pub mod keeping;
 pub mod measuring;
 pub mod pruning;
+pub mod reopening;
 pub mod stitching;
 pub mod viewing;

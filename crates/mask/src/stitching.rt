@@ -1,5 +1,6 @@
 // The stitch and the area pass.
 ghost use Rattle.basis.specs.Number.{toleranceOf};
+ghost use Rattle.slice.specs.Editions.{editions};
 ghost use Rattle.stitch_run.specs.Stitch.{given, planOf};
 ghost use Rattle.stitch.specs.Lent.{lists};
 ghost use Rattle.stitch_entries.specs.StitchEntry.{StitchLeft};
@@ -7,15 +8,18 @@ ghost use Rattle.area_entries.specs.AreaEntry.{AreaLeft};
 use basis::answer::CountAnswer;
 use stitch_entries::answer::StitchAnswer;
 
-// The slices stitched into closed loops.
+// The slices stitched into closed loops. Each slice must have the edition of its outline.
 #[no_mangle]
 pub extern "C" fn mask_stitch(
     outline1: &[f64],
     vc1: usize,
+    edition1: u32,
     outline2: &[f64],
     vc2: usize,
+    edition2: u32,
     slice_at: &[usize],
     slice: &[f64],
+    slice_edition: &[u32],
     slices: usize,
     pline2: usize,
     pline1_overlapping: usize,
@@ -29,15 +33,18 @@ pub extern "C" fn mask_stitch(
     chain_ends: &mut [usize],
     chain_how: &mut [usize],
 ) -> StitchAnswer
-    ensures { λ r. ⌜ StitchLeft (given (now (outline1 .entry)) (now (outline2 .entry)) (now («slice_at» .entry)) (now (slice .entry)) (planOf vc1 vc2 slices (record { pline2 = pline2; «pline1_overlapping» = «pline1_overlapping»; «pline2_overlapping» = «pline2_overlapping» }) selector (toleranceOf «tolerance_x» «tolerance_y»))) (lists (now (room .entry)) (now (ends .entry)) (now (chain .entry)) (now («chain_ends» .entry)) (now («chain_how» .entry))) r (lists (now (room .exit)) (now (ends .exit)) (now (chain .exit)) (now («chain_ends» .exit)) (now («chain_how» .exit))) ⌝ }
+    ensures { λ r. ⌜ StitchLeft (given (now (outline1 .entry)) (now (outline2 .entry)) (now («slice_at» .entry)) (now (slice .entry)) (planOf vc1 vc2 slices (record { pline2 = pline2; «pline1_overlapping» = «pline1_overlapping»; «pline2_overlapping» = «pline2_overlapping» }) selector (toleranceOf «tolerance_x» «tolerance_y»))) (editions edition1 edition2 (now («slice_edition» .entry))) (lists (now (room .entry)) (now (ends .entry)) (now (chain .entry)) (now («chain_ends» .entry)) (now («chain_how» .entry))) r (lists (now (room .exit)) (now (ends .exit)) (now (chain .exit)) (now («chain_ends» .exit)) (now («chain_how» .exit))) ⌝ }
 {
     stitch_entries::stitching::entry(
         outline1,
         vc1,
+        edition1,
         outline2,
         vc2,
+        edition2,
         slice_at,
         slice,
+        slice_edition,
         slices,
         pline2,
         pline1_overlapping,

@@ -105,16 +105,26 @@ pub extern "C" fn mask_from_entire_pline(outline: &[f64], vc: usize, closed: u32
     view_entries::entire::entry(outline, vc, closed)
 }
 
-// The verdict on view data over an outline, with the host's answers whether the start and the end lie on their segments.
+// The verdict on view data over an outline, with the host's answers whether the start and the end lie on their segments. The view is one of the outline's edition.
 #[no_mangle]
 pub extern "C" fn mask_validate_for_source(
     outline: &[f64],
     vc: usize,
+    edition: u32,
     view: View,
+    view_edition: u32,
     start_on_segment: u32,
     end_on_segment: u32,
 ) -> VerdictAnswer
-    ensures { λ r. ⌜ r ≡ validateAnswer (now (outline .entry)) vc view «start_on_segment» «end_on_segment» ⌝ }
+    ensures { λ r. ⌜ r ≡ validateAnswer (now (outline .entry)) vc edition view «view_edition» «start_on_segment» «end_on_segment» ⌝ }
 {
-    verdict_entries::validate::entry(outline, vc, view, start_on_segment, end_on_segment)
+    verdict_entries::validate::entry(
+        outline,
+        vc,
+        edition,
+        view,
+        view_edition,
+        start_on_segment,
+        end_on_segment,
+    )
 }

@@ -6,7 +6,7 @@ use lib.ListN.{length, getD}
 use lib.Dec.{eqb}
 use lib.Ieee.{Float}
 use Rattle.slice.specs.declared.data.Codes.{Codes}
-use Rattle.slice.specs.Slice.{Slice, sliceOf, shapeAt, codesOf, shapeOf}
+use Rattle.slice.specs.Slice.{Slice, sliceOf, shapeAt, codesOf, shapeOf, editionsOf}
 use Rattle.prune.specs.declared.call.Call.{Call}
 use Rattle.prune.specs.declared.mode.Wanted.{Wanted}
 use Rattle.prune.specs.declared.mode.Part.{Part}
@@ -16,22 +16,24 @@ use Rattle.prune.specs.declared.counts.Pruned.{Pruned}
 
 -- ---- what is there
 
--- the candidates of one outline: start and offset, the six numbers, the host's yes/no "inside the other outline" of each
+-- the candidates of one outline: start and offset, the six numbers, the edition it was cut from, the host's yes/no "inside the other outline" of each
 pub record Cands : Type 0 where
   pub at : List ℕ
   pub shape : List Float
+  pub edition : List ℕ
   pub inside : List ℕ
 
-abbrev pub cands : List ℕ → List Float → List ℕ → Cands
-cands at shape inside = record { at = at; shape = shape; inside = inside }
+abbrev pub cands : List ℕ → List Float → List ℕ → List ℕ → Cands
+cands at shape edition inside = record { at = at; shape = shape; edition = edition; inside = inside }
 
--- the joined overlaps
+-- the joined overlaps, each with the edition of outline 2 that it was found on
 pub record Overlaps : Type 0 where
   pub at : List ℕ
   pub shape : List Float
+  pub edition : List ℕ
 
-abbrev pub overlaps : List ℕ → List Float → Overlaps
-overlaps at shape = record { at = at; shape = shape }
+abbrev pub overlaps : List ℕ → List Float → List ℕ → Overlaps
+overlaps at shape edition = record { at = at; shape = shape; edition = edition }
 
 -- a call: its numbers, the candidates of outline 1 and of outline 2, the overlaps
 pub record Given : Type 0 where
@@ -83,14 +85,14 @@ partsOf mode own = let w = wantedOf mode in record { first = firstPart w own; se
 abbrev pub partsFor : Call → Parts
 partsFor c = partsOf (c .mode) (eqb (c .opposing) 1)
 
--- ---- the slices that they become
+-- ---- the slices that they become. K3: "pruning copies" the edition
 
 -- candidate number k
 unfoldable pub candCodes : List ℕ → Part → ℕ → Codes
 candCodes at p k = record { source = p .source; inverted = p .inverted; start = getD at (2 * k) 0; offset = getD at (2 * k + 1) 0 }
 
 abbrev pub candSlice : Cands → Part → ℕ → Slice
-candSlice c p k = sliceOf (candCodes (c .at) p k) (shapeAt (c .shape) k)
+candSlice c p k = sliceOf (candCodes (c .at) p k) (shapeAt (c .shape) k) (getD (c .edition) k 0)
 
 -- overlap number j: for 1 "inverted if opposing", for 2 "not inverted"
 unfoldable pub lapInverted : List ℕ → Bool → ℕ → ℕ
@@ -102,7 +104,7 @@ lapCodes at first j =
     record { source = 2; inverted = lapInverted at first j; start = getD at (7 * j + 5) 0; offset = getD at (7 * j + 6) 0 }
 
 abbrev pub lapSlice : Overlaps → Bool → ℕ → Slice
-lapSlice l first j = sliceOf (lapCodes (l .at) first j) (shapeAt (l .shape) j)
+lapSlice l first j = sliceOf (lapCodes (l .at) first j) (shapeAt (l .shape) j) (getD (l .edition) j 0)
 
 -- ---- the list: "kept of 1, kept of 2, overlaps for 1 [..], overlaps for 2"
 
@@ -144,9 +146,12 @@ prunedOf g =
     let c = b + length (lapsFor true g) in
     prunedAt (record { first = a; second = b }) (record { first = c; second = c + length (lapsFor false g) })
 
--- the two lists that go out
+-- the three lists that go out
 abbrev pub sliceCodes : Given → List ℕ
 sliceCodes g = flatMap codesOf (slicesOf g)
 
 abbrev pub sliceShapes : Given → List Float
 sliceShapes g = flatMap shapeOf (slicesOf g)
+
+abbrev pub sliceEditions : Given → List ℕ
+sliceEditions g = editionsOf (slicesOf g)

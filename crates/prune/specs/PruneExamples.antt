@@ -8,7 +8,7 @@ use lib.IntN.{pos}
 use Rattle.basis.specs.Number.{+0}
 use Rattle.slice.specs.Slice.{shapeAt}
 use Rattle.prune.specs.declared.counts.Pruned.{Pruned}
-use Rattle.prune.specs.Prune.{Cands, Given, given, callOf, cands, overlaps, candCodes, lapCodes, lapInverted, keptTo, lapsTo, wantedOf, turnedOf, firstPart, secondPart, partsOf, slicesOf, prunedAt, prunedOf, sliceCodes, sliceShapes}
+use Rattle.prune.specs.Prune.{Cands, Given, given, callOf, cands, overlaps, candCodes, lapCodes, lapInverted, keptTo, lapsTo, wantedOf, turnedOf, firstPart, secondPart, partsOf, slicesOf, prunedAt, prunedOf, sliceCodes, sliceShapes, sliceEditions}
 
 abbrev whole : ℕ → Float
 whole n = fin false n (pos 0)
@@ -19,14 +19,14 @@ fromTo x y u v l = whole x ∷ whole y ∷ +0 ∷ +0 ∷ whole u ∷ whole v ∷
 
 -- A's candidates (T1), the first inside B; B's (T2), the second inside A
 abbrev a : Cands
-a = cands (1 ∷ 1 ∷ 2 ∷ 3 ∷ []) (fromTo 4 2 2 4 (fromTo 2 4 4 2 [])) (1 ∷ 0 ∷ [])
+a = cands (1 ∷ 1 ∷ 2 ∷ 3 ∷ []) (fromTo 4 2 2 4 (fromTo 2 4 4 2 [])) (7 ∷ 7 ∷ []) (1 ∷ 0 ∷ [])
 
 abbrev b : Cands
-b = cands (0 ∷ 3 ∷ 3 ∷ 1 ∷ []) (fromTo 4 2 2 4 (fromTo 2 4 4 2 [])) (0 ∷ 1 ∷ [])
+b = cands (0 ∷ 3 ∷ 3 ∷ 1 ∷ []) (fromTo 4 2 2 4 (fromTo 2 4 4 2 [])) (8 ∷ 8 ∷ []) (0 ∷ 1 ∷ [])
 
 -- the outlines run in the same direction, and do not overlap
 abbrev squares : ℕ → Given
-squares mode = given (callOf mode 0 4 4 2 2 0) a b (overlaps [] [])
+squares mode = given (callOf mode 0 4 4 2 2 0) a b (overlaps [] [] [])
 
 abbrev answer : ℕ → ℕ → ℕ → ℕ → Pruned
 answer n i j k = record { slices = n; starts = record { pline2 = i; «pline1_overlapping» = j; «pline2_overlapping» = k } }
@@ -43,6 +43,11 @@ t3-codes = refl
 pub t3-shapes : sliceShapes (squares 0) ≡ fromTo 2 4 4 2 (fromTo 4 2 2 4 [])
 unfolding shapeAt slicesOf keptTo lapsTo partsOf firstPart secondPart wantedOf turnedOf candCodes flatMap
 t3-shapes = refl
+
+-- A was cut in edition 7, B in edition 8
+pub t3-editions : sliceEditions (squares 0) ≡ 7 ∷ 8 ∷ []
+unfolding slicesOf keptTo lapsTo partsOf firstPart secondPart wantedOf turnedOf
+t3-editions = refl
 
 -- T4, Intersection: what is inside the other
 pub t4-codes : sliceCodes (squares 1) ≡ 1 ∷ 0 ∷ 1 ∷ 1 ∷ 2 ∷ 0 ∷ 3 ∷ 1 ∷ []
@@ -65,7 +70,7 @@ second-minus-first = refl
 
 -- no candidates and one opposing overlap, view from index 5 with offset 6: for 1 it is inverted, for 2 it is not, and both are of outline 2
 abbrev lapped : Given
-lapped = given (callOf 0 1 8 8 0 0 1) (cands [] [] []) (cands [] [] []) (overlaps (0 ∷ 1 ∷ 2 ∷ 3 ∷ 1 ∷ 5 ∷ 6 ∷ []) (fromTo 4 2 2 4 []))
+lapped = given (callOf 0 1 8 8 0 0 1) (cands [] [] [] []) (cands [] [] [] []) (overlaps (0 ∷ 1 ∷ 2 ∷ 3 ∷ 1 ∷ 5 ∷ 6 ∷ []) (fromTo 4 2 2 4 []) (8 ∷ []))
 
 pub lap-answer : prunedOf lapped ≡ answer 2 0 0 1
 unfolding prunedOf prunedAt keptTo lapsTo partsOf firstPart secondPart wantedOf turnedOf lapCodes
@@ -74,3 +79,8 @@ lap-answer = refl
 pub lap-codes : sliceCodes lapped ≡ 2 ∷ 1 ∷ 5 ∷ 6 ∷ 2 ∷ 0 ∷ 5 ∷ 6 ∷ []
 unfolding slicesOf keptTo lapsTo partsOf firstPart secondPart wantedOf turnedOf lapCodes lapInverted flatMap
 lap-codes = refl
+
+-- both have the overlap's edition
+pub lap-editions : sliceEditions lapped ≡ 8 ∷ 8 ∷ []
+unfolding slicesOf keptTo lapsTo partsOf firstPart secondPart wantedOf turnedOf
+lap-editions = refl

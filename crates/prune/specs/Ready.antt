@@ -19,6 +19,7 @@ pub record CandsFit (c : Cands) (n : ℕ) : Type 0 where
   pub few : n ≤ mostCandidates
   pub at : length (c .at) ≡ 2 * n
   pub shape : length (c .shape) ≡ shapeWidth * n
+  pub edition : length (c .edition) ≡ n
   pub inside : length (c .inside) ≡ n
 
 -- those of n overlaps
@@ -26,6 +27,7 @@ pub record OverlapsFit (l : Overlaps) (n : ℕ) : Type 0 where
   pub few : n ≤ mostLaps
   pub at : length (l .at) ≡ 7 * n
   pub shape : length (l .shape) ≡ shapeWidth * n
+  pub edition : length (l .edition) ≡ n
 
 -- a candidate, an overlap, that the list has
 pub record CandFit (at : List ℕ) (k : ℕ) : Type 0 where

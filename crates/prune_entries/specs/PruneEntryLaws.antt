@@ -11,23 +11,25 @@ use Rattle.basis.specs.RefuseLaws.{Clear, clear, clear-left, clear-right, first
 use Rattle.slice.specs.Slice.{shapeWidth}
 use Rattle.slice.specs.Ready.{Countable, Rooms}
 use Rattle.prune.specs.declared.counts.Pruned.{Pruned}
-use Rattle.slice.specs.Faults.{roomRows}
 use Rattle.prune.specs.Prune.{Cands, Given, needOf}
 use Rattle.prune.specs.Ready.{Few, CandsFit, OverlapsFit}
 use Rattle.prune_write.specs.Ready.{Ready, Written}
 use Rattle.prune_write.specs.PruneTheorems.{cands-sound, overlaps-sound}
 use Rattle.prune_entries.specs.declared.answer.PruneAnswer.{PruneAnswer}
 use Rattle.prune_entries.specs.Answers.{pruneRefused, pruneGiven}
+use Rattle.prune_entries.specs.PruneRows.{roomRows}
 use Rattle.prune_entries.specs.PruneEntry.{candsRows, lapsRows, codesRows, numbersRows, startsRows, reachesRows, inputRows, lentRows, pruneRefusal, pruneNumber, PruneLeft, Sound}
 
 -- ---- the candidates of one outline
 cands-fit : (c : Cands) (count : ℕ) → Clear (candsRows c count) → CandsFit c count
 cands-fit c count ok =
-    let n : length (c .inside) ≡ 1 * count = length-ok 1 (length (c .inside)) count (ok .1 .1 .0) in
+    let n : length (c .inside) ≡ 1 * count = length-ok 1 (length (c .inside)) count (ok .1 .1 .1 .0) in
+    let e : length (c .edition) ≡ 1 * count = length-ok 1 (length (c .edition)) count (ok .1 .1 .0) in
     record {
-      few = ltb-false mostCandidates count (ok .1 .1 .1 .0);
+      few = ltb-false mostCandidates count (ok .1 .1 .1 .1 .0);
       at = length-ok 2 (length (c .at)) count (ok .0);
       shape = length-ok shapeWidth (length (c .shape)) count (ok .1 .0);
+      edition = omega arith;
       inside = omega arith;
     }
 
@@ -60,9 +62,10 @@ parts g input =
       second = cands-fit (g .second) (g .call .count2) (clear-left (candsRows (g .second) (g .call .count2)) laps a);
       laps =
           record {
-            few = ltb-false mostLaps (g .call .laps) (o .1 .1 .0);
+            few = ltb-false mostLaps (g .call .laps) (o .1 .1 .1 .0);
             at = length-ok 7 (length (g .laps .at)) (g .call .laps) (o .0);
             shape = length-ok shapeWidth (length (g .laps .shape)) (g .call .laps) (o .1 .0);
+            edition = let e = length-ok 1 (length (g .laps .edition)) (g .call .laps) (o .1 .1 .0) in omega (arith, e);
           };
       codes = clear-left (codesRows g) from5 d;
       numbers = clear-left (numbersRows g) from6 f;
@@ -84,31 +87,31 @@ module _ (g : Given) (r : ℕ) (e : r ≡ firstFrom 0 (inputRows g)) where
   input-countable need z n = let f = input-few z in record { few = omega (arith, f .first, f .second, f .laps) }
 
   -- a number that was found stays
-  pub input-found : (at slice : ℕ) → (r ≡ 0 → ⊥) → r ≡ pruneRefusal g at slice
+  pub input-found : (at slice edition : ℕ) → (r ≡ 0 → ⊥) → r ≡ pruneRefusal g at slice edition
   unfolding pruneRefusal inputRows
-  input-found at slice h =
-      first-from (inputRows g ++ lentRows g at slice) r tt (then-rows r r 0 (inputRows g) (lentRows g at slice) (stays r h) e)
+  input-found at slice edition h =
+      first-from (inputRows g ++ lentRows g at slice edition) r tt (then-rows r r 0 (inputRows g) (lentRows g at slice edition) (stays r h) e)
     where
-      stays : (n : ℕ) → (n ≡ 0 → ⊥) → n ≡ firstFrom n (lentRows g at slice)
+      stays : (n : ℕ) → (n ≡ 0 → ⊥) → n ≡ firstFrom n (lentRows g at slice edition)
       stays zero h = absurd (h refl)
-      stays (suc n) h = sym (found-stays n (lentRows g at slice))
+      stays (suc n) h = sym (found-stays n (lentRows g at slice edition))
 
   -- else what is lent decides
-  pub lent-found : (at slice n : ℕ) → r ≡ 0 → n ≡ firstFrom 0 (lentRows g at slice) → n ≡ pruneRefusal g at slice
+  pub lent-found : (at slice edition n : ℕ) → r ≡ 0 → n ≡ firstFrom 0 (lentRows g at slice edition) → n ≡ pruneRefusal g at slice edition
   unfolding pruneRefusal inputRows
-  lent-found at slice n z q =
-      first-from (inputRows g ++ lentRows g at slice) n tt
-      (then-rows n r 0 (inputRows g) (lentRows g at slice) (subst (λ (k : ℕ). n ≡ firstFrom k (lentRows g at slice)) (sym z) q) e)
+  lent-found at slice edition n z q =
+      first-from (inputRows g ++ lentRows g at slice edition) n tt
+      (then-rows n r 0 (inputRows g) (lentRows g at slice edition) (subst (λ (k : ℕ). n ≡ firstFrom k (lentRows g at slice edition)) (sym z) q) e)
 
 -- ---- acceptance
 module _ (g : Given) (l : Rooms) (number : ℕ) where
-  all-clear : number ≡ pruneNumber g l → number ≡ 0 → Clear (inputRows g ++ lentRows g (length (l .at)) (length (l .shape)))
+  all-clear : number ≡ pruneNumber g l → number ≡ 0 → Clear (inputRows g ++ lentRows g (length (l .at)) (length (l .shape)) (length (l .edition)))
   unfolding pruneRefusal inputRows
-  all-clear e z = clear (inputRows g ++ lentRows g (length (l .at)) (length (l .shape))) tt (sym e ∙ z)
+  all-clear e z = clear (inputRows g ++ lentRows g (length (l .at)) (length (l .shape)) (length (l .edition))) tt (sym e ∙ z)
 
   pub prune-accepted : number ≡ pruneNumber g l → number ≡ 0 → Ready g l
   prune-accepted e z =
-      let lent = lentRows g (length (l .at)) (length (l .shape)) in
+      let lent = lentRows g (length (l .at)) (length (l .shape)) (length (l .edition)) in
       let all = all-clear e z in
       let p = parts g (clear-left (inputRows g) lent all) in
       let room : Clear lent = clear-right (inputRows g) lent all in
@@ -119,14 +122,14 @@ module _ (g : Given) (l : Rooms) (number : ℕ) where
         first = p .first;
         second = p .second;
         laps = p .laps;
-        roomy = record { at = ltb-false _ _ (room .0); shape = ltb-false _ _ (room .1 .0) };
+        roomy = record { at = ltb-false _ _ (room .0); shape = ltb-false _ _ (room .1 .0); edition = ltb-false _ _ (room .1 .1 .0) };
       }
 
   -- what later theorems start from: every slice that comes of an accepted call is one that a stitch accepts
   pub prune-sound : number ≡ pruneNumber g l → number ≡ 0 → Sound g
   prune-sound e z =
       let c = g .call in
-      let p = parts g (clear-left (inputRows g) (lentRows g (length (l .at)) (length (l .shape))) (all-clear e z)) in
+      let p = parts g (clear-left (inputRows g) (lentRows g (length (l .at)) (length (l .shape)) (length (l .edition))) (all-clear e z)) in
       let n = p .numbers in
       let s = p .starts in
       let r = p .reaches in
@@ -144,6 +147,7 @@ module _ (g : Given) (l : Rooms) (number : ℕ) where
         answers = answer-no pruneRefused number _ _ r e h q;
         at = answer-no (λ _. l .at) number _ _ (l .at) e h refl;
         shape = answer-no (λ _. l .shape) number _ _ (l .shape) e h refl;
+        edition = answer-no (λ _. l .edition) number _ _ (l .edition) e h refl;
       }
 
   left-given : (p : Pruned) (r : PruneAnswer) (left : Rooms) → number ≡ pruneNumber g l → number ≡ 0 → Written g l p left → r ≡ pruneGiven p → PruneLeft g l r left
@@ -152,17 +156,18 @@ module _ (g : Given) (l : Rooms) (number : ℕ) where
         answers = answer-yes pruneRefused number _ _ r e z (q ∙ ap (λ (x : Pruned). pruneGiven x) (w .answer));
         at = answer-yes (λ _. l .at) number _ _ (left .at) e z (w .at);
         shape = answer-yes (λ _. l .shape) number _ _ (left .shape) e z (w .shape);
+        edition = answer-yes (λ _. l .edition) number _ _ (left .edition) e z (w .edition);
       }
 
 -- ---- the ways through the entry: what is handed in is refused
 pub input-refused : (g : Given) (l : Rooms) (found : ℕ) (r : PruneAnswer) → found ≡ firstFrom 0 (inputRows g) → (found ≡ 0 → ⊥) → r ≡ pruneRefused found → PruneLeft g l r l
-input-refused g l found r e h q = left-refused g l found r (input-found g found e (length (l .at)) (length (l .shape)) h) h q
+input-refused g l found r e h q = left-refused g l found r (input-found g found e (length (l .at)) (length (l .shape)) (length (l .edition)) h) h q
 
 -- it is not, and the need was worked out
 module _ (g : Given) (l : Rooms) (found need number : ℕ) (e : found ≡ firstFrom 0 (inputRows g)) (z : found ≡ 0) (n : need ≡ needOf (g .call))
-    (f : number ≡ firstFrom 0 (roomRows need (length (l .at)) (length (l .shape)))) where
+    (f : number ≡ firstFrom 0 (roomRows need (length (l .at)) (length (l .shape)) (length (l .edition)))) where
   is-number : number ≡ pruneNumber g l
-  is-number = lent-found g found e (length (l .at)) (length (l .shape)) number z (rw n at f)
+  is-number = lent-found g found e (length (l .at)) (length (l .shape)) (length (l .edition)) number z (rw n at f)
 
   pub lent-refused : (r : PruneAnswer) → (number ≡ 0 → ⊥) → r ≡ pruneRefused number → PruneLeft g l r l
   lent-refused r h q = left-refused g l number r is-number h q

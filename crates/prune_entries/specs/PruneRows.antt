@@ -1,7 +1,7 @@
 -- The refusals of `mask_prune`: a table in parts.
 use Prim.Native.Nat.{ℕ}
 use mathlib.Core.Bool.{Bool, not}
-use mathlib.Core.List.{List, [], _∷_}
+use mathlib.Core.List.{List, [], _∷_, _++_}
 use lib.Dec.{ltb}
 use lib.Ieee.{Float}
 use Rattle.basis.specs.Sizes.{mostCandidates, mostLaps}
@@ -9,21 +9,24 @@ use Rattle.basis.specs.Number.{allWithin}
 use Rattle.basis.specs.Each.{placesBelow, placesAtMost, choicesKnown}
 use Rattle.basis.specs.Refuse.{Row, row, lengthFault, sizeFault, choiceFault}
 use Rattle.slice.specs.Slice.{shapeWidth}
+use Rattle.slice.specs.Faults as slices
+use Rattle.slice.specs.Editions.{editionRoomRows}
 use Rattle.prune.specs.declared.call.Call.{Call}
 
 -- 1: "a list's length disagrees with its count, or a count other than an outline's vertices is above its most". Of the candidates of one outline
-abbrev pub candListRows : ℕ → ℕ → ℕ → ℕ → List Row
-candListRows at shape inside count =
+abbrev pub candListRows : ℕ → ℕ → ℕ → ℕ → ℕ → List Row
+candListRows at shape edition inside count =
     row (lengthFault 2 at count) 1
     ∷ row (lengthFault shapeWidth shape count) 1
+    ∷ row (lengthFault 1 edition count) 1
     ∷ row (lengthFault 1 inside count) 1
     ∷ row (ltb mostCandidates count) 1
     ∷ []
 
 -- of the overlaps
-abbrev pub lapListRows : ℕ → ℕ → ℕ → List Row
-lapListRows at shape laps =
-    row (lengthFault 7 at laps) 1 ∷ row (lengthFault shapeWidth shape laps) 1 ∷ row (ltb mostLaps laps) 1 ∷ []
+abbrev pub lapListRows : ℕ → ℕ → ℕ → ℕ → List Row
+lapListRows at shape edition laps =
+    row (lengthFault 7 at laps) 1 ∷ row (lengthFault shapeWidth shape laps) 1 ∷ row (lengthFault 1 edition laps) 1 ∷ row (ltb mostLaps laps) 1 ∷ []
 
 -- a mode is 0 to 3
 abbrev pub modeFault : ℕ → Bool
@@ -62,3 +65,7 @@ startRows c candAt1 candAt2 lapAt =
 abbrev pub reachRows : Call → List ℕ → List ℕ → List ℕ → List Row
 reachRows c candAt1 candAt2 lapAt =
     row (not (placesAtMost 2 1 (c .vc1) candAt1)) 7 ∷ row (not (placesAtMost 2 1 (c .vc2) candAt2)) 7 ∷ row (not (placesAtMost 7 6 (c .vc2) lapAt)) 7 ∷ []
+
+-- 9: a lent list has no room for so many slices
+abbrev pub roomRows : ℕ → ℕ → ℕ → ℕ → List Row
+roomRows need at slice edition = slices.roomRows need at slice ++ editionRoomRows need edition

@@ -1,7 +1,8 @@
 // The refusals of `mask_prune`, part by part of their table. Each part goes on from what was found so far.
 ghost use mathlib.Core.Path.{_≡_};
 ghost use Rattle.basis.specs.Refuse.{firstFrom};
-ghost use Rattle.prune_entries.specs.PruneRows.{candListRows, lapListRows, codeRows, numberRows, startRows, reachRows};
+ghost use Rattle.prune_entries.specs.PruneRows.{candListRows, lapListRows, codeRows, numberRows, startRows, reachRows, roomRows};
+ghost use Rattle.slice.specs.Ready.{Countable};
 use basis::items;
 use basis::number;
 use basis::refuse;
@@ -9,25 +10,35 @@ use basis::sizes::MOST_CANDIDATES;
 use basis::sizes::MOST_LAPS;
 use prune::call::Call;
 use slice::data::SHAPE_WIDTH;
+use slice::edition as editions;
 
 const MOST_MODE: u32 = 3;
 
 // Number 1, of the candidates of one outline: the lengths of their lists, and their count.
-pub(crate) fn cand_list_refusal(r: u32, at: usize, cand: usize, inside: usize, count: usize) -> u32
-    ensures { λ n. ⌜ n ≡ firstFrom r (candListRows at cand inside count) ⌝ }
+pub(crate) fn cand_list_refusal(
+    r: u32,
+    at: usize,
+    cand: usize,
+    edition: usize,
+    inside: usize,
+    count: usize,
+) -> u32
+    ensures { λ n. ⌜ n ≡ firstFrom r (candListRows at cand edition inside count) ⌝ }
 {
     let r = refuse::or_else(r, refuse::bad_length(at, 2, count), 1);
     let r = refuse::or_else(r, refuse::bad_length(cand, SHAPE_WIDTH, count), 1);
+    let r = refuse::or_else(r, refuse::bad_length(edition, 1, count), 1);
     let r = refuse::or_else(r, refuse::bad_length(inside, 1, count), 1);
     refuse::or_else(r, MOST_CANDIDATES < count, 1)
 }
 
 // Number 1, of the overlaps.
-pub(crate) fn lap_list_refusal(r: u32, at: usize, lap: usize, laps: usize) -> u32
-    ensures { λ n. ⌜ n ≡ firstFrom r (lapListRows at lap laps) ⌝ }
+pub(crate) fn lap_list_refusal(r: u32, at: usize, lap: usize, edition: usize, laps: usize) -> u32
+    ensures { λ n. ⌜ n ≡ firstFrom r (lapListRows at lap edition laps) ⌝ }
 {
     let r = refuse::or_else(r, refuse::bad_length(at, 7, laps), 1);
     let r = refuse::or_else(r, refuse::bad_length(lap, SHAPE_WIDTH, laps), 1);
+    let r = refuse::or_else(r, refuse::bad_length(edition, 1, laps), 1);
     refuse::or_else(r, MOST_LAPS < laps, 1)
 }
 
@@ -85,4 +96,13 @@ pub(crate) fn reach_refusal(
     let r = refuse::or_else(r, !items::all_at_most(cand_at1, 2, 1, c.vc1), 7);
     let r = refuse::or_else(r, !items::all_at_most(cand_at2, 2, 1, c.vc2), 7);
     refuse::or_else(r, !items::all_at_most(lap_at, 7, 6, c.vc2), 7)
+}
+
+// Number 9: the three lists are too short for so many slices.
+pub(crate) fn lent_refusal(need: usize, at: usize, slice: usize, edition: usize) -> u32
+    requires { ⌜ Countable need ⌝ }
+    ensures { λ n. ⌜ n ≡ firstFrom 0 (roomRows need at slice edition) ⌝ }
+{
+    let r = slice::faults::room_refusal(0, need, at, slice);
+    editions::room_refusal(r, need, edition)
 }

@@ -15,18 +15,35 @@ fn input_refusal(
     c: Call,
     cand_at1: &[usize],
     cand1: &[f64],
+    cand_edition1: &[u32],
     inside1: &[u8],
     cand_at2: &[usize],
     cand2: &[f64],
+    cand_edition2: &[u32],
     inside2: &[u8],
     lap_at: &[usize],
     lap: &[f64],
+    lap_edition: &[u32],
 ) -> u32
-    ensures { λ n. ⌜ n ≡ firstFrom 0 (inputRows (given c (cands (now («cand_at1» .entry)) (now (cand1 .entry)) (now (inside1 .entry))) (cands (now («cand_at2» .entry)) (now (cand2 .entry)) (now (inside2 .entry))) (overlaps (now («lap_at» .entry)) (now (lap .entry))))) ⌝ }
+    ensures { λ n. ⌜ n ≡ firstFrom 0 (inputRows (given c (cands (now («cand_at1» .entry)) (now (cand1 .entry)) (now («cand_edition1» .entry)) (now (inside1 .entry))) (cands (now («cand_at2» .entry)) (now (cand2 .entry)) (now («cand_edition2» .entry)) (now (inside2 .entry))) (overlaps (now («lap_at» .entry)) (now (lap .entry)) (now («lap_edition» .entry))))) ⌝ }
 {
-    let r = faults::cand_list_refusal(0, cand_at1.len(), cand1.len(), inside1.len(), c.count1);
-    let r = faults::cand_list_refusal(r, cand_at2.len(), cand2.len(), inside2.len(), c.count2);
-    let r = faults::lap_list_refusal(r, lap_at.len(), lap.len(), c.laps);
+    let r = faults::cand_list_refusal(
+        0,
+        cand_at1.len(),
+        cand1.len(),
+        cand_edition1.len(),
+        inside1.len(),
+        c.count1,
+    );
+    let r = faults::cand_list_refusal(
+        r,
+        cand_at2.len(),
+        cand2.len(),
+        cand_edition2.len(),
+        inside2.len(),
+        c.count2,
+    );
+    let r = faults::lap_list_refusal(r, lap_at.len(), lap.len(), lap_edition.len(), c.laps);
     let r = faults::code_refusal(r, c, inside1, inside2, lap_at);
     let r = faults::number_refusal(r, cand1, cand2, lap);
     let r = faults::start_refusal(r, c, cand_at1, cand_at2, lap_at);
@@ -38,33 +55,40 @@ pub fn entry(
     c: Call,
     cand_at1: &[usize],
     cand1: &[f64],
+    cand_edition1: &[u32],
     inside1: &[u8],
     cand_at2: &[usize],
     cand2: &[f64],
+    cand_edition2: &[u32],
     inside2: &[u8],
     lap_at: &[usize],
     lap: &[f64],
+    lap_edition: &[u32],
     slice_at: &mut [usize],
     slice: &mut [f64],
+    slice_edition: &mut [u32],
 ) -> PruneAnswer
-    ensures { λ r. ⌜ PruneLeft (given c (cands (now («cand_at1» .entry)) (now (cand1 .entry)) (now (inside1 .entry))) (cands (now («cand_at2» .entry)) (now (cand2 .entry)) (now (inside2 .entry))) (overlaps (now («lap_at» .entry)) (now (lap .entry)))) (rooms (now («slice_at» .entry)) (now (slice .entry))) r (rooms (now («slice_at» .exit)) (now (slice .exit))) ⌝ }
+    ensures { λ r. ⌜ PruneLeft (given c (cands (now («cand_at1» .entry)) (now (cand1 .entry)) (now («cand_edition1» .entry)) (now (inside1 .entry))) (cands (now («cand_at2» .entry)) (now (cand2 .entry)) (now («cand_edition2» .entry)) (now (inside2 .entry))) (overlaps (now («lap_at» .entry)) (now (lap .entry)) (now («lap_edition» .entry)))) (rooms (now («slice_at» .entry)) (now (slice .entry)) (now («slice_edition» .entry))) r (rooms (now («slice_at» .exit)) (now (slice .exit)) (now («slice_edition» .exit))) ⌝ }
 {
     let found = input_refusal(
         c,
         cand_at1,
         cand1,
+        cand_edition1,
         inside1,
         cand_at2,
         cand2,
+        cand_edition2,
         inside2,
         lap_at,
         lap,
+        lap_edition,
     );
     if found != 0 {
         return answer::prune_refused(found);
     }
     let need = call::need_of(c);
-    let found = slice::faults::room_refusal(0, need, slice_at.len(), slice.len());
+    let found = faults::lent_refusal(need, slice_at.len(), slice.len(), slice_edition.len());
     if found != 0 {
         return answer::prune_refused(found);
     }
@@ -72,12 +96,24 @@ pub fn entry(
         c,
         cand_at1,
         cand1,
+        cand_edition1,
         inside1,
         cand_at2,
         cand2,
+        cand_edition2,
         inside2,
         slice_at,
         slice,
+        slice_edition,
     );
-    answer::prune_given(write::finish(c, kept, lap_at, lap, slice_at, slice))
+    answer::prune_given(write::finish(
+        c,
+        kept,
+        lap_at,
+        lap,
+        lap_edition,
+        slice_at,
+        slice,
+        slice_edition,
+    ))
 }

@@ -16,9 +16,10 @@ use Rattle.basis.specs.Refuse.{sourceFault, countFor}
 use Rattle.slice.specs.Slice.{Slice}
 use Rattle.slice.specs.Faults.{sourceKnown, startInside, offsetInside}
 use Rattle.slice.specs.Sound.{SliceSound, Accepted}
-use Rattle.slice.specs.SoundLaws.{shape-within, sound-accepted}
+use Rattle.slice.specs.SoundLaws.{shape-within, sound-accepted, editions-match}
+use Rattle.slice.specs.Editions.{editions, editionOf, editionFault}
 use Rattle.prune.specs.declared.mode.Part.{Part}
-use Rattle.prune.specs.Prune.{Cands, Overlaps, Given, candCodes, candSlice, lapCodes, lapInverted, lapSlice, keptTo, lapsTo, wantedOf, turnedOf, firstPart, secondPart, partsOf, partsFor, keptFirst, keptSecond, lapsFor, slicesOf, needOf, prunedAt, prunedOf, sliceCodes, sliceShapes}
+use Rattle.prune.specs.Prune.{Cands, Overlaps, Given, candCodes, candSlice, lapCodes, lapInverted, lapSlice, keptTo, lapsTo, wantedOf, turnedOf, firstPart, secondPart, partsOf, partsFor, keptFirst, keptSecond, lapsFor, slicesOf, needOf, prunedAt, prunedOf, sliceCodes, sliceShapes, sliceEditions}
 use Rattle.prune.specs.Ready.{CandsFit, OverlapsFit}
 use Rattle.prune.specs.Sound.{CandsSound, OverlapsSound}
 use Rattle.prune_write.specs.WriteLaws.{kept-few, laps-all}
@@ -75,6 +76,33 @@ overlaps-sound vc n o f a p q w =
       size = f .shape;
     }
 
+-- what holds of each candidate and each overlap as a slice holds of every slice
+module _ (P : Slice → Type 0) where
+  kept-each : (c : Cands) (p : Part) (n : ℕ) → ((k : ℕ) → k < n → P (candSlice c p k)) → All P (keptTo c p n)
+  unfolding keptTo
+  kept-each c p zero h = tt
+  kept-each c p (suc k) h =
+      all-both P (keptTo c p k) (cond (eqb (getD (c .inside) k 0) (p .keep)) (candSlice c p k ∷ []) []) (kept-each c p k (λ i b. h i (omega arith)))
+      (go (eqb (getD (c .inside) k 0) (p .keep)))
+    where
+      go : (b : Bool) → All P (cond b (candSlice c p k ∷ []) [])
+      go true = (h k (omega arith), tt)
+      go false = tt
+
+  laps-each : (o : Overlaps) (first : Bool) (n : ℕ) → ((j : ℕ) → j < n → P (lapSlice o first j)) → All P (lapsTo o first n)
+  unfolding lapsTo
+  laps-each o first zero h = tt
+  laps-each o first (suc j) h = all-snoc P (lapsTo o first j) (lapSlice o first j) (laps-each o first j (λ i b. h i (omega arith))) (h j (omega arith))
+
+  slices-each : (g : Given) → ((k : ℕ) → k < g .call .count1 → P (candSlice (g .first) (partsFor (g .call) .first) k))
+      → ((k : ℕ) → k < g .call .count2 → P (candSlice (g .second) (partsFor (g .call) .second) k))
+      → ((first : Bool) (j : ℕ) → j < g .call .laps → P (lapSlice (g .laps) first j)) → All P (slicesOf g)
+  unfolding slicesOf
+  slices-each g a b c =
+      all-both P (keptFirst g) (keptSecond g ++ (lapsFor true g ++ lapsFor false g)) (kept-each (g .first) (partsFor (g .call) .first) (g .call .count1) a)
+      (all-both P (keptSecond g) (lapsFor true g ++ lapsFor false g) (kept-each (g .second) (partsFor (g .call) .second) (g .call .count2) b)
+      (all-both P (lapsFor true g) (lapsFor false g) (laps-each (g .laps) true (g .call .laps) (c true)) (laps-each (g .laps) false (g .call .laps) (c false))))
+
 module _ (vc1 vc2 vc n : ℕ) (p : Part) (source : sourceFault (p .source) ≡ false) (turned : p .inverted ≤ 1) (own : vc ≡ countFor vc1 vc2 (p .source)) (c : Cands) (sound : CandsSound vc n c) where
   cand-sound : (k : ℕ) → k < n → SliceSound vc1 vc2 (candSlice c p k)
   unfolding candCodes sourceKnown startInside offsetInside
@@ -86,17 +114,6 @@ module _ (vc1 vc2 vc n : ℕ) (p : Part) (source : sourceFault (p .source) ≡ f
         reaches = le-leb _ _ (rw own at (sound .reaches k h));
         numbers = shape-within (c .shape) n k (sound .numbers) (sound .size) h;
       }
-
-  kept-sound : (k : ℕ) → k ≤ n → All (SliceSound vc1 vc2) (keptTo c p k)
-  unfolding keptTo
-  kept-sound zero h = tt
-  kept-sound (suc k) h =
-      all-both (SliceSound vc1 vc2) (keptTo c p k) (cond (eqb (getD (c .inside) k 0) (p .keep)) (candSlice c p k ∷ []) []) (kept-sound k (omega arith))
-      (go (eqb (getD (c .inside) k 0) (p .keep)))
-    where
-      go : (b : Bool) → All (SliceSound vc1 vc2) (cond b (candSlice c p k ∷ []) [])
-      go true = (cand-sound k (omega arith), tt)
-      go false = tt
 
 module _ (vc1 vc2 n : ℕ) (o : Overlaps) (sound : OverlapsSound vc2 n o) (first : Bool) where
   lap-turned : (j : ℕ) → j < n → lapInverted (o .at) first j ≤ 1
@@ -118,11 +135,6 @@ module _ (vc1 vc2 n : ℕ) (o : Overlaps) (sound : OverlapsSound vc2 n o) (first
         numbers = shape-within (o .shape) n j (sound .numbers) (sound .size) h;
       }
 
-  laps-sound : (j : ℕ) → j ≤ n → All (SliceSound vc1 vc2) (lapsTo o first j)
-  unfolding lapsTo
-  laps-sound zero h = tt
-  laps-sound (suc j) h = all-snoc (SliceSound vc1 vc2) (lapsTo o first j) (lapSlice o first j) (laps-sound j (omega arith)) (lap-sound j (omega arith))
-
 turned-code : (wanted own : Bool) → turnedOf wanted own ≤ 1
 unfolding turnedOf
 turned-code true true = omega arith
@@ -133,21 +145,27 @@ turned-code false false = omega arith
 -- every slice is sound where the candidates and the overlaps are
 pub slices-sound : (g : Given) → CandsSound (g .call .vc1) (g .call .count1) (g .first) → CandsSound (g .call .vc2) (g .call .count2) (g .second)
     → OverlapsSound (g .call .vc2) (g .call .laps) (g .laps) → All (SliceSound (g .call .vc1) (g .call .vc2)) (slicesOf g)
-unfolding slicesOf partsOf firstPart secondPart sourceFault
+unfolding partsOf firstPart secondPart sourceFault
 slices-sound g first second laps =
     let c = g .call in
     let w = wantedOf (c .mode) in
     let own = eqb (c .opposing) 1 in
-    let P : Slice → Type 0 = SliceSound (c .vc1) (c .vc2) in
-    all-both P (keptFirst g) (keptSecond g ++ (lapsFor true g ++ lapsFor false g))
-    (kept-sound (c .vc1) (c .vc2) (c .vc1) (c .count1) (firstPart w own) refl (turned-code (w .opposing) own) refl (g .first) first (c .count1) (omega arith))
-    (all-both P (keptSecond g) (lapsFor true g ++ lapsFor false g)
-    (kept-sound (c .vc1) (c .vc2) (c .vc2) (c .count2) (secondPart w) refl (omega arith) refl (g .second) second (c .count2) (omega arith))
-    (all-both P (lapsFor true g) (lapsFor false g)
-    (laps-sound (c .vc1) (c .vc2) (c .laps) (g .laps) laps true (c .laps) (omega arith))
-    (laps-sound (c .vc1) (c .vc2) (c .laps) (g .laps) laps false (c .laps) (omega arith))))
+    slices-each (SliceSound (c .vc1) (c .vc2)) g
+    (cand-sound (c .vc1) (c .vc2) (c .vc1) (c .count1) (firstPart w own) refl (turned-code (w .opposing) own) refl (g .first) first)
+    (cand-sound (c .vc1) (c .vc2) (c .vc2) (c .count2) (secondPart w) refl (omega arith) refl (g .second) second)
+    (lap-sound (c .vc1) (c .vc2) (c .laps) (g .laps) laps)
 
 -- so a stitch accepts the lists that go out
 pub stitch-accepts : (g : Given) → CandsSound (g .call .vc1) (g .call .count1) (g .first) → CandsSound (g .call .vc2) (g .call .count2) (g .second)
     → OverlapsSound (g .call .vc2) (g .call .laps) (g .laps) → Accepted (g .call .vc1) (g .call .vc2) (prunedOf g .slices) (sliceCodes g) (sliceShapes g)
 stitch-accepts g first second laps = rw (slices-counted g) (sound-accepted (g .call .vc1) (g .call .vc2) (slicesOf g) (slices-sound g first second laps))
+
+-- ---- editions
+
+-- Where every candidate has its outline's edition, and every overlap outline 2's, every slice has that of its source: 14 does not apply to the lists that go out.
+pub editions-carried : (first second : ℕ) (g : Given) → ((k : ℕ) → k < g .call .count1 → getD (g .first .edition) k 0 ≡ first)
+    → ((k : ℕ) → k < g .call .count2 → getD (g .second .edition) k 0 ≡ second) → ((j : ℕ) → j < g .call .laps → getD (g .laps .edition) j 0 ≡ second)
+    → editionFault (editions first second (sliceEditions g)) (sliceCodes g) ≡ false
+unfolding candCodes lapCodes partsOf firstPart secondPart
+editions-carried first second g a b c =
+    editions-match first second (slicesOf g) (slices-each (λ s. s .edition ≡ editionOf first second (s .codes .source)) g a b (λ x j h. c j h))

@@ -13,7 +13,7 @@ use Rattle.slice.specs.Ready.{ShapeThere, Rooms, Roomy, PutFit, Placed}
 use Rattle.prune.specs.declared.call.Call.{Call}
 use Rattle.prune.specs.declared.counts.Ends.{Ends}
 use Rattle.prune.specs.declared.counts.Pruned.{Pruned}
-use Rattle.prune.specs.Prune.{Cands, Overlaps, Given, keptTo, lapsTo, partsFor, sliceCodes, sliceShapes, needOf, prunedAt, prunedOf}
+use Rattle.prune.specs.Prune.{Cands, Overlaps, Given, keptTo, lapsTo, partsFor, sliceCodes, sliceShapes, sliceEditions, needOf, prunedAt, prunedOf}
 use Rattle.prune.specs.Ready.{Few, CandsFit, OverlapsFit}
 
 -- all lists fit their counts, with a mode that is known and room for the need
@@ -25,18 +25,20 @@ pub record Ready (g : Given) (l : Rooms) : Type 0 where
   pub laps : OverlapsFit (g .laps) (g .call .laps)
   pub roomy : Roomy (needOf (g .call)) l
 
--- the answer, and both lists by the room rule
+-- the answer, and the three lists by the room rule
 pub record Written (g : Given) (l : Rooms) (r : Pruned) (l′ : Rooms) : Type 0 where
   pub answer : r ≡ prunedOf g
   pub at : l′ .at ≡ roomOf 0 codeWidth (needOf (g .call)) (sliceCodes g) (l .at)
   pub shape : l′ .shape ≡ roomOf +0 shapeWidth (needOf (g .call)) (sliceShapes g) (l .shape)
+  pub edition : l′ .edition ≡ roomOf 0 1 (needOf (g .call)) (sliceEditions g) (l .edition)
 
 -- ---- one part behind the other
 
--- an item of w codes and a shape that the lists have, and room for slice number n
-pub record ItemFit (w : ℕ) (at : List ℕ) (shape : List Float) (k : ℕ) (l : Rooms) (n : ℕ) : Type 0 where
+-- an item of w codes, a shape and an edition that the lists have, and room for slice number n
+pub record ItemFit (w : ℕ) (at : List ℕ) (shape : List Float) (edition : List ℕ) (k : ℕ) (l : Rooms) (n : ℕ) : Type 0 where
   pub codes : w * k + w ≤ length at
   pub shape-there : ShapeThere shape k
+  pub edition-there : k < length edition
   pub put : PutFit l n
 
 -- these slices were written from number m up to r, of at most that many items; the lists are as long as before
@@ -45,6 +47,7 @@ pub record Wrote (s : List Slice) (most : ℕ) (l : Rooms) (m r : ℕ) (l′ : R
   pub few : r ≤ m + most
   pub size-at : length (l′ .at) ≡ length (l .at)
   pub size-shape : length (l′ .shape) ≡ length (l .shape)
+  pub size-edition : length (l′ .edition) ≡ length (l .edition)
 
 -- one outline's candidates, from slice number m on; there are at most those of both outlines and the overlaps twice
 pub record KeepFit (c : Cands) (n : ℕ) (l : Rooms) (m : ℕ) : Type 0 where
@@ -91,6 +94,7 @@ pub record ClearFit (l : Rooms) (n need : ℕ) : Type 0 where
 pub record Cleared (l : Rooms) (n need : ℕ) (l′ : Rooms) : Type 0 where
   pub at : l′ .at ≡ cleared 0 (codeWidth * n) (codeWidth * need) (l .at)
   pub shape : l′ .shape ≡ cleared +0 (shapeWidth * n) (shapeWidth * need) (l .shape)
+  pub edition : l′ .edition ≡ cleared 0 n need (l .edition)
 
 -- the kept of both outlines end there, and there is room for the overlaps twice within the need
 pub record FinishFit (call : Call) (kept : Ends) (o : Overlaps) (l : Rooms) : Type 0 where

@@ -7,7 +7,7 @@ use native.Mathlib.Nat.{zero-add}
 use native.Mathlib.Numerals.{add-one}
 use native.Mathlib.Omega.{arith}
 use lib.Dec.{eqb}
-use lib.ListN.{length, getD, drop, length-append}
+use lib.ListN.{length, getD, drop, length-append, length-map}
 use lib.Seq.{sets}
 use borrow.Author.Tests.{eq-eqb, ne-eqb}
 use Rattle.basis.specs.Number.{+0}
@@ -17,18 +17,18 @@ use Rattle.slice.specs.declared.data.Codes.{Codes}
 use Rattle.slice.specs.declared.data.Shape.{Shape}
 use Rattle.slice.specs.Slice.{codeWidth, shapeWidth, Slice, sliceOf}
 use Rattle.slice.specs.Ready.{Rooms, Placed}
-use Rattle.slice.specs.PutLaws.{codes-length, shapes-length, placed-none, placed-then, placed-at, placed-shape}
+use Rattle.slice.specs.PutLaws.{codes-length, shapes-length, placed-none, placed-then, placed-at, placed-shape, placed-edition}
 use Rattle.prune.specs.declared.call.Call.{Call}
 use Rattle.prune.specs.declared.mode.Part.{Part}
 use Rattle.prune.specs.declared.mode.Parts.{Parts}
 use Rattle.prune.specs.declared.counts.Ends.{Ends}
 use Rattle.prune.specs.declared.counts.Pruned.{Pruned}
-use Rattle.prune.specs.Prune.{Cands, Overlaps, Given, given, candSlice, lapSlice, keptTo, lapsTo, partsFor, keptFirst, keptSecond, lapsFor, slicesOf, needOf, prunedAt, prunedOf, sliceCodes, sliceShapes}
+use Rattle.prune.specs.Prune.{Cands, Overlaps, Given, given, candSlice, lapSlice, keptTo, lapsTo, partsFor, keptFirst, keptSecond, lapsFor, slicesOf, needOf, prunedAt, prunedOf, sliceCodes, sliceShapes, sliceEditions}
 use Rattle.prune_write.specs.Ready.{ItemFit, Ready, Wrote, BothFit, BothWritten, TwiceWritten, KeepFit, LapsFit, Cleared, FinishFit, Finished, Written}
 
 -- a slice that was written is known by other names
-pub placed-as : (x y : Codes) (s t : Shape) (l l′ : Rooms) (m r : ℕ) → x ≡ y → s ≡ t → Placed (sliceOf x s ∷ []) l m r l′ → Placed (sliceOf y t ∷ []) l m r l′
-placed-as x y s t l l′ m r e f p = rw (e, f) at p
+pub placed-as : (x y : Codes) (s t : Shape) (k : ℕ) (l l′ : Rooms) (m r : ℕ) → x ≡ y → s ≡ t → Placed (sliceOf x s k ∷ []) l m r l′ → Placed (sliceOf y t k ∷ []) l m r l′
+placed-as x y s t k l l′ m r e f p = rw (e, f) at p
 
 -- ---- how many
 
@@ -57,21 +57,23 @@ pub record Keeping (c : Cands) (count : ℕ) (p : Part) (l : Rooms) (m : ℕ) (l
   pub placed : Placed (keptTo c p i) l m n l′
   pub size-at : length (l′ .at) ≡ length (l .at)
   pub size-shape : length (l′ .shape) ≡ length (l .shape)
+  pub size-edition : length (l′ .edition) ≡ length (l .edition)
 
 module _ (c : Cands) (count : ℕ) (p : Part) (l : Rooms) (m : ℕ) where
   pub keep-none : Keeping c count p l m l m 0
   unfolding keptTo
-  keep-none = record { ahead = zero-le; few = omega arith; placed = placed-none l m; size-at = refl; size-shape = refl }
+  keep-none = record { ahead = zero-le; few = omega arith; placed = placed-none l m; size-at = refl; size-shape = refl; size-edition = refl }
 
-  pub keep-fit : (l′ : Rooms) (n i : ℕ) → Keeping c count p l m l′ n i → i < count → KeepFit c count l m → ItemFit 2 (c .at) (c .shape) i l′ n
+  pub keep-fit : (l′ : Rooms) (n i : ℕ) → Keeping c count p l m l′ n i → i < count → KeepFit c count l m → ItemFit 2 (c .at) (c .shape) (c .edition) i l′ n
   keep-fit l′ n i k h f =
       record {
         codes = omega (arith, f .cands .at);
         shape-there = record { inside = omega (arith, f .cands .shape) };
+        edition-there = omega (arith, f .cands .edition);
         put =
             record {
               low = omega (arith, f .low, f .cands .few);
-              roomy = record { at = omega (arith, f .roomy .at, k .size-at); shape = omega (arith, f .roomy .shape, k .size-shape) };
+              roomy = record { at = omega (arith, f .roomy .at, k .size-at); shape = omega (arith, f .roomy .shape, k .size-shape); edition = omega (arith, f .roomy .edition, k .size-edition, k .few) };
             };
       }
 
@@ -84,7 +86,7 @@ module _ (c : Cands) (count : ℕ) (p : Part) (l : Rooms) (m : ℕ) where
   -- a candidate that does not stay
   pub keep-no : (l′ : Rooms) (n i : ℕ) → Keeping c count p l m l′ n i → i < count → (getD (c .inside) i 0 ≡ p .keep → ⊥) → Keeping c count p l m l′ n (i + 1)
   keep-no l′ n i k h e =
-      record { ahead = omega arith; few = omega (arith, k .few); placed = rw (kept-no i e) (k .placed); size-at = k .size-at; size-shape = k .size-shape }
+      record { ahead = omega arith; few = omega (arith, k .few); placed = rw (kept-no i e) (k .placed); size-at = k .size-at; size-shape = k .size-shape; size-edition = k .size-edition }
 
   -- one that stays, and was written
   pub keep-yes : (l′ l″ : Rooms) (n i : ℕ) → Keeping c count p l m l′ n i → i < count → getD (c .inside) i 0 ≡ p .keep
@@ -96,12 +98,13 @@ module _ (c : Cands) (count : ℕ) (p : Part) (l : Rooms) (m : ℕ) where
         placed = rw (kept-yes i e) (placed-then (keptTo c p i) (candSlice c p i ∷ []) l l′ l″ m n (n + 1) (k .placed) w);
         size-at = placed-at (candSlice c p i ∷ []) l′ l″ n (n + 1) w ∙ k .size-at;
         size-shape = placed-shape (candSlice c p i ∷ []) l′ l″ n (n + 1) w ∙ k .size-shape;
+        size-edition = placed-edition (candSlice c p i ∷ []) l′ l″ n (n + 1) w ∙ k .size-edition;
       }
 
   pub keep-end : (l′ : Rooms) (n i : ℕ) → Keeping c count p l m l′ n i → count ≤ i → Wrote (keptTo c p (count)) (count) l m n l′
   keep-end l′ n i k h =
       let e : i ≡ count = omega arith in
-      record { placed = rw e at (k .placed); few = omega (arith, k .few); size-at = k .size-at; size-shape = k .size-shape }
+      record { placed = rw e at (k .placed); few = omega (arith, k .few); size-at = k .size-at; size-shape = k .size-shape; size-edition = k .size-edition }
 
 pub ruleset keeping = (keep-none, keep-fit, keep-no, keep-yes, keep-end)
 
@@ -112,21 +115,23 @@ pub record Lapping (o : Overlaps) (count : ℕ) (first : Bool) (l : Rooms) (m : 
   pub placed : Placed (lapsTo o first j) l m n l′
   pub size-at : length (l′ .at) ≡ length (l .at)
   pub size-shape : length (l′ .shape) ≡ length (l .shape)
+  pub size-edition : length (l′ .edition) ≡ length (l .edition)
 
 module _ (o : Overlaps) (count : ℕ) (first : Bool) (l : Rooms) (m : ℕ) where
   pub lap-none : Lapping o count first l m l m 0
   unfolding lapsTo
-  lap-none = record { ahead = zero-le; few = omega arith; placed = placed-none l m; size-at = refl; size-shape = refl }
+  lap-none = record { ahead = zero-le; few = omega arith; placed = placed-none l m; size-at = refl; size-shape = refl; size-edition = refl }
 
-  pub lap-fit : (l′ : Rooms) (n j : ℕ) → Lapping o count first l m l′ n j → j < count → LapsFit o count l m → ItemFit 7 (o .at) (o .shape) j l′ n
+  pub lap-fit : (l′ : Rooms) (n j : ℕ) → Lapping o count first l m l′ n j → j < count → LapsFit o count l m → ItemFit 7 (o .at) (o .shape) (o .edition) j l′ n
   lap-fit l′ n j k h f =
       record {
         codes = omega (arith, f .laps .at);
         shape-there = record { inside = omega (arith, f .laps .shape) };
+        edition-there = omega (arith, f .laps .edition);
         put =
             record {
               low = omega (arith, f .low, f .laps .few, k .few);
-              roomy = record { at = omega (arith, f .roomy .at, k .size-at, k .few); shape = omega (arith, f .roomy .shape, k .size-shape, k .few) };
+              roomy = record { at = omega (arith, f .roomy .at, k .size-at, k .few); shape = omega (arith, f .roomy .shape, k .size-shape, k .few); edition = omega (arith, f .roomy .edition, k .size-edition, k .few) };
             };
       }
 
@@ -141,12 +146,13 @@ module _ (o : Overlaps) (count : ℕ) (first : Bool) (l : Rooms) (m : ℕ) where
         placed = rw (lap-next j) (placed-then (lapsTo o first j) (lapSlice o first j ∷ []) l l′ l″ m n (n + 1) (k .placed) w);
         size-at = placed-at (lapSlice o first j ∷ []) l′ l″ n (n + 1) w ∙ k .size-at;
         size-shape = placed-shape (lapSlice o first j ∷ []) l′ l″ n (n + 1) w ∙ k .size-shape;
+        size-edition = placed-edition (lapSlice o first j ∷ []) l′ l″ n (n + 1) w ∙ k .size-edition;
       }
 
   pub lap-end : (l′ : Rooms) (n j : ℕ) → Lapping o count first l m l′ n j → count ≤ j → Wrote (lapsTo o first (count)) (count) l m n l′
   lap-end l′ n j k h =
       let e : j ≡ count = omega arith in
-      record { placed = rw e at (k .placed); few = omega (arith, k .few); size-at = k .size-at; size-shape = k .size-shape }
+      record { placed = rw e at (k .placed); few = omega (arith, k .few); size-at = k .size-at; size-shape = k .size-shape; size-edition = k .size-edition }
 
 pub ruleset lapping = (lap-none, lap-fit, lap-more, lap-end)
 
@@ -158,6 +164,7 @@ wrote-then xs ys a b l l′ l″ m k r x y =
       few = omega (arith, x .few, y .few);
       size-at = y .size-at ∙ x .size-at;
       size-shape = y .size-shape ∙ x .size-shape;
+      size-edition = y .size-edition ∙ x .size-edition;
     }
 
 module _ (call : Call) (c d : Cands) (l l₁ : Rooms) (a : ℕ) where
@@ -178,7 +185,7 @@ module _ (call : Call) (c d : Cands) (l l₁ : Rooms) (a : ℕ) where
       record {
         cands = f .second;
         low = omega (arith, w .few, f .first .few);
-        roomy = record { at = omega (arith, w .few, w .size-at, f .roomy .at); shape = omega (arith, w .few, w .size-shape, f .roomy .shape) };
+        roomy = record { at = omega (arith, w .few, w .size-at, f .roomy .at); shape = omega (arith, w .few, w .size-shape, f .roomy .shape); edition = omega (arith, w .few, w .size-edition, f .roomy .edition) };
       }
 
 pub ruleset both = (both-of, both-next)
@@ -209,7 +216,7 @@ fit-both call c d laps l f =
     record {
       first = f .first;
       second = f .second;
-      roomy = record { at = omega (arith, f .roomy .at); shape = omega (arith, f .roomy .shape) };
+      roomy = record { at = omega (arith, f .roomy .at); shape = omega (arith, f .roomy .shape); edition = omega (arith, f .roomy .edition) };
     }
 
 module _ (call : Call) (c d : Cands) (laps : Overlaps) (l l₁ : Rooms) (kept : Ends) where
@@ -222,7 +229,7 @@ module _ (call : Call) (c d : Cands) (laps : Overlaps) (l l₁ : Rooms) (kept : 
         few = f .few;
         laps = f .laps;
         within = omega (arith, w .wrote .few);
-        roomy = record { at = omega (arith, w .wrote .size-at, f .roomy .at); shape = omega (arith, w .wrote .size-shape, f .roomy .shape) };
+        roomy = record { at = omega (arith, w .wrote .size-at, f .roomy .at); shape = omega (arith, w .wrote .size-shape, f .roomy .shape); edition = omega (arith, w .wrote .size-edition, f .roomy .edition) };
       }
 
   all-of : (s : Ends) (l₂ : Rooms) → BothWritten call c d l kept l₁ → TwiceWritten laps (call .laps) l₁ (kept .second) s l₂ → AllWritten g l (prunedAt kept s) l₂
@@ -257,6 +264,7 @@ module _ (call : Call) (c d : Cands) (laps : Overlaps) (l l₁ : Rooms) (kept : 
       let k : n ≡ length (slicesOf g) = omega (arith, all .wrote .placed .counted) in
       let p : codeWidth * n ≡ length (sliceCodes g) = rw k (sym (codes-length (slicesOf g))) in
       let q : shapeWidth * n ≡ length (sliceShapes g) = rw k (sym (shapes-length (slicesOf g))) in
+      let s : n ≡ length (sliceEditions g) = k ∙ sym (length-map (slicesOf g) (λ x. x .edition)) in
       record {
         answer = f .answer ∙ all .answer;
         at =
@@ -265,4 +273,7 @@ module _ (call : Call) (c d : Cands) (laps : Overlaps) (l l₁ : Rooms) (kept : 
         shape =
             room-left +0 shapeWidth need (sliceShapes g) (l .shape) (m .shape) (l₂ .shape) (shapeWidth * n) (shapeWidth * need) (f .rest .shape)
             (front (l .shape) (m .shape) (sliceShapes g) (shapeWidth * n) (all .wrote .placed .shape) q (omega (arith, f .roomy .shape, x .wrote .size-shape))) q refl (omega arith);
+        edition =
+            room-left 0 1 need (sliceEditions g) (l .edition) (m .edition) (l₂ .edition) n need (f .rest .edition)
+            (front (l .edition) (m .edition) (sliceEditions g) n (all .wrote .placed .edition) s (omega (arith, f .roomy .edition, x .wrote .size-edition))) s (omega arith) few;
       }

@@ -1,6 +1,7 @@
 // The slices of a mode, written into lent room.
 ghost use mathlib.Core.List.{[], _∷_};
 ghost use Prim.Native.Nat.{_+_};
+ghost use lib.ListN.{getD};
 ghost use Rattle.slice.specs.Slice.{sliceOf, shapeAt};
 ghost use Rattle.slice.specs.Ready.{rooms, Placed};
 ghost use Rattle.prune.specs.Prune.{cands, overlaps, candCodes, lapCodes, keptTo, lapsTo};
@@ -16,6 +17,7 @@ use prune::mode;
 use prune::mode::Part;
 use slice::data::CODE_WIDTH;
 use slice::data::SHAPE_WIDTH;
+use slice::edition;
 use slice::read;
 use slice::write;
 
@@ -23,49 +25,57 @@ use slice::write;
 fn put_cand(
     cand_at: &[usize],
     cand: &[f64],
+    cand_edition: &[u32],
     part: Part,
     k: usize,
     slice_at: &mut [usize],
     slice: &mut [f64],
+    slice_edition: &mut [u32],
     n: usize,
 )
-    requires { ⌜ ItemFit 2 (now «cand_at») (now cand) k (rooms (now «slice_at») (now slice)) n ⌝ }
-    ensures { λ _. ⌜ Placed (sliceOf (candCodes (now («cand_at» .entry)) part k) (shapeAt (now (cand .entry)) k) ∷ []) (rooms (now («slice_at» .entry)) (now (slice .entry))) n (n + 1) (rooms (now («slice_at» .exit)) (now (slice .exit))) ⌝ }
+    requires { ⌜ ItemFit 2 (now «cand_at») (now cand) (now «cand_edition») k (rooms (now «slice_at») (now slice) (now «slice_edition»)) n ⌝ }
+    ensures { λ _. ⌜ Placed (sliceOf (candCodes (now («cand_at» .entry)) part k) (shapeAt (now (cand .entry)) k) (getD (now («cand_edition» .entry)) k 0) ∷ []) (rooms (now («slice_at» .entry)) (now (slice .entry)) (now («slice_edition» .entry))) n (n + 1) (rooms (now («slice_at» .exit)) (now (slice .exit)) (now («slice_edition» .exit))) ⌝ }
 {
     let c = codes::cand_codes(cand_at, part, k);
-    write::put_slice(c, read::shape_at(cand, k), slice_at, slice, n);
+    let s = read::shape_at(cand, k);
+    write::put_slice(c, s, cand_edition[k], slice_at, slice, slice_edition, n);
 }
 
 // Writes overlap number j, for outline 1 or for outline 2, as slice number n.
 fn put_lap(
     lap_at: &[usize],
     lap: &[f64],
+    lap_edition: &[u32],
     first: bool,
     j: usize,
     slice_at: &mut [usize],
     slice: &mut [f64],
+    slice_edition: &mut [u32],
     n: usize,
 )
-    requires { ⌜ ItemFit 7 (now «lap_at») (now lap) j (rooms (now «slice_at») (now slice)) n ⌝ }
-    ensures { λ _. ⌜ Placed (sliceOf (lapCodes (now («lap_at» .entry)) first j) (shapeAt (now (lap .entry)) j) ∷ []) (rooms (now («slice_at» .entry)) (now (slice .entry))) n (n + 1) (rooms (now («slice_at» .exit)) (now (slice .exit))) ⌝ }
+    requires { ⌜ ItemFit 7 (now «lap_at») (now lap) (now «lap_edition») j (rooms (now «slice_at») (now slice) (now «slice_edition»)) n ⌝ }
+    ensures { λ _. ⌜ Placed (sliceOf (lapCodes (now («lap_at» .entry)) first j) (shapeAt (now (lap .entry)) j) (getD (now («lap_edition» .entry)) j 0) ∷ []) (rooms (now («slice_at» .entry)) (now (slice .entry)) (now («slice_edition» .entry))) n (n + 1) (rooms (now («slice_at» .exit)) (now (slice .exit)) (now («slice_edition» .exit))) ⌝ }
 {
     let c = codes::lap_codes(lap_at, first, j);
-    write::put_slice(c, read::shape_at(lap, j), slice_at, slice, n);
+    let s = read::shape_at(lap, j);
+    write::put_slice(c, s, lap_edition[j], slice_at, slice, slice_edition, n);
 }
 
 // Writes the candidates of one outline that stay, as slices from number m on, and says where they end.
 fn write_kept(
     cand_at: &[usize],
     cand: &[f64],
+    cand_edition: &[u32],
     inside: &[u8],
     count: usize,
     part: Part,
     slice_at: &mut [usize],
     slice: &mut [f64],
+    slice_edition: &mut [u32],
     m: usize,
 ) -> usize
-    requires { ⌜ KeepFit (cands (now «cand_at») (now cand) (now inside)) count (rooms (now «slice_at») (now slice)) m ⌝ }
-    ensures { λ r. ⌜ Wrote (keptTo (cands (now («cand_at» .entry)) (now (cand .entry)) (now (inside .entry))) part count) count (rooms (now («slice_at» .entry)) (now (slice .entry))) m r (rooms (now («slice_at» .exit)) (now (slice .exit))) ⌝ }
+    requires { ⌜ KeepFit (cands (now «cand_at») (now cand) (now «cand_edition») (now inside)) count (rooms (now «slice_at») (now slice) (now «slice_edition»)) m ⌝ }
+    ensures { λ r. ⌜ Wrote (keptTo (cands (now («cand_at» .entry)) (now (cand .entry)) (now («cand_edition» .entry)) (now (inside .entry))) part count) count (rooms (now («slice_at» .entry)) (now (slice .entry)) (now («slice_edition» .entry))) m r (rooms (now («slice_at» .exit)) (now (slice .exit)) (now («slice_edition» .exit))) ⌝ }
 {
     let mut n = m;
     let mut i = 0;
@@ -75,7 +85,17 @@ fn write_kept(
         if inside[k] != part.keep {
             continue;
         }
-        put_cand(cand_at, cand, part, k, slice_at, slice, n);
+        put_cand(
+            cand_at,
+            cand,
+            cand_edition,
+            part,
+            k,
+            slice_at,
+            slice,
+            slice_edition,
+            n,
+        );
         n += 1;
     }
     n
@@ -85,21 +105,33 @@ fn write_kept(
 fn write_laps(
     lap_at: &[usize],
     lap: &[f64],
+    lap_edition: &[u32],
     laps: usize,
     first: bool,
     slice_at: &mut [usize],
     slice: &mut [f64],
+    slice_edition: &mut [u32],
     m: usize,
 ) -> usize
-    requires { ⌜ LapsFit (overlaps (now «lap_at») (now lap)) laps (rooms (now «slice_at») (now slice)) m ⌝ }
-    ensures { λ r. ⌜ Wrote (lapsTo (overlaps (now («lap_at» .entry)) (now (lap .entry))) first laps) laps (rooms (now («slice_at» .entry)) (now (slice .entry))) m r (rooms (now («slice_at» .exit)) (now (slice .exit))) ⌝ }
+    requires { ⌜ LapsFit (overlaps (now «lap_at») (now lap) (now «lap_edition»)) laps (rooms (now «slice_at») (now slice) (now «slice_edition»)) m ⌝ }
+    ensures { λ r. ⌜ Wrote (lapsTo (overlaps (now («lap_at» .entry)) (now (lap .entry)) (now («lap_edition» .entry))) first laps) laps (rooms (now («slice_at» .entry)) (now (slice .entry)) (now («slice_edition» .entry))) m r (rooms (now («slice_at» .exit)) (now (slice .exit)) (now («slice_edition» .exit))) ⌝ }
 {
     let mut n = m;
     let mut j = 0;
     while j < laps {
         let k = j;
         j += 1;
-        put_lap(lap_at, lap, first, k, slice_at, slice, n);
+        put_lap(
+            lap_at,
+            lap,
+            lap_edition,
+            first,
+            k,
+            slice_at,
+            slice,
+            slice_edition,
+            n,
+        );
         n += 1;
     }
     n
@@ -110,15 +142,18 @@ pub fn write_both(
     call: Call,
     cand_at1: &[usize],
     cand1: &[f64],
+    cand_edition1: &[u32],
     inside1: &[u8],
     cand_at2: &[usize],
     cand2: &[f64],
+    cand_edition2: &[u32],
     inside2: &[u8],
     slice_at: &mut [usize],
     slice: &mut [f64],
+    slice_edition: &mut [u32],
 ) -> Ends
-    requires { ⌜ BothFit call (cands (now «cand_at1») (now cand1) (now inside1)) (cands (now «cand_at2») (now cand2) (now inside2)) (rooms (now «slice_at») (now slice)) ⌝ }
-    ensures { λ r. ⌜ BothWritten call (cands (now («cand_at1» .entry)) (now (cand1 .entry)) (now (inside1 .entry))) (cands (now («cand_at2» .entry)) (now (cand2 .entry)) (now (inside2 .entry))) (rooms (now («slice_at» .entry)) (now (slice .entry))) r (rooms (now («slice_at» .exit)) (now (slice .exit))) ⌝ }
+    requires { ⌜ BothFit call (cands (now «cand_at1») (now cand1) (now «cand_edition1») (now inside1)) (cands (now «cand_at2») (now cand2) (now «cand_edition2») (now inside2)) (rooms (now «slice_at») (now slice) (now «slice_edition»)) ⌝ }
+    ensures { λ r. ⌜ BothWritten call (cands (now («cand_at1» .entry)) (now (cand1 .entry)) (now («cand_edition1» .entry)) (now (inside1 .entry))) (cands (now («cand_at2» .entry)) (now (cand2 .entry)) (now («cand_edition2» .entry)) (now (inside2 .entry))) (rooms (now («slice_at» .entry)) (now (slice .entry)) (now («slice_edition» .entry))) r (rooms (now («slice_at» .exit)) (now (slice .exit)) (now («slice_edition» .exit))) ⌝ }
 {
     let parts = mode::parts_of(call.mode, call.opposing == 1);
     let first = parts.first;
@@ -126,21 +161,25 @@ pub fn write_both(
     let a = write_kept(
         cand_at1,
         cand1,
+        cand_edition1,
         inside1,
         call.count1,
         first,
         slice_at,
         slice,
+        slice_edition,
         0,
     );
     let b = write_kept(
         cand_at2,
         cand2,
+        cand_edition2,
         inside2,
         call.count2,
         second,
         slice_at,
         slice,
+        slice_edition,
         a,
     );
     Ends {
@@ -153,16 +192,38 @@ pub fn write_both(
 fn write_twice(
     lap_at: &[usize],
     lap: &[f64],
+    lap_edition: &[u32],
     laps: usize,
     slice_at: &mut [usize],
     slice: &mut [f64],
+    slice_edition: &mut [u32],
     m: usize,
 ) -> Ends
-    requires { ⌜ TwiceFit (overlaps (now «lap_at») (now lap)) laps (rooms (now «slice_at») (now slice)) m ⌝ }
-    ensures { λ r. ⌜ TwiceWritten (overlaps (now («lap_at» .entry)) (now (lap .entry))) laps (rooms (now («slice_at» .entry)) (now (slice .entry))) m r (rooms (now («slice_at» .exit)) (now (slice .exit))) ⌝ }
+    requires { ⌜ TwiceFit (overlaps (now «lap_at») (now lap) (now «lap_edition»)) laps (rooms (now «slice_at») (now slice) (now «slice_edition»)) m ⌝ }
+    ensures { λ r. ⌜ TwiceWritten (overlaps (now («lap_at» .entry)) (now (lap .entry)) (now («lap_edition» .entry))) laps (rooms (now («slice_at» .entry)) (now (slice .entry)) (now («slice_edition» .entry))) m r (rooms (now («slice_at» .exit)) (now (slice .exit)) (now («slice_edition» .exit))) ⌝ }
 {
-    let c = write_laps(lap_at, lap, laps, true, slice_at, slice, m);
-    let d = write_laps(lap_at, lap, laps, false, slice_at, slice, c);
+    let c = write_laps(
+        lap_at,
+        lap,
+        lap_edition,
+        laps,
+        true,
+        slice_at,
+        slice,
+        slice_edition,
+        m,
+    );
+    let d = write_laps(
+        lap_at,
+        lap,
+        lap_edition,
+        laps,
+        false,
+        slice_at,
+        slice,
+        slice_edition,
+        c,
+    );
     Ends {
         first: c,
         second: d,
@@ -170,12 +231,19 @@ fn write_twice(
 }
 
 // Sets each list to zero from slice number n up to the need.
-fn clear_rest(slice_at: &mut [usize], slice: &mut [f64], n: usize, need: usize)
-    requires { ⌜ ClearFit (rooms (now «slice_at») (now slice)) n need ⌝ }
-    ensures { λ _. ⌜ Cleared (rooms (now («slice_at» .entry)) (now (slice .entry))) n need (rooms (now («slice_at» .exit)) (now (slice .exit))) ⌝ }
+fn clear_rest(
+    slice_at: &mut [usize],
+    slice: &mut [f64],
+    slice_edition: &mut [u32],
+    n: usize,
+    need: usize,
+)
+    requires { ⌜ ClearFit (rooms (now «slice_at») (now slice) (now «slice_edition»)) n need ⌝ }
+    ensures { λ _. ⌜ Cleared (rooms (now («slice_at» .entry)) (now (slice .entry)) (now («slice_edition» .entry))) n need (rooms (now («slice_at» .exit)) (now (slice .exit)) (now («slice_edition» .exit))) ⌝ }
 {
     room::clear_counts(slice_at, CODE_WIDTH * n, CODE_WIDTH * need);
     room::clear_numbers(slice, SHAPE_WIDTH * n, SHAPE_WIDTH * need);
+    edition::fill(slice_edition, n, need, 0);
 }
 
 // Behind the kept of both outlines: the overlaps for 1, the overlaps for 2, then zero up to the need. Says how many slices there are, and where their
@@ -185,13 +253,30 @@ pub fn finish(
     kept: Ends,
     lap_at: &[usize],
     lap: &[f64],
+    lap_edition: &[u32],
     slice_at: &mut [usize],
     slice: &mut [f64],
+    slice_edition: &mut [u32],
 ) -> Pruned
-    requires { ⌜ FinishFit call kept (overlaps (now «lap_at») (now lap)) (rooms (now «slice_at») (now slice)) ⌝ }
-    ensures { λ r. ⌜ Finished call kept (overlaps (now («lap_at» .entry)) (now (lap .entry))) (rooms (now («slice_at» .entry)) (now (slice .entry))) r (rooms (now («slice_at» .exit)) (now (slice .exit))) ⌝ }
+    requires { ⌜ FinishFit call kept (overlaps (now «lap_at») (now lap) (now «lap_edition»)) (rooms (now «slice_at») (now slice) (now «slice_edition»)) ⌝ }
+    ensures { λ r. ⌜ Finished call kept (overlaps (now («lap_at» .entry)) (now (lap .entry)) (now («lap_edition» .entry))) (rooms (now («slice_at» .entry)) (now (slice .entry)) (now («slice_edition» .entry))) r (rooms (now («slice_at» .exit)) (now (slice .exit)) (now («slice_edition» .exit))) ⌝ }
 {
-    let twice = write_twice(lap_at, lap, call.laps, slice_at, slice, kept.second);
-    clear_rest(slice_at, slice, twice.second, call::need_of(call));
+    let twice = write_twice(
+        lap_at,
+        lap,
+        lap_edition,
+        call.laps,
+        slice_at,
+        slice,
+        slice_edition,
+        kept.second,
+    );
+    clear_rest(
+        slice_at,
+        slice,
+        slice_edition,
+        twice.second,
+        call::need_of(call),
+    );
     counts::pruned_at(kept, twice)
 }

@@ -1,11 +1,13 @@
 -- The lists that a record is read to, and the part of them that a plan names.
-use Prim.Native.Nat.{ℕ, _*_}
+use Prim.Native.Nat.{ℕ, _*_, _≤_}
+use mathlib.Core.Path.{_≡_}
 use mathlib.Core.List.{List}
-use lib.ListN.{take}
+use lib.ListN.{length, take, replicate}
 use lib.Ieee.{Float}
 use Rattle.slice.specs.Slice.{codeWidth, shapeWidth}
 use Rattle.stitch_run.specs.declared.plan.Plan.{Plan}
-use Rattle.record.specs.Record.{Lists, lists}
+use Rattle.record.specs.Record.{Lists, lists, lengthsOf}
+use Rattle.record_read.specs.Ready.{Roomy}
 
 abbrev pub reading : List Float → List Float → List ℕ → List Float → Lists
 reading o1 o2 at s = lists o1 o2 at s
@@ -14,3 +16,9 @@ reading o1 o2 at s = lists o1 o2 at s
 abbrev pub fronts : Plan → Lists → Lists
 fronts p l =
     lists (take (3 * p .vc1) (l .outline1)) (take (3 * p .vc2) (l .outline2)) (take (codeWidth * p .slices) (l .sliceAt)) (take (shapeWidth * p .slices) (l .slice))
+
+-- what was read, and editions 0 for the slices
+pub record Held (p : Plan) (l : Lists) (dates : List ℕ) : Type 0 where
+  pub roomy : Roomy p (lengthsOf l)
+  pub each : p .slices ≤ length dates
+  pub none : take (p .slices) dates ≡ replicate (p .slices) 0

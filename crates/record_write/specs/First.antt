@@ -3,6 +3,7 @@ use Prim.Native.Nat.{ℕ}
 use mathlib.Core.List.{List}
 use Rattle.basis.specs.RefusalOrder.{refusalOrder, before, First}
 use Rattle.basis.specs.RefusalOrderLaws.{first-of}
+use Rattle.slice.specs.Editions.{Editions}
 use Rattle.stitch_run.specs.Stitch.{Given}
 use Rattle.record.specs.declared.head.Lengths.{Lengths}
 use Rattle.record.specs.Form.{Form}
@@ -13,6 +14,6 @@ pub read-first : (f : Form) (b : List ℕ) (l : Lengths) → First (readRows f b
 unfolding readRows before refusalOrder
 read-first f b l = first-of (readRows f b l) tt
 
-pub write-first : (f : Form) (g : Given) (room : ℕ) → First (writeRows f g room) (writeRefusal f g room)
+pub write-first : (f : Form) (g : Given) (e : Editions) (room : ℕ) → First (writeRows f g e room) (writeRefusal f g e room)
 unfolding writeRefusal before refusalOrder
-write-first f g room = first-of (writeRows f g room) tt
+write-first f g e room = first-of (writeRows f g e room) tt

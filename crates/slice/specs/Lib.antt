@@ -1,7 +1,9 @@
 pub mod Slice
 pub mod Faults
+pub mod Editions
 pub mod Ready
 pub mod SliceLaws
+pub mod EditionLaws
 pub mod PutLaws
 pub mod Sound
 pub mod SoundLaws

@@ -1,10 +1,10 @@
 -- Laws by which slices are written one after the other.
 use Prim.Native.Nat.{ℕ, suc, _+_, _*_}
 use mathlib.Core.Path.{_≡_, refl, sym, ap, _∙_}
-use mathlib.Core.List.{List, [], _∷_, _++_, flatMap}
+use mathlib.Core.List.{List, [], _∷_, _++_, flatMap, map, map-append}
 use native.Mathlib.Nat.{mul-add}
 use native.Mathlib.Omega.{arith}
-use lib.ListN.{length, set, length-set, length-append}
+use lib.ListN.{length, set, length-set, length-append, length-map}
 use lib.Seq.{sets, length-sets}
 use lib.Ieee.{Float}
 use Rattle.basis.specs.StoreLaws.{sets-append, sets-then}
@@ -12,7 +12,7 @@ use Rattle.basis.specs.FlatLaws.{flat-append, flat-length}
 use Rattle.outline.specs.Points.{pointNumbers, vertexNumbers}
 use Rattle.slice.specs.declared.data.Codes.{Codes}
 use Rattle.slice.specs.declared.data.Shape.{Shape}
-use Rattle.slice.specs.Slice.{codeWidth, shapeWidth, Slice, sliceOf, codeList, shapeList, codesOf, shapeOf}
+use Rattle.slice.specs.Slice.{codeWidth, shapeWidth, Slice, sliceOf, codeList, shapeList, codesOf, shapeOf, editionsOf}
 use Rattle.slice.specs.Ready.{Rooms, Placed}
 
 -- ---- one slice
@@ -43,12 +43,12 @@ shapes-length = flat-length shapeOf shapeWidth (λ s. refl)
 
 pub placed-none : (l : Rooms) (m : ℕ) → Placed [] l m m l
 unfolding flatMap
-placed-none l m = record { counted = omega arith; at = refl; shape = refl }
+placed-none l m = record { counted = omega arith; at = refl; shape = refl; edition = refl }
 
-pub placed-one : (c : Codes) (s : Shape) (l l′ : Rooms) (n : ℕ) → l′ .at ≡ sets (l .at) (codeWidth * n) (codeList c)
-    → l′ .shape ≡ sets (l .shape) (shapeWidth * n) (shapeList s) → Placed (sliceOf c s ∷ []) l n (n + 1) l′
+pub placed-one : (c : Codes) (s : Shape) (e : ℕ) (l l′ : Rooms) (n : ℕ) → l′ .at ≡ sets (l .at) (codeWidth * n) (codeList c)
+    → l′ .shape ≡ sets (l .shape) (shapeWidth * n) (shapeList s) → l′ .edition ≡ set (l .edition) n e → Placed (sliceOf c s e ∷ []) l n (n + 1) l′
 unfolding flatMap
-placed-one c s l l′ n p q = record { counted = refl; at = p; shape = q }
+placed-one c s e l l′ n p q r = record { counted = refl; at = p; shape = q; edition = r }
 
 -- some slices, and others behind them
 run-then : {A : Type 0} (w : ℕ) (f : Slice → List A) (wide : (xs : List Slice) → length (flatMap f xs) ≡ w * length xs) (xs ys : List Slice) (l l′ l″ : List A) (m k : ℕ)
@@ -57,12 +57,19 @@ run-then {A} w f wide xs ys l l′ l″ m k n p q =
     let e : w * k ≡ w * m + length (flatMap f xs) = rw (n, mul-add w, wide xs) in
     q ∙ rw (e, p, ← sets-append l (w * m) (flatMap f xs) (flatMap f ys), ← flat-append f xs ys)
 
+editions-then : (xs ys : List Slice) (l l′ l″ : List ℕ) (m k : ℕ) → k ≡ m + length xs → l′ ≡ sets l m (editionsOf xs) → l″ ≡ sets l′ k (editionsOf ys)
+    → l″ ≡ sets l m (editionsOf (xs ++ ys))
+editions-then xs ys l l′ l″ m k n p q =
+    let e : k ≡ m + length (editionsOf xs) = rw length-map n in
+    q ∙ rw (e, p, ← sets-append l m (editionsOf xs) (editionsOf ys)) (ap (sets l m) (sym (map-append (λ s. s .edition) xs ys)))
+
 pub placed-then : (xs ys : List Slice) (l l′ l″ : Rooms) (m k r : ℕ) → Placed xs l m k l′ → Placed ys l′ k r l″ → Placed (xs ++ ys) l m r l″
 placed-then xs ys l l′ l″ m k r a b =
     record {
       counted = rw length-append (omega (arith, a .counted, b .counted));
       at = run-then codeWidth codesOf codes-length xs ys (l .at) (l′ .at) (l″ .at) m k (a .counted) (a .at) (b .at);
       shape = run-then shapeWidth shapeOf shapes-length xs ys (l .shape) (l′ .shape) (l″ .shape) m k (a .counted) (a .shape) (b .shape);
+      edition = editions-then xs ys (l .edition) (l′ .edition) (l″ .edition) m k (a .counted) (a .edition) (b .edition);
     }
 
 -- the lists are as long as before
@@ -71,5 +78,8 @@ placed-at xs l l′ m k p = ap length (p .at) ∙ length-sets (l .at) (codeWidth
 
 pub placed-shape : (xs : List Slice) (l l′ : Rooms) (m k : ℕ) → Placed xs l m k l′ → length (l′ .shape) ≡ length (l .shape)
 placed-shape xs l l′ m k p = ap length (p .shape) ∙ length-sets (l .shape) (shapeWidth * m) (flatMap shapeOf xs)
+
+pub placed-edition : (xs : List Slice) (l l′ : Rooms) (m k : ℕ) → Placed xs l m k l′ → length (l′ .edition) ≡ length (l .edition)
+placed-edition xs l l′ m k p = ap length (p .edition) ∙ length-sets (l .edition) m (editionsOf xs)
 
 pub ruleset putting = (codes-put, shape-put, shape-long, placed-one)

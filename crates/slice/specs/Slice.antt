@@ -1,6 +1,7 @@
--- A slice: its source and the view that is cut from it, as four codes and a shape of six numbers. Slices stand in two lists: one has the codes of each, the other its shape.
+-- A slice: its source and the view that is cut from it, as four codes and a shape of six numbers, and the edition of the outline it was cut from. Slices stand in three
+-- lists: one has the codes of each, one its shape, one its edition.
 use Prim.Native.Nat.{ℕ, _+_, _*_}
-use mathlib.Core.List.{List, [], _∷_, _++_}
+use mathlib.Core.List.{List, [], _∷_, _++_, map}
 use lib.ListN.{getD}
 use lib.Dec.{eqb}
 use lib.Ieee.{Float, nan}
@@ -33,9 +34,10 @@ viewOf c s =
 pub record Slice : Type 0 where
   pub codes : Codes
   pub shape : Shape
+  pub edition : ℕ
 
-abbrev pub sliceOf : Codes → Shape → Slice
-sliceOf c s = record { codes = c; shape = s }
+abbrev pub sliceOf : Codes → Shape → ℕ → Slice
+sliceOf c s e = record { codes = c; shape = s; edition = e }
 
 -- ---- read from the lists
 
@@ -77,3 +79,6 @@ codesOf s = codeList (s .codes)
 
 abbrev pub shapeOf : Slice → List Float
 shapeOf s = shapeList (s .shape)
+
+abbrev pub editionsOf : List Slice → List ℕ
+editionsOf l = map (λ s. s .edition) l

@@ -1,6 +1,6 @@
 -- The lists of slices that are sound are accepted.
 use Prim.Native.Nat.{ℕ, zero, suc, _+_, _*_, _≤_, _<_}
-use mathlib.Core.Bool.{Bool, true}
+use mathlib.Core.Bool.{Bool, true, false}
 use mathlib.Core.Path.{_≡_, refl, sym, ap, _∙_}
 use mathlib.Core.List.{List, [], _∷_, _++_, flatMap, List·Memᴰ, List·Memᴰ·head, List·Memᴰ·tail}
 use native.Mathlib.Nat.{zero-add, add-zero, not-suc-le-zero, le-of-suc-le-suc}
@@ -11,8 +11,10 @@ use lib.Ieee.{Float, nan}
 use Rattle.basis.specs.All.{allOf, all-append, all-at, All, all-mem}
 use Rattle.basis.specs.Number.{within, allWithin}
 use Rattle.slice.specs.declared.data.Codes.{Codes}
-use Rattle.slice.specs.Slice.{codeWidth, shapeWidth, Slice, codesAt, shapeAt, shapeList, codesOf, shapeOf}
+use Rattle.slice.specs.Slice.{codeWidth, shapeWidth, Slice, codesAt, shapeAt, shapeList, codesOf, shapeOf, editionsOf}
 use Rattle.slice.specs.Faults.{sourceKnown, startInside, offsetInside}
+use Rattle.slice.specs.Editions.{editions, editionOf, editionFault}
+use Rattle.slice.specs.EditionLaws.{at-edition}
 use Rattle.slice.specs.PutLaws.{codes-length, shapes-length}
 use Rattle.slice.specs.SliceLaws.{at-slice, at-turned}
 use Rattle.slice.specs.Sound.{SliceSound, Accepted}
@@ -22,12 +24,13 @@ record Stands (l : List Slice) (i : ℕ) : Type 0 where
   slice : Slice
   among : List·Memᴰ slice l
   holds : (j : ℕ) → j < codeWidth → getD (flatMap codesOf l) (codeWidth * i + j) 0 ≡ getD (codesOf slice) j 0
+  edition : getD (editionsOf l) i 0 ≡ slice .edition
 
 stands : (l : List Slice) (i : ℕ) → i < length l → Stands l i
 unfolding flatMap
 stands [] i h = absurd (not-suc-le-zero h)
 stands (s ∷ l) zero h =
-    record { slice = s; among = List·Memᴰ·head refl; holds = λ j b. rw zero-add (List·getD-append (codesOf s) (flatMap codesOf l) 0 j b) }
+    record { slice = s; among = List·Memᴰ·head refl; holds = λ j b. rw zero-add (List·getD-append (codesOf s) (flatMap codesOf l) 0 j b); edition = refl }
 stands (s ∷ l) (suc i) h =
     let r = stands l i (le-of-suc-le-suc h) in
     record {
@@ -36,6 +39,7 @@ stands (s ∷ l) (suc i) h =
       holds = λ j b.
           let e : codeWidth * suc i + j ≡ codeWidth + (codeWidth * i + j) = omega arith in
           rw (e, getD-append-add (codesOf s) (flatMap codesOf l) (codeWidth * i + j) 0) (r .holds j b);
+      edition = r .edition;
     }
 
 codes-stand : (l : List Slice) (i : ℕ) (s : Stands l i) → codesAt (flatMap codesOf l) i ≡ s .slice .codes
@@ -71,6 +75,15 @@ module _ (vc1 vc2 : ℕ) (l : List Slice) (sound : All (SliceSound vc1 vc2) l) w
         reaches = at-slice (flatMap codesOf l) (length l) long (offsetInside vc1 vc2) (passes (offsetInside vc1 vc2) (λ s h. h .reaches));
         numbers = all-numbers vc1 vc2 l sound;
       }
+
+-- slices that have the editions of their outlines, as lists
+pub editions-match : (first second : ℕ) (l : List Slice) → All (λ s. s .edition ≡ editionOf first second (s .codes .source)) l
+    → editionFault (editions first second (editionsOf l)) (flatMap codesOf l) ≡ false
+editions-match first second l h =
+    at-edition (editions first second (editionsOf l)) (flatMap codesOf l) (length l) (codes-length l) λ i b.
+    let s = stands l i b in
+    s .edition ∙ all-mem (λ s. s .edition ≡ editionOf first second (s .codes .source)) l (s .slice) h (s .among)
+    ∙ ap (λ (c : Codes). editionOf first second (c .source)) (sym (codes-stand l i s))
 
 -- the shape of item k, of a list of numbers within the limit
 pub shape-within : (l : List Float) (n k : ℕ) → allWithin l ≡ true → length l ≡ shapeWidth * n → k < n → allWithin (shapeList (shapeAt l k)) ≡ true

@@ -1,4 +1,4 @@
-// Slices stand in two lists: one has the codes of each, the other its shape.
+// Slices stand in three lists: one has the codes of each, one its shape, one its edition.
 use outline::point::Point;
 use outline::point::Vertex;
 

@@ -32,10 +32,19 @@ pub fn put_shape(room: &mut [f64], at: usize, s: Shape)
 }
 
 // Writes a slice behind the n that stand there.
-pub fn put_slice(c: Codes, s: Shape, slice_at: &mut [usize], slice: &mut [f64], n: usize)
-    requires { ⌜ PutFit (rooms (now «slice_at») (now slice)) n ⌝ }
-    ensures { λ _. ⌜ Placed (sliceOf c s ∷ []) (rooms (now («slice_at» .entry)) (now (slice .entry))) n (n + 1) (rooms (now («slice_at» .exit)) (now (slice .exit))) ⌝ }
+pub fn put_slice(
+    c: Codes,
+    s: Shape,
+    edition: u32,
+    slice_at: &mut [usize],
+    slice: &mut [f64],
+    slice_edition: &mut [u32],
+    n: usize,
+)
+    requires { ⌜ PutFit (rooms (now «slice_at») (now slice) (now «slice_edition»)) n ⌝ }
+    ensures { λ _. ⌜ Placed (sliceOf c s edition ∷ []) (rooms (now («slice_at» .entry)) (now (slice .entry)) (now («slice_edition» .entry))) n (n + 1) (rooms (now («slice_at» .exit)) (now (slice .exit)) (now («slice_edition» .exit))) ⌝ }
 {
     put_codes(slice_at, CODE_WIDTH * n, c);
     put_shape(slice, SHAPE_WIDTH * n, s);
+    slice_edition[n] = edition;
 }

@@ -12,20 +12,22 @@ use borrow.Author.Tests.{ltb-true, ltb-false, lt-ltb, le-ltb, not-false}
 use Rattle.basis.specs.Choice.{by-test}
 use Rattle.basis.specs.Sizes.{mostSlices}
 use Rattle.basis.specs.Refuse.{Row, firstFrom, orElse, countFor}
-use Rattle.basis.specs.RefuseLaws.{Clear, clear, clear-left, clear-right, first-from, found-stays, then-rows, length-ok, size-ok, choice-ok, answer-no, answer-yes}
+use Rattle.basis.specs.RefuseLaws.{Clear, clear, clear-left, clear-right, clear-from, stop-rows, go-rows, then-rows, length-ok, size-ok, choice-ok, answer-no, answer-yes}
 use Rattle.outline.specs.Outline.{Whole}
 use Rattle.view.specs.View.{Fit}
 use Rattle.stitch_run.specs.declared.plan.Plan.{Plan}
 use Rattle.stitch_run.specs.Stitch.{Given, given, sliceOutline, sliceCount, roundCount, loopCount, chainCount}
 use Rattle.slice.specs.Slice.{codeWidth, shapeWidth, codesAt, sliceView, sliceOffset}
 use Rattle.slice.specs.SliceLaws.{start-at, offset-at}
+use Rattle.slice.specs.Editions.{Editions, editionListRows}
+use Rattle.slice.specs.Ready.{EditionsThere}
 use Rattle.stitch_round.specs.Ready.{Sound}
 use Rattle.stitch.specs.Lent.{Lists, NeedFit, StitchFit, Written}
 use Rattle.stitch.specs.declared.write.Stitched.{Stitched}
 use Rattle.stitch_entries.specs.declared.answer.StitchAnswer.{StitchAnswer}
 use Rattle.stitch_entries.specs.declared.faults.Lengths.{Lengths}
 use Rattle.stitch_entries.specs.Answers.{stitchRefused, stitchGiven}
-use Rattle.stitch_entries.specs.StitchEntry.{listPart, codePart, numberPart, indexPart, shapeRows, roomPart, stitchRefusal, lengthsOf, stitchNumber, StitchLeft}
+use Rattle.stitch_entries.specs.StitchEntry.{listPart, codePart, numberPart, indexPart, shapeRows, inputRows, editionPart, roomPart, stitchRows, stitchRefusal, lengthsOf, stitchNumber, StitchLeft}
 
 module _ (g : Given) where
   -- each slice's view fits its own outline
@@ -89,38 +91,50 @@ module _ (g : Given) where
     need-there : NeedFit (g .sliceAt) (g .slices)
     need-there = need-of first-part second-part last-part
 
-  -- nothing found among 1 to 8: the need can be worked out
-  need-fits : (r : ℕ) → r ≡ firstFrom 0 (shapeRows g) → r ≡ 0 → NeedFit (g .sliceAt) (g .slices)
-  need-fits r e z = need-there (clear (shapeRows g) tt (sym (first-from (shapeRows g) r tt e) ∙ z))
+    codes-there : length (g .sliceAt) ≡ codeWidth * g .slices
+    codes-there = at-codes first-part second-part last-part
 
-  -- a number above 0 stays
-  stays : (r : ℕ) (t : List Row) → (r ≡ 0 → ⊥) → r ≡ firstFrom r t
-  stays zero t h = absurd (h refl)
-  stays (suc r) t h = sym (found-stays r t)
+  -- nothing found among 1 to 8
+  module _ (len r : ℕ) (found : r ≡ firstFrom 0 (inputRows g len)) (none : r ≡ 0) where
+    input-clear : Clear (inputRows g len)
+    input-clear = clear-from (inputRows g len) r tt found none
 
-  module _ (l : Lengths) where
+    shape-clear : Clear (shapeRows g)
+    shape-clear = clear-right (editionListRows len (g .slices)) (shapeRows g) input-clear
+
+    -- the need can be worked out
+    need-fits : NeedFit (g .sliceAt) (g .slices)
+    need-fits = need-there shape-clear
+
+    -- there is an edition for each slice
+    each-there : length (g .sliceAt) / codeWidth ≤ len
+    each-there = omega (arith, codes-there shape-clear, length-ok 1 len (g .slices) (input-clear .0))
+
+  module _ (e : Editions) (l : Lengths) where
+    abbrev len : ℕ
+    len = length (e .slices)
+
     abbrev rest : List Row
-    rest = roomPart g l
+    rest = editionPart g e ++ roomPart g l
 
-    pub shape-found : (r : ℕ) → r ≡ firstFrom 0 (shapeRows g) → (r ≡ 0 → ⊥) → r ≡ stitchRefusal g l
+    pub input-found : (r : ℕ) → r ≡ firstFrom 0 (inputRows g len) → (r ≡ 0 → ⊥) → r ≡ stitchRefusal g e l
     unfolding stitchRefusal
-    shape-found r e h = first-from (shapeRows g ++ rest) r tt (then-rows r r 0 (shapeRows g) rest (stays r rest h) e)
+    input-found r f h = stop-rows (inputRows g len) rest r tt f h
 
-    pub room-found : (r p : ℕ) → p ≡ firstFrom 0 (shapeRows g) → p ≡ 0 → r ≡ firstFrom 0 (roomPart g l) → r ≡ stitchRefusal g l
+    pub room-found : (r q p : ℕ) → p ≡ firstFrom 0 (inputRows g len) → p ≡ 0 → q ≡ firstFrom 0 (editionPart g e) → r ≡ firstFrom q (roomPart g l) → r ≡ stitchRefusal g e l
     unfolding stitchRefusal
-    room-found r p e z q =
-        first-from (shapeRows g ++ rest) r tt
-        (then-rows r p 0 (shapeRows g) rest (subst (λ (n : ℕ). r ≡ firstFrom n (roomPart g l)) (sym z) q) e)
+    room-found r q p f z d h = go-rows (inputRows g len) rest p r tt tt f z (then-rows r q 0 (editionPart g e) (roomPart g l) h d)
 
-  module _ (x : Lists) where
-    pub stitch-accepted : (number : ℕ) → number ≡ stitchNumber g x → number ≡ 0 → StitchFit g x
+  module _ (e : Editions) (x : Lists) where
+    pub stitch-accepted : (number : ℕ) → number ≡ stitchNumber g e x → number ≡ 0 → StitchFit g x
     unfolding stitchRefusal
-    stitch-accepted number e z =
+    stitch-accepted number h z =
         let rooms = roomPart g (lengthsOf x) in
-        let ok = clear (shapeRows g ++ rooms) tt (sym e ∙ z) in
-        let d : Clear rooms = clear-right (shapeRows g) rooms ok in
+        let inputs = inputRows g (length (e .slices)) in
+        let ok = clear (stitchRows g e (lengthsOf x)) tt (sym h ∙ z) in
+        let d : Clear rooms = clear-right (editionPart g e) rooms (clear-right inputs (editionPart g e ++ rooms) ok) in
         record {
-          sound = sound (clear-left (shapeRows g) rooms ok);
+          sound = sound (clear-right (editionListRows (length (e .slices)) (g .slices)) (shapeRows g) (clear-left inputs (editionPart g e ++ rooms) ok));
           long =
               record {
                 room = ltb-false _ _ (d .0);
@@ -131,37 +145,41 @@ module _ (g : Given) where
               };
         }
 
-    pub stitch-refused : (number : ℕ) (r : StitchAnswer) → number ≡ stitchNumber g x → (number ≡ 0 → ⊥) → r ≡ stitchRefused number → StitchLeft g x r x
-    stitch-refused number r e h q =
+    pub stitch-refused : (number : ℕ) (r : StitchAnswer) → number ≡ stitchNumber g e x → (number ≡ 0 → ⊥) → r ≡ stitchRefused number → StitchLeft g e x r x
+    stitch-refused number r k h q =
         record {
-          answers = answer-no stitchRefused number _ _ r e h q;
-          room = answer-no (λ _. x .room) number _ _ (x .room) e h refl;
-          ends = answer-no (λ _. x .ends) number _ _ (x .ends) e h refl;
-          chain = answer-no (λ _. x .chain) number _ _ (x .chain) e h refl;
-          chainEnds = answer-no (λ _. x .chainEnds) number _ _ (x .chainEnds) e h refl;
-          chainHow = answer-no (λ _. x .chainHow) number _ _ (x .chainHow) e h refl;
+          answers = answer-no stitchRefused number _ _ r k h q;
+          room = answer-no (λ _. x .room) number _ _ (x .room) k h refl;
+          ends = answer-no (λ _. x .ends) number _ _ (x .ends) k h refl;
+          chain = answer-no (λ _. x .chain) number _ _ (x .chain) k h refl;
+          chainEnds = answer-no (λ _. x .chainEnds) number _ _ (x .chainEnds) k h refl;
+          chainHow = answer-no (λ _. x .chainHow) number _ _ (x .chainHow) k h refl;
         }
 
-    pub stitch-given : (number : ℕ) (s : Stitched) (r : StitchAnswer) (left : Lists) → number ≡ stitchNumber g x → number ≡ 0 → Written g x s left → r ≡ stitchGiven (s .rounds) (s .loops) (s .chains)
-        → StitchLeft g x r left
-    stitch-given number s r left e z w q =
+    pub stitch-given : (number : ℕ) (s : Stitched) (r : StitchAnswer) (left : Lists) → number ≡ stitchNumber g e x → number ≡ 0 → Written g x s left → r ≡ stitchGiven (s .rounds) (s .loops) (s .chains)
+        → StitchLeft g e x r left
+    stitch-given number s r left k z w q =
         record {
-          answers = answer-yes stitchRefused number _ _ r e z (q ∙ told (s .rounds) (s .loops) (s .chains) (w .rounds) (w .loops) (w .chains));
-          room = answer-yes (λ _. x .room) number _ _ (left .room) e z (w .room);
-          ends = answer-yes (λ _. x .ends) number _ _ (left .ends) e z (w .ends);
-          chain = answer-yes (λ _. x .chain) number _ _ (left .chain) e z (w .chain);
-          chainEnds = answer-yes (λ _. x .chainEnds) number _ _ (left .chainEnds) e z (w .chainEnds);
-          chainHow = answer-yes (λ _. x .chainHow) number _ _ (left .chainHow) e z (w .chainHow);
+          answers = answer-yes stitchRefused number _ _ r k z (q ∙ told (s .rounds) (s .loops) (s .chains) (w .rounds) (w .loops) (w .chains));
+          room = answer-yes (λ _. x .room) number _ _ (left .room) k z (w .room);
+          ends = answer-yes (λ _. x .ends) number _ _ (left .ends) k z (w .ends);
+          chain = answer-yes (λ _. x .chain) number _ _ (left .chain) k z (w .chain);
+          chainEnds = answer-yes (λ _. x .chainEnds) number _ _ (left .chainEnds) k z (w .chainEnds);
+          chainHow = answer-yes (λ _. x .chainHow) number _ _ (left .chainHow) k z (w .chainHow);
         }
       where
         told : (a b c : ℕ) → a ≡ roundCount g → b ≡ loopCount g → c ≡ chainCount g → stitchGiven a b c ≡ stitchGiven (roundCount g) (loopCount g) (chainCount g)
         told a b c p q r = cc
 
 -- the same of the parameters of a function
-pub need-given : (o1 o2 : List Float) (at : List ℕ) (numbers : List Float) (p : Plan) (r : ℕ) → r ≡ firstFrom 0 (shapeRows (given o1 o2 at numbers p)) → r ≡ 0 → NeedFit at (p .slices)
-need-given o1 o2 at numbers p r e z = need-fits (given o1 o2 at numbers p) r e z
+pub need-given : (o1 o2 : List Float) (at : List ℕ) (numbers : List Float) (p : Plan) (len r : ℕ) → r ≡ firstFrom 0 (inputRows (given o1 o2 at numbers p) len) → r ≡ 0 → NeedFit at (p .slices)
+need-given o1 o2 at numbers p len r e z = need-fits (given o1 o2 at numbers p) len r e z
 
-pub ruleset finding = (need-given, shape-found, room-found)
+pub each-given : (o1 o2 : List Float) (at : List ℕ) (numbers : List Float) (p : Plan) (l : List ℕ) (r : ℕ) → r ≡ firstFrom 0 (inputRows (given o1 o2 at numbers p) (length l)) → r ≡ 0
+    → EditionsThere at l
+each-given o1 o2 at numbers p l r e z = record { each = each-there (given o1 o2 at numbers p) (length l) r e z }
+
+pub ruleset finding = (need-given, each-given, input-found, room-found)
 
 pub ruleset ways = (stitch-accepted, stitch-refused, stitch-given)
 

@@ -16,7 +16,7 @@ use Rattle.basis.specs.RoomLaws.{room-front}
 use Rattle.basis.specs.Choice.{T-left, T-right, true-of}
 use Rattle.basis.specs.Refuse.{Row, row, firstOf, answer}
 use Rattle.basis.specs.RefusalOrder.{Applies}
-use Rattle.basis.specs.RefuseLaws.{clear, clear-left, clear-both, none-clear, first-later, answer-zero, answer-accepted}
+use Rattle.basis.specs.RefuseLaws.{clear, clear-left, clear-right, clear-both, none-clear, first-later, answer-zero, answer-accepted}
 use Rattle.outline.specs.declared.point.Vertex.{Vertex}
 use Rattle.stitch_run.specs.Run.{Chain, slicesOf, orderOf}
 use Rattle.stitch_run.specs.Demand3.{LowestFirst}
@@ -26,8 +26,10 @@ use Rattle.stitch_run.specs.NeedIsTight.{toAndFro, Tight, need-is-tight}
 use Rattle.stitch.specs.Lent.{Lists, Long}
 use Rattle.stitch_entries.specs.declared.answer.StitchAnswer.{StitchAnswer}
 use Rattle.stitch_entries.specs.Answers.{stitchRefused, stitchGiven}
-use Rattle.stitch_entries.specs.StitchEntry.{shapeRows, roomPart, lengthsOf, stitchRefusal, stitchNumber, StitchLeft}
-use Rattle.stitch_entries.specs.TightLaws.{tight-shape}
+use Rattle.slice.specs.Editions.{Editions, editionListRows}
+use Rattle.stitch_entries.specs.StitchEntry.{shapeRows, inputRows, editionPart, roomPart, stitchRows, lengthsOf, stitchRefusal, stitchNumber, StitchLeft}
+use Rattle.stitch_entries.specs.Matching.{Matched, baseRefusal, base-number, oneEdition, one-matched}
+use Rattle.stitch_entries.specs.TightLaws.{codes-whole, tight-shape}
 use Rattle.stitch_entries.specs.Demand.{parted, chainsIn, Demanded, Shorter}
 
 -- ---- lists one after the other, parted where each ends
@@ -72,19 +74,19 @@ rooms g x = roomPart g (lengthsOf x)
 
 -- ---- an accepted call
 
-module _ (g : Given) (x : Lists) (r : StitchAnswer) (left : Lists) (holds : StitchLeft g x r left) where
+module _ (g : Given) (e : Editions) (x : Lists) (r : StitchAnswer) (left : Lists) (holds : StitchLeft g e x r left) where
   module _ (accepted : r .refusal ≡ 0) where
-    number : stitchNumber g x ≡ 0
-    number = answer-zero stitchRefused (λ a. a .refusal) (stitchNumber g x) _ r (λ k. refl) (holds .answers) accepted
+    number : stitchNumber g e x ≡ 0
+    number = answer-zero stitchRefused (λ a. a .refusal) (stitchNumber g e x) _ r (λ k. refl) (holds .answers) accepted
 
     told : r ≡ stitchGiven (roundCount g) (loopCount g) (chainCount g)
-    told = answer-accepted stitchRefused (stitchNumber g x) _ r (holds .answers) number
+    told = answer-accepted stitchRefused (stitchNumber g e x) _ r (holds .answers) number
 
     chain-is : left .chain ≡ roomOf 0 1 (g .slices) (chainItems g) (x .chain)
-    chain-is = answer-accepted (λ _. x .chain) (stitchNumber g x) _ (left .chain) (holds .chain) number
+    chain-is = answer-accepted (λ _. x .chain) (stitchNumber g e x) _ (left .chain) (holds .chain) number
 
     ends-is : left .chainEnds ≡ roomOf 0 1 (g .slices) (chainEndItems g) (x .chainEnds)
-    ends-is = answer-accepted (λ _. x .chainEnds) (stitchNumber g x) _ (left .chainEnds) (holds .chainEnds) number
+    ends-is = answer-accepted (λ _. x .chainEnds) (stitchNumber g e x) _ (left .chainEnds) (holds .chainEnds) number
 
     order-is : take (g .slices) (left .chain) ≡ chainItems g
     order-is = room-front 0 1 (g .slices) (chainItems g) (x .chain) (left .chain) (g .slices) chain-is (chain-items g)
@@ -96,11 +98,11 @@ module _ (g : Given) (x : Lists) (r : StitchAnswer) (left : Lists) (holds : Stit
     unfolding chainItems chainEndItems roomOf
     parts-are =
         let parts = map slicesOf (runOf g) in
-        let e : take (r .chains) (left .chainEnds) ≡ totals 0 (map length parts) =
+        let h : take (r .chains) (left .chainEnds) ≡ totals 0 (map length parts) =
         ap (λ (n : ℕ). take n (left .chainEnds)) chains-are
         ∙ room-front 0 1 (g .slices) (chainEndItems g) (x .chainEnds) (left .chainEnds) (chainCount g) ends-is (chain-end-items g)
         ∙ ap (totals 0) (sym (map-map length slicesOf (runOf g))) in
-        rw (e, chain-is, ← flatten-map (runOf g)) (parted-totals [] 0 refl parts _)
+        rw (h, chain-is, ← flatten-map (runOf g)) (parted-totals [] 0 refl parts _)
 
     -- Whatever the answer and the lists: rounds are slices, and the chains that are listed are those of demand 3.
     pub stitch-demand : Demanded (g .slices) (r .rounds) (r .chains) (take (g .slices) (left .chain)) (chainsIn (r .chains) left)
@@ -118,11 +120,14 @@ module _ (g : Given) (x : Lists) (r : StitchAnswer) (left : Lists) (holds : Stit
     -- nothing of 1 to 8 applies to it
     pub accepted-shape : firstOf (shapeRows g) ≡ 0
     unfolding stitchRefusal
-    accepted-shape = none-clear (shapeRows g) (clear-left (shapeRows g) (rooms g x) (clear (shapeRows g ++ rooms g x) tt number))
+    accepted-shape =
+        let inputs = inputRows g (length (e .slices)) in
+        let ok = clear-left inputs (editionPart g e ++ rooms g x) (clear (stitchRows g e (lengthsOf x)) tt number) in
+        none-clear (shapeRows g) (clear-right (editionListRows (length (e .slices)) (g .slices)) (shapeRows g) ok)
 
-  -- ---- the room: of a call to which nothing of 1 to 8 applies
+  -- ---- the room: of a call to which nothing of 1 to 8 applies, with editions that match
 
-  module _ (shape : firstOf (shapeRows g) ≡ 0) where
+  module _ (shape : firstOf (shapeRows g) ≡ 0) (matched : Matched g e) where
     refusal-is : (n a b c : ℕ) → answer stitchRefused n (stitchGiven a b c) .refusal ≡ n
     unfolding answer
     refusal-is zero a b c = refl
@@ -130,9 +135,10 @@ module _ (g : Given) (x : Lists) (r : StitchAnswer) (left : Lists) (holds : Stit
 
     -- the rooms decide
     by-rooms : r .refusal ≡ firstOf (rooms g x)
-    unfolding stitchRefusal
+    unfolding baseRefusal
     by-rooms =
-        ap (λ (a : StitchAnswer). a .refusal) (holds .answers) ∙ refusal-is (stitchNumber g x) _ _ _ ∙ first-later (shapeRows g) (rooms g x) (clear (shapeRows g) tt shape)
+        ap (λ (a : StitchAnswer). a .refusal) (holds .answers) ∙ refusal-is (stitchNumber g e x) _ _ _ ∙ base-number g e (lengthsOf x) matched
+        ∙ first-later (shapeRows g) (rooms g x) (clear (shapeRows g) tt shape)
 
     -- the need is always enough
     pub need-accepted : Long g x → r .refusal ≡ 0
@@ -153,8 +159,9 @@ module _ (g : Given) (x : Lists) (r : StitchAnswer) (left : Lists) (holds : Stit
 
 -- ---- the need is tight
 
--- For every n from 1 to 1,792 there is a call of n slices that is accepted, whatever lists are lent that are as long as the need, and whose one chain really
--- holds as many vertices as the need says.
+-- For every n from 1 to 1,792 there is a call of n slices that is accepted, in any one edition, whatever lists are lent that are as long as the need, and whose one chain
+-- really holds as many vertices as the need says.
 pub need-is-reached : (n : ℕ) → 1 ≤ n → n ≤ mostSlices
-    → (toAndFro n .slices ≡ n) × Tight (toAndFro n) × ((x : Lists) (r : StitchAnswer) (left : Lists) → Long (toAndFro n) x → StitchLeft (toAndFro n) x r left → r .refusal ≡ 0)
-need-is-reached n some few = (refl, need-is-tight n some, λ x r left l h. need-accepted (toAndFro n) x r left h (tight-shape n few) l)
+    → (toAndFro n .slices ≡ n) × Tight (toAndFro n) × ((k : ℕ) (x : Lists) (r : StitchAnswer) (left : Lists) → Long (toAndFro n) x → StitchLeft (toAndFro n) (oneEdition k n) x r left → r .refusal ≡ 0)
+need-is-reached n some few =
+    (refl, need-is-tight n some, λ k x r left l h. need-accepted (toAndFro n) (oneEdition k n) x r left h (tight-shape n few) (one-matched (toAndFro n) k (codes-whole n few)) l)

@@ -6,6 +6,7 @@ use lib.ListN.{length}
 use Rattle.basis.specs.Number.{+0}
 use Rattle.basis.specs.Room.{roomOf}
 use Rattle.basis.specs.Refuse.{Row, row, firstOf, answer}
+use Rattle.slice.specs.Editions.{Editions, editionListRows, editionRows}
 use Rattle.stitch_run.specs.Stitch.{Given, needOf, roundCount, loopCount, chainCount, roomItems, endItems, chainItems, chainEndItems, howItems}
 use Rattle.stitch.specs.Lent.{Lists}
 use Rattle.stitch_entries.specs.declared.answer.StitchAnswer.{StitchAnswer}
@@ -26,30 +27,43 @@ numberPart g = numberRows (g .tolerance) (g .outline1) (g .outline2) (g .slice)
 abbrev pub indexPart : Given → List Row
 indexPart g = indexRows (g .vc1) (g .vc2) (g .sliceAt) (g .starts) (g .slices)
 
--- 1 to 8
+-- 1 to 8, but for the list of editions
 abbrev pub shapeRows : Given → List Row
 shapeRows g = listPart g ++ (codePart g ++ (numberPart g ++ indexPart g))
+
+-- 1 to 8, with so many editions of slices
+abbrev pub inputRows : Given → ℕ → List Row
+inputRows g len = editionListRows len (g .slices) ++ shapeRows g
+
+-- 14
+abbrev pub editionPart : Given → Editions → List Row
+editionPart g e = editionRows e (g .sliceAt)
 
 -- 9
 abbrev pub roomPart : Given → Lengths → List Row
 roomPart g l = roomRows (g .sliceAt) (g .slices) l
 
-unfoldable pub stitchRefusal : Given → Lengths → ℕ
-stitchRefusal g l = firstOf (shapeRows g ++ roomPart g l)
+-- "14 edition differs, after 8 and before 9"
+abbrev pub stitchRows : Given → Editions → Lengths → List Row
+stitchRows g e l = inputRows g (length (e .slices)) ++ (editionPart g e ++ roomPart g l)
+
+unfoldable pub stitchRefusal : Given → Editions → Lengths → ℕ
+stitchRefusal g e l = firstOf (stitchRows g e l)
 
 -- how long the lists of a call are
 abbrev pub lengthsOf : Lists → Lengths
 lengthsOf x = lengths (length (x .room)) (length (x .ends)) (length (x .chain)) (length (x .chainEnds)) (length (x .chainHow))
 
 -- the number of a call with these lists lent
-abbrev pub stitchNumber : Given → Lists → ℕ
-stitchNumber g x = stitchRefusal g (lengthsOf x)
+abbrev pub stitchNumber : Given → Editions → Lists → ℕ
+stitchNumber g e x = stitchRefusal g e (lengthsOf x)
 
--- the answer, and each lent list at exit: by the room rule where the call is accepted, untouched where it is refused
-pub record StitchLeft (g : Given) (x : Lists) (r : StitchAnswer) (left : Lists) : Type 0 where
-  pub answers : r ≡ answer stitchRefused (stitchNumber g x) (stitchGiven (roundCount g) (loopCount g) (chainCount g))
-  pub room : left .room ≡ answer (λ _. x .room) (stitchNumber g x) (roomOf +0 3 (needOf (g .sliceAt) (g .slices)) (roomItems g) (x .room))
-  pub ends : left .ends ≡ answer (λ _. x .ends) (stitchNumber g x) (roomOf 0 1 (g .slices) (endItems g) (x .ends))
-  pub chain : left .chain ≡ answer (λ _. x .chain) (stitchNumber g x) (roomOf 0 1 (g .slices) (chainItems g) (x .chain))
-  pub chainEnds : left .chainEnds ≡ answer (λ _. x .chainEnds) (stitchNumber g x) (roomOf 0 1 (g .slices) (chainEndItems g) (x .chainEnds))
-  pub chainHow : left .chainHow ≡ answer (λ _. x .chainHow) (stitchNumber g x) (roomOf 0 1 (g .slices) (howItems g) (x .chainHow))
+-- The answer, and each lent list at exit: by the room rule where the call is accepted, untouched where it is refused. Editions stand in the number alone: what an accepted
+-- call answers and leaves does not depend on them
+pub record StitchLeft (g : Given) (e : Editions) (x : Lists) (r : StitchAnswer) (left : Lists) : Type 0 where
+  pub answers : r ≡ answer stitchRefused (stitchNumber g e x) (stitchGiven (roundCount g) (loopCount g) (chainCount g))
+  pub room : left .room ≡ answer (λ _. x .room) (stitchNumber g e x) (roomOf +0 3 (needOf (g .sliceAt) (g .slices)) (roomItems g) (x .room))
+  pub ends : left .ends ≡ answer (λ _. x .ends) (stitchNumber g e x) (roomOf 0 1 (g .slices) (endItems g) (x .ends))
+  pub chain : left .chain ≡ answer (λ _. x .chain) (stitchNumber g e x) (roomOf 0 1 (g .slices) (chainItems g) (x .chain))
+  pub chainEnds : left .chainEnds ≡ answer (λ _. x .chainEnds) (stitchNumber g e x) (roomOf 0 1 (g .slices) (chainEndItems g) (x .chainEnds))
+  pub chainHow : left .chainHow ≡ answer (λ _. x .chainHow) (stitchNumber g e x) (roomOf 0 1 (g .slices) (howItems g) (x .chainHow))

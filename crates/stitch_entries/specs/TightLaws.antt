@@ -37,7 +37,7 @@ numbers-within zero = refl
 numbers-within (suc m) = all-append within (from +0 +0 n2 +0) (copies (from n2 +0 n2 +0) m) ∙ copies-within (from n2 +0 n2 +0) m refl
 
 module _ (n : ℕ) (few : n ≤ mostSlices) where
-  codes-whole : length (copies codes n) ≡ codeWidth * n
+  pub codes-whole : length (copies codes n) ≡ codeWidth * n
   codes-whole = copies-length codes codeWidth n refl
 
   pub tight-shape : firstOf (shapeRows (toAndFro n)) ≡ 0

@@ -23,15 +23,16 @@ pub struct Lengths {
 
 // Number 1.
 pub fn list_refusal(
+    r: u32,
     outline1: &[f64],
     outline2: &[f64],
     slice_at: &[usize],
     slice: &[f64],
     p: Plan,
 ) -> u32
-    ensures { λ n. ⌜ n ≡ firstFrom 0 (listRows (length (now (outline1 .entry))) (p .vc1) (length (now (outline2 .entry))) (p .vc2) (length (now («slice_at» .entry))) (length (now (slice .entry))) (p .slices)) ⌝ }
+    ensures { λ n. ⌜ n ≡ firstFrom r (listRows (length (now (outline1 .entry))) (p .vc1) (length (now (outline2 .entry))) (p .vc2) (length (now («slice_at» .entry))) (length (now (slice .entry))) (p .slices)) ⌝ }
 {
-    let r = refuse::or_else(0, refuse::bad_length(outline1.len(), 3, p.vc1), 1);
+    let r = refuse::or_else(r, refuse::bad_length(outline1.len(), 3, p.vc1), 1);
     let r = refuse::or_else(r, refuse::bad_length(outline2.len(), 3, p.vc2), 1);
     let r = slice::faults::list_refusal(r, slice_at.len(), slice.len(), p.slices);
     refuse::or_else(r, MOST_SLICES < p.slices, 1)
@@ -81,12 +82,12 @@ pub fn index_refusal(r: u32, slice_at: &[usize], p: Plan) -> u32
 }
 
 // Number 9.
-pub fn room_refusal(slice_at: &[usize], slices: usize, l: Lengths) -> u32
+pub fn room_refusal(r: u32, slice_at: &[usize], slices: usize, l: Lengths) -> u32
     requires { ⌜ NeedFit (now «slice_at») slices ⌝ }
-    ensures { λ n. ⌜ n ≡ firstFrom 0 (roomRows (now («slice_at» .entry)) slices l) ⌝ }
+    ensures { λ n. ⌜ n ≡ firstFrom r (roomRows (now («slice_at» .entry)) slices l) ⌝ }
 {
     let need = write::room_need(slice_at, slices);
-    let r = refuse::or_else(0, l.room / 3 < need, 9);
+    let r = refuse::or_else(r, l.room / 3 < need, 9);
     let r = refuse::or_else(r, l.ends < slices, 9);
     let r = refuse::or_else(r, l.chain < slices, 9);
     let r = refuse::or_else(r, l.chain_ends < slices, 9);

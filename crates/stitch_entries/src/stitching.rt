@@ -3,57 +3,68 @@ ghost use Rattle.basis.specs.Number.{toleranceOf};
 ghost use Rattle.basis.specs.Refuse.{firstFrom};
 ghost use Rattle.stitch_run.specs.Stitch.{given, planOf};
 ghost use Rattle.stitch.specs.Lent.{lists};
-ghost use Rattle.stitch_entries.specs.StitchEntry.{shapeRows, stitchRefusal, StitchLeft};
+ghost use Rattle.slice.specs.Editions.{editions};
+ghost use Rattle.stitch_entries.specs.StitchEntry.{inputRows, stitchRefusal, StitchLeft};
 use crate::answer;
 use crate::answer::StitchAnswer;
 use crate::faults;
 use crate::faults::Lengths;
 use basis::number::Tolerance;
 use select::class::Starts;
+use slice::edition;
 use stitch::write;
 use stitch_run::plan::Plan;
 
 // Numbers 1 to 8.
-fn shape_refusal(
+fn input_refusal(
     outline1: &[f64],
     outline2: &[f64],
     slice_at: &[usize],
     slice: &[f64],
+    editions: usize,
     p: Plan,
 ) -> u32
-    ensures { λ n. ⌜ n ≡ firstFrom 0 (shapeRows (given (now (outline1 .entry)) (now (outline2 .entry)) (now («slice_at» .entry)) (now (slice .entry)) p)) ⌝ }
+    ensures { λ n. ⌜ n ≡ firstFrom 0 (inputRows (given (now (outline1 .entry)) (now (outline2 .entry)) (now («slice_at» .entry)) (now (slice .entry)) p) editions) ⌝ }
 {
-    let r = faults::list_refusal(outline1, outline2, slice_at, slice, p);
+    let r = edition::list_refusal(0, editions, p.slices);
+    let r = faults::list_refusal(r, outline1, outline2, slice_at, slice, p);
     let r = faults::code_refusal(r, slice_at, p);
     let t = p.tolerance;
     let r = faults::number_refusal(r, t, outline1, outline2, slice);
     faults::index_refusal(r, slice_at, p)
 }
 
-// All numbers. The need is worked out only where 1 to 8 found nothing. Number 10 is proved never to be given, so nothing is looked at for it.
+// All numbers. Editions are compared, and the need is worked out, only where 1 to 8 found nothing. Number 10 is proved never to be given, so nothing is looked at for it.
 fn refusal(
     outline1: &[f64],
+    edition1: u32,
     outline2: &[f64],
+    edition2: u32,
     slice_at: &[usize],
     slice: &[f64],
+    slice_edition: &[u32],
     p: Plan,
     l: Lengths,
 ) -> u32
-    ensures { λ n. ⌜ n ≡ stitchRefusal (given (now (outline1 .entry)) (now (outline2 .entry)) (now («slice_at» .entry)) (now (slice .entry)) p) l ⌝ }
+    ensures { λ n. ⌜ n ≡ stitchRefusal (given (now (outline1 .entry)) (now (outline2 .entry)) (now («slice_at» .entry)) (now (slice .entry)) p) (editions edition1 edition2 (now («slice_edition» .entry))) l ⌝ }
 {
-    let r = shape_refusal(outline1, outline2, slice_at, slice, p);
+    let r = input_refusal(outline1, outline2, slice_at, slice, slice_edition.len(), p);
     if r != 0 {
         return r;
     }
-    faults::room_refusal(slice_at, p.slices, l)
+    let r = edition::edition_refusal(0, edition1, edition2, slice_at, slice_edition);
+    faults::room_refusal(r, slice_at, p.slices, l)
 }
 
 // The stitch by a plan.
 pub fn stitched(
     outline1: &[f64],
+    edition1: u32,
     outline2: &[f64],
+    edition2: u32,
     slice_at: &[usize],
     slice: &[f64],
+    slice_edition: &[u32],
     p: Plan,
     room: &mut [f64],
     ends: &mut [usize],
@@ -61,7 +72,7 @@ pub fn stitched(
     chain_ends: &mut [usize],
     chain_how: &mut [usize],
 ) -> StitchAnswer
-    ensures { λ r. ⌜ StitchLeft (given (now (outline1 .entry)) (now (outline2 .entry)) (now («slice_at» .entry)) (now (slice .entry)) p) (lists (now (room .entry)) (now (ends .entry)) (now (chain .entry)) (now («chain_ends» .entry)) (now («chain_how» .entry))) r (lists (now (room .exit)) (now (ends .exit)) (now (chain .exit)) (now («chain_ends» .exit)) (now («chain_how» .exit))) ⌝ }
+    ensures { λ r. ⌜ StitchLeft (given (now (outline1 .entry)) (now (outline2 .entry)) (now («slice_at» .entry)) (now (slice .entry)) p) (editions edition1 edition2 (now («slice_edition» .entry))) (lists (now (room .entry)) (now (ends .entry)) (now (chain .entry)) (now («chain_ends» .entry)) (now («chain_how» .entry))) r (lists (now (room .exit)) (now (ends .exit)) (now (chain .exit)) (now («chain_ends» .exit)) (now («chain_how» .exit))) ⌝ }
 {
     let l = Lengths {
         room: room.len(),
@@ -70,7 +81,17 @@ pub fn stitched(
         chain_ends: chain_ends.len(),
         chain_how: chain_how.len(),
     };
-    let number = refusal(outline1, outline2, slice_at, slice, p, l);
+    let number = refusal(
+        outline1,
+        edition1,
+        outline2,
+        edition2,
+        slice_at,
+        slice,
+        slice_edition,
+        p,
+        l,
+    );
     if number != 0 {
         return answer::stitch_refused(number);
     }
@@ -88,14 +109,17 @@ pub fn stitched(
     ))
 }
 
-// The slices stitched into closed loops.
+// The slices stitched into closed loops. Each slice must have the edition of its outline.
 pub fn entry(
     outline1: &[f64],
     vc1: usize,
+    edition1: u32,
     outline2: &[f64],
     vc2: usize,
+    edition2: u32,
     slice_at: &[usize],
     slice: &[f64],
+    slice_edition: &[u32],
     slices: usize,
     pline2: usize,
     pline1_overlapping: usize,
@@ -109,7 +133,7 @@ pub fn entry(
     chain_ends: &mut [usize],
     chain_how: &mut [usize],
 ) -> StitchAnswer
-    ensures { λ r. ⌜ StitchLeft (given (now (outline1 .entry)) (now (outline2 .entry)) (now («slice_at» .entry)) (now (slice .entry)) (planOf vc1 vc2 slices (record { pline2 = pline2; «pline1_overlapping» = «pline1_overlapping»; «pline2_overlapping» = «pline2_overlapping» }) selector (toleranceOf «tolerance_x» «tolerance_y»))) (lists (now (room .entry)) (now (ends .entry)) (now (chain .entry)) (now («chain_ends» .entry)) (now («chain_how» .entry))) r (lists (now (room .exit)) (now (ends .exit)) (now (chain .exit)) (now («chain_ends» .exit)) (now («chain_how» .exit))) ⌝ }
+    ensures { λ r. ⌜ StitchLeft (given (now (outline1 .entry)) (now (outline2 .entry)) (now («slice_at» .entry)) (now (slice .entry)) (planOf vc1 vc2 slices (record { pline2 = pline2; «pline1_overlapping» = «pline1_overlapping»; «pline2_overlapping» = «pline2_overlapping» }) selector (toleranceOf «tolerance_x» «tolerance_y»))) (editions edition1 edition2 (now («slice_edition» .entry))) (lists (now (room .entry)) (now (ends .entry)) (now (chain .entry)) (now («chain_ends» .entry)) (now («chain_how» .entry))) r (lists (now (room .exit)) (now (ends .exit)) (now (chain .exit)) (now («chain_ends» .exit)) (now («chain_how» .exit))) ⌝ }
 {
     let p = Plan {
         vc1,
@@ -128,9 +152,12 @@ pub fn entry(
     };
     stitched(
         outline1,
+        edition1,
         outline2,
+        edition2,
         slice_at,
         slice,
+        slice_edition,
         p,
         room,
         ends,

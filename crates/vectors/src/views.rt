@@ -147,7 +147,9 @@ pub(crate) fn validate_for_source(w: &[usize], x: &[f64]) -> bool {
     let answer = mask::viewing::mask_validate_for_source(
         outline,
         words::at(r, 0),
+        0,
         v,
+        0,
         words::code_at(r, 10),
         words::code_at(r, 11),
     );

@@ -1,3 +1,4 @@
 pub mod Validate
 pub mod ValidateLaws
 pub mod ValidateExamples
+pub mod ValidateTheorems

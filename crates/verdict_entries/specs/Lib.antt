@@ -1,2 +1,5 @@
 pub mod VerdictAnswers
 pub mod ValidateEntry
+pub mod ReopenEntry
+pub mod ReopenTheorems
+pub mod ReopenExamples

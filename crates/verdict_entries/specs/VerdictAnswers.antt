@@ -1,4 +1,4 @@
--- The flat answer of `mask_validate_for_source`: this paper's number and values for each case of the verdict.
+-- The flat answers of `mask_validate_for_source` and `mask_reopen`: this paper's number and values for each case of the verdict.
 use Prim.Native.Nat.{ℕ}
 use lib.Ieee.{Float}
 use Rattle.basis.specs.Number.{+0}
@@ -7,6 +7,7 @@ use Rattle.outline.specs.declared.point.Vertex.{Vertex}
 use Rattle.verdict.specs.declared.validate.ViewDataValidation.{ViewDataValidation}
 use Rattle.verdict.specs.declared.validate.ViewDataValidation.the-variants as verdict
 use Rattle.verdict_entries.specs.declared.answer.VerdictAnswer.{VerdictAnswer}
+use Rattle.verdict_entries.specs.declared.answer.ReopenAnswer.{ReopenAnswer}
 use Rattle.view_entries.specs.Answers.{noPoint, noVertex}
 
 abbrev pub verdictRecord : ℕ → ℕ → ℕ → Point → Vertex → Float → Float → VerdictAnswer
@@ -43,3 +44,18 @@ verdictGiven (verdict.EndPointNotOnSegment p) = verdictRecord 4 0 0 p noVertex +
 verdictGiven (verdict.EndPointOnFinalOffsetVertex p v) = verdictRecord 5 0 0 p v +0 +0
 verdictGiven (verdict.UpdatedBulgeDoesNotMatch updated expected) = verdictRecord 6 0 0 noPoint noVertex updated expected
 verdictGiven verdict.IsValid = verdictRecord 7 0 0 noPoint noVertex +0 +0
+
+-- a verdict's answer, field by field, and the edition that the slice has from now on
+abbrev pub reopenRecord : VerdictAnswer → ℕ → ReopenAnswer
+reopenRecord a edition =
+    record {
+      refusal = a .refusal;
+      verdict = a .verdict;
+      offset = a .offset;
+      «source_length» = a .«source_length»;
+      point = a .point;
+      vertex = a .vertex;
+      «updated_bulge» = a .«updated_bulge»;
+      expected = a .expected;
+      edition = edition;
+    }

@@ -1,6 +1,6 @@
-// What `mask_validate_for_source` answers: a flat struct, by value. What a verdict does not name is 0.
+// What `mask_validate_for_source` and `mask_reopen` answer: flat structs, by value. What a verdict does not name is 0.
 ghost use mathlib.Core.Path.{_≡_};
-ghost use Rattle.verdict_entries.specs.VerdictAnswers.{verdictRecord, verdictRefused, verdictGiven};
+ghost use Rattle.verdict_entries.specs.VerdictAnswers.{verdictRecord, verdictRefused, verdictGiven, reopenRecord};
 use outline::point::Point;
 use outline::point::Vertex;
 use verdict::validate::ViewDataValidation;
@@ -17,6 +17,20 @@ pub struct VerdictAnswer {
     pub vertex: Vertex,
     pub updated_bulge: f64,
     pub expected: f64,
+}
+
+// A verdict, and the edition that the slice has from now on.
+#[repr(C)]
+pub struct ReopenAnswer {
+    pub refusal: u32,
+    pub verdict: u32,
+    pub offset: usize,
+    pub source_length: usize,
+    pub point: Point,
+    pub vertex: Vertex,
+    pub updated_bulge: f64,
+    pub expected: f64,
+    pub edition: u32,
 }
 
 pub(crate) fn verdict_refused(number: u32) -> VerdictAnswer
@@ -91,5 +105,24 @@ pub(crate) fn verdict_given(v: ViewDataValidation) -> VerdictAnswer
             expected,
         } => { verdict_record(6, 0, 0, NO_POINT, NO_VERTEX, updated_bulge, expected) }
         ViewDataValidation::IsValid => verdict_record(7, 0, 0, NO_POINT, NO_VERTEX, 0.0, 0.0),
+    }
+}
+
+// A verdict's answer as it is, with an edition beside it.
+pub(crate) fn reopen_record(a: VerdictAnswer, edition: u32) -> ReopenAnswer
+    ensures { λ r. ⌜ r ≡ reopenRecord a edition ⌝ }
+{
+    let point = a.point;
+    let vertex = a.vertex;
+    ReopenAnswer {
+        refusal: a.refusal,
+        verdict: a.verdict,
+        offset: a.offset,
+        source_length: a.source_length,
+        point,
+        vertex,
+        updated_bulge: a.updated_bulge,
+        expected: a.expected,
+        edition,
     }
 }

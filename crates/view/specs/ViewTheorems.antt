@@ -293,7 +293,7 @@ module _ (p : Float → Bool) where
   unfolding allOf
   numbers-pass u b e f g h = all-append p (vertexNumbers u) (b ∷ pointNumbers e) ∙ ap₂ _&&_ f (ap₂ _&&_ g h)
 
-  outline-passes : (o : List Float) (vc i : ℕ) → Whole o vc → allOf p o ≡ true → allOf p (vertexNumbers (outlineAt o vc i)) ≡ true
+  pub outline-passes : (o : List Float) (vc i : ℕ) → Whole o vc → allOf p o ≡ true → allOf p (vertexNumbers (outlineAt o vc i)) ≡ true
   unfolding allOf outlineAt vertexAt
   outline-passes o vc i whole a =
       let h : wrap vc i < vc = wrap-lt vc i (omega arith) in

@@ -1,13 +1,35 @@
-//! Slices kept between two runs. The slices of a union are put into a store. Then outline 2 comes
-//! again in a later edition: the slices that are late are found by their edition, each is looked at
-//! against the new outline, and what the store lists is stitched.
+//! Slices kept between two runs. The slices of a union are put into a store. Then both outlines come
+//! again in a later edition, one as it was and one with a corner moved. The slices that are late are
+//! found by their edition; what has not moved is reopened, what has is cut again; and what the store
+//! lists is stitched.
 
 use mask_tools::{
     prune, stitch, First, Intersection, Intersections, Masks, Mode, OnSegment, Outline, Overlaps,
-    Point, Refusal, Second, Source, Store, StraightHost, Tolerance, Verdict,
+    Point, Refusal, Second, Slices, Source, Store, StraightHost, Tolerance, Verdict, Vertex,
 };
 
 const T: Tolerance = Tolerance::new(1.0 / 1024.0);
+
+/// Both outlines cut, and what the union keeps of them.
+fn cut(a: &Outline, b: &Outline, crossings: &Intersections) -> Result<Slices, Refusal> {
+    let masks = Masks {
+        pline1: a,
+        pline2: b,
+        intersections: crossings,
+        overlaps: &Overlaps::new(),
+        tolerance: T,
+        area_limit: None,
+    };
+    let of_a = masks.answered(Source::Pline1, &mut StraightHost)?;
+    let of_b = masks.answered(Source::Pline2, &mut StraightHost)?;
+    prune(
+        Mode::Union,
+        false,
+        [a.vertex_count(), b.vertex_count()],
+        [&of_a, &of_b],
+        &Overlaps::new(),
+    )
+}
 
 fn main() -> Result<(), Refusal> {
     let a = Outline::straight(&[(0.0, 0.0), (4.0, 0.0), (4.0, 4.0), (0.0, 4.0)]);
@@ -19,64 +41,62 @@ fn main() -> Result<(), Refusal> {
     };
     let crossings = Intersections::from([crossing(1, 0, 4.0, 2.0), crossing(2, 3, 2.0, 4.0)]);
 
-    // The first run: both outlines are of edition 1. The slices are put in the order of pruning.
-    let masks = Masks {
-        pline1: &a,
-        pline2: &b,
-        intersections: &crossings,
-        overlaps: &Overlaps::new(),
-        tolerance: T,
-        area_limit: None,
-    };
-    let answered1 = masks.answered(Source::Pline1, &mut StraightHost)?;
-    let answered2 = masks.answered(Source::Pline2, &mut StraightHost)?;
-    let slices = prune(
-        Mode::Union,
-        false,
-        [4, 4],
-        [&answered1, &answered2],
-        &Overlaps::new(),
-    )?;
+    // The first run. The slices are put in the order of pruning.
+    let slices = cut(&a, &b, &crossings)?;
     let mut store = Store::new();
     for slice in slices.iter() {
-        store.put(First, slice, 1)?;
+        store.put(First, slice)?;
     }
     // Another fleet shares the store. What it does changes nothing of ours.
     if let Some(slice) = slices.iter().next() {
-        store.put(Second, slice, 9)?;
+        store.put(Second, slice)?;
         store.compact(Second)?;
     }
 
-    // Outline 2 comes again with a corner moved out: edition 2.
-    let b2 = Outline::straight(&[(2.0, 2.0), (6.0, 2.0), (7.0, 7.0), (2.0, 6.0)]);
-    let editions = |source| if source == Source::Pline1 { 1 } else { 2 };
-    let late: Vec<_> = store
-        .list(First)?
-        .iter()
-        .filter(|kept| kept.edition != editions(kept.slice.source))
-        .collect();
-    println!("late: {}", late.len());
-    for kept in late {
-        // The host says whether the ends still lie on their segments: they do, on the two straight
-        // sides that stayed. Only a slice that fits the new outline is taken over to its edition.
+    // Outline 1 comes again as it was, outline 2 with a corner moved out. Where they cross they stayed.
+    let late_a = a.replaced_by(a.vertices().to_vec());
+    let mut corners = b.vertices().to_vec();
+    corners[2] = Vertex::new(7.0, 7.0, 0.0);
+    let late_b = b.replaced_by(corners);
+    let outlines = |source| match source {
+        Source::Pline1 => (&a, &late_a),
+        Source::Pline2 => (&b, &late_b),
+    };
+    let selector = Mode::Union.selector();
+    let old = store.list(First)?.into_slices(slices.starts);
+    let stitched = stitch(&late_a, &late_b, &old, selector, T);
+    assert_eq!(stitched, Err(Refusal::Edition));
+
+    // The late ones, by their edition. Each is put again where it stood in the order, which the stitch
+    // goes by: here all are late.
+    let again = cut(&late_a, &late_b, &crossings)?;
+    for kept in store.list(First)?.iter() {
+        let mut slice = kept.slice;
+        let (before, now) = outlines(slice.source);
+        assert_ne!(slice.view.edition, now.edition());
+        // The host says whether the ends lie on their segments: they do, on the sides that stayed.
         let on_segment = OnSegment {
             start: true,
             end: true,
         };
-        let verdict = kept.slice.view.validate_for_source(&b2, on_segment)?;
+        let number = kept.handle.number();
         store.release(kept.handle)?;
-        if verdict == Verdict::IsValid {
-            let handle = store.put(First, kept.slice, 2)?;
-            println!("slice {} is of edition 2 now", handle.number());
+        if slice.view.unmoved(before, now)?
+            && slice.view.reopen(now, on_segment)? == Verdict::IsValid
+        {
+            println!("slice {number} is reopened");
         } else {
-            println!("slice {} is cut again", kept.handle.number());
+            let new = again.iter().find(|new| new.source == slice.source);
+            slice = new.expect("the union keeps one slice of each outline");
+            println!("slice {number} is cut again");
         }
+        store.put(First, slice)?;
     }
 
     // What is listed goes straight into a stitch.
     store.compact(First)?;
     let kept = store.list(First)?.into_slices(slices.starts);
-    for lp in stitch(&a, &b2, &kept, Mode::Union.selector(), T)?.loops() {
+    for lp in stitch(&late_a, &late_b, &kept, selector, T)?.loops() {
         let corners: Vec<String> = lp.iter().map(|v| format!("({},{})", v.x, v.y)).collect();
         println!("{}", corners.join(" "));
     }

@@ -1,7 +1,7 @@
 //! Where two outlines meet, the cuts that come of it, and the candidates between the cuts.
 
 use crate::lent::{self, CandidateRoom};
-use crate::list::{Layout, List};
+use crate::list::{Flat, Layout, List};
 use crate::{Outline, Point, Refusal, Source, Split, Tolerance, Vertex, View};
 
 /// The most cuts of an outline: 512 intersections and the two ends of 128 overlaps.
@@ -29,7 +29,8 @@ pub struct Overlap {
     pub start_indexes: (usize, usize),
     /// The segments of outline 1 and of outline 2 on which it ends.
     pub end_indexes: (usize, usize),
-    /// Its view, of outline 2. It runs as outline 2 does: `inverted_direction` is not looked at.
+    /// Its view, of outline 2: its edition is that of outline 2 when the overlap was found. It runs as
+    /// outline 2 does: `inverted_direction` is not looked at.
     pub view_data: View,
     /// Whether the two outlines run against each other along it.
     pub opposing_directions: bool,
@@ -90,7 +91,7 @@ impl Probe {
 /// A part of an outline between two cuts.
 #[derive(Debug, Clone, Copy, PartialEq, Default)]
 pub struct Candidate {
-    /// The part, forward: `inverted_direction` is not looked at.
+    /// The part, forward: `inverted_direction` is not looked at. Its edition is the outline's.
     pub view: View,
     /// What the host tests to learn whether the part lies inside the other outline.
     pub probe: Probe,
@@ -144,6 +145,10 @@ impl Candidates {
     pub(crate) fn numbers(&self) -> &[f64] {
         self.views.numbers()
     }
+
+    pub(crate) fn editions(&self) -> &[u32] {
+        self.views.editions()
+    }
 }
 
 impl FromIterator<Candidate> for Candidates {
@@ -189,15 +194,15 @@ pub fn cut_order(
     tolerance: Tolerance,
 ) -> Result<Cuts, Refusal> {
     let mut cuts = Cuts::with_room(room_for_cuts(intersections, overlaps));
-    let (cut_at, cut) = cuts.room();
+    let room = cuts.room();
     let count = lent::cut_order(
         outline,
         source,
         intersections,
         overlaps,
         tolerance,
-        cut_at,
-        cut,
+        &mut room.indexes,
+        &mut room.numbers,
     )?;
     cuts.truncate(count);
     Ok(cuts)
@@ -219,12 +224,12 @@ pub fn candidates(
     let room = room_for_cuts(intersections, overlaps);
     let mut views = List::<ForwardView>::with_room(room);
     let mut probes = List::<Probe>::with_room(room);
-    let (cand_at, cand) = views.room();
-    let (_, probe) = probes.room();
+    let room = views.room();
     let room = CandidateRoom {
-        cand_at,
-        cand,
-        probe,
+        cand_at: &mut room.indexes,
+        cand: &mut room.numbers,
+        probe: &mut probes.room().numbers,
+        cand_edition: &mut room.editions,
     };
     let count = lent::candidates(
         outline,
@@ -252,27 +257,32 @@ struct ForwardView(View);
 impl Layout for ForwardView {
     const INDEXES: usize = 2;
     const NUMBERS: usize = 6;
+    const EDITIONS: usize = 1;
 
-    fn write(&self, indexes: &mut Vec<usize>, numbers: &mut Vec<f64>) {
-        indexes.extend([self.0.start_index, self.0.end_index_offset]);
-        numbers.extend(self.0.numbers());
+    fn write(&self, to: &mut Flat) {
+        to.indexes
+            .extend([self.0.start_index, self.0.end_index_offset]);
+        to.numbers.extend(self.0.numbers());
+        to.editions.push(self.0.edition);
     }
 
-    fn read(indexes: &[usize], numbers: &[f64]) -> Self {
-        ForwardView(View::of_numbers(indexes[0], indexes[1], numbers))
+    fn read(indexes: &[usize], numbers: &[f64], editions: &[u32]) -> Self {
+        let [start, offset] = [indexes[0], indexes[1]];
+        ForwardView(View::of_numbers(start, offset, numbers, editions[0]))
     }
 }
 
 impl Layout for Intersection {
     const INDEXES: usize = 2;
     const NUMBERS: usize = 2;
+    const EDITIONS: usize = 0;
 
-    fn write(&self, indexes: &mut Vec<usize>, numbers: &mut Vec<f64>) {
-        indexes.extend([self.start_index1, self.start_index2]);
-        numbers.extend([self.point.x, self.point.y]);
+    fn write(&self, to: &mut Flat) {
+        to.indexes.extend([self.start_index1, self.start_index2]);
+        to.numbers.extend([self.point.x, self.point.y]);
     }
 
-    fn read(indexes: &[usize], numbers: &[f64]) -> Self {
+    fn read(indexes: &[usize], numbers: &[f64], _: &[u32]) -> Self {
         Intersection {
             start_index1: indexes[0],
             start_index2: indexes[1],
@@ -284,9 +294,10 @@ impl Layout for Intersection {
 impl Layout for Overlap {
     const INDEXES: usize = 7;
     const NUMBERS: usize = 6;
+    const EDITIONS: usize = 1;
 
-    fn write(&self, indexes: &mut Vec<usize>, numbers: &mut Vec<f64>) {
-        indexes.extend([
+    fn write(&self, to: &mut Flat) {
+        to.indexes.extend([
             self.start_indexes.0,
             self.start_indexes.1,
             self.end_indexes.0,
@@ -295,15 +306,16 @@ impl Layout for Overlap {
             self.view_data.start_index,
             self.view_data.end_index_offset,
         ]);
-        numbers.extend(self.view_data.numbers());
+        to.numbers.extend(self.view_data.numbers());
+        to.editions.push(self.view_data.edition);
     }
 
-    fn read(indexes: &[usize], numbers: &[f64]) -> Self {
+    fn read(indexes: &[usize], numbers: &[f64], editions: &[u32]) -> Self {
         Overlap {
             start_indexes: (indexes[0], indexes[1]),
             end_indexes: (indexes[2], indexes[3]),
             opposing_directions: indexes[4] != 0,
-            view_data: View::of_numbers(indexes[5], indexes[6], numbers),
+            view_data: View::of_numbers(indexes[5], indexes[6], numbers, editions[0]),
         }
     }
 }
@@ -311,13 +323,15 @@ impl Layout for Overlap {
 impl Layout for Cut {
     const INDEXES: usize = 3;
     const NUMBERS: usize = 2;
+    const EDITIONS: usize = 0;
 
-    fn write(&self, indexes: &mut Vec<usize>, numbers: &mut Vec<f64>) {
-        indexes.extend([self.segment, usize::from(self.overlap_mark), self.arrival]);
-        numbers.extend([self.point.x, self.point.y]);
+    fn write(&self, to: &mut Flat) {
+        to.indexes
+            .extend([self.segment, usize::from(self.overlap_mark), self.arrival]);
+        to.numbers.extend([self.point.x, self.point.y]);
     }
 
-    fn read(indexes: &[usize], numbers: &[f64]) -> Self {
+    fn read(indexes: &[usize], numbers: &[f64], _: &[u32]) -> Self {
         Cut {
             segment: indexes[0],
             overlap_mark: indexes[1] != 0,
@@ -330,18 +344,19 @@ impl Layout for Cut {
 impl Layout for CutSplit {
     const INDEXES: usize = 0;
     const NUMBERS: usize = 9;
+    const EDITIONS: usize = 0;
 
-    fn write(&self, _: &mut Vec<usize>, numbers: &mut Vec<f64>) {
+    fn write(&self, to: &mut Flat) {
         let Split {
             updated_start,
             split_vertex,
         } = self.split;
         for vertex in [updated_start, split_vertex, self.split_vertex_of_segment] {
-            numbers.extend([vertex.x, vertex.y, vertex.bulge]);
+            to.numbers.extend([vertex.x, vertex.y, vertex.bulge]);
         }
     }
 
-    fn read(_: &[usize], numbers: &[f64]) -> Self {
+    fn read(_: &[usize], numbers: &[f64], _: &[u32]) -> Self {
         CutSplit {
             split: Split {
                 updated_start: vertex_at(numbers, 0),
@@ -355,14 +370,15 @@ impl Layout for CutSplit {
 impl Layout for Probe {
     const INDEXES: usize = 0;
     const NUMBERS: usize = 6;
+    const EDITIONS: usize = 0;
 
-    fn write(&self, _: &mut Vec<usize>, numbers: &mut Vec<f64>) {
+    fn write(&self, to: &mut Flat) {
         for vertex in [self.start, self.end] {
-            numbers.extend([vertex.x, vertex.y, vertex.bulge]);
+            to.numbers.extend([vertex.x, vertex.y, vertex.bulge]);
         }
     }
 
-    fn read(_: &[usize], numbers: &[f64]) -> Self {
+    fn read(_: &[usize], numbers: &[f64], _: &[u32]) -> Self {
         Probe {
             start: vertex_at(numbers, 0),
             end: vertex_at(numbers, 1),
@@ -400,7 +416,7 @@ mod tests {
             start_indexes: (1, 2),
             end_indexes: (3, 4),
             opposing_directions: true,
-            view_data: View::of_numbers(5, 6, &[1.0, 2.0, 3.0, 4.0, 5.0, 6.0]),
+            view_data: View::of_numbers(5, 6, &[1.0, 2.0, 3.0, 4.0, 5.0, 6.0], 8),
         }
     }
 
@@ -496,14 +512,16 @@ mod tests {
                 vec![1.0, 2.0, 3.0, 4.0, 5.0, 6.0],
                 vec![9.0, 8.0, 7.0, 6.0, 5.0, 4.0],
             ],
-        );
+        )
+        .with_editions(&[u32::MAX]);
         let laps = Overlaps::new();
+        let outline = outline().with_edition(u32::MAX);
         let (found, calls) = told([reply], || {
-            candidates(&outline(), Source::Pline1, &hits, &laps, &splits, T)
+            candidates(&outline, Source::Pline1, &hits, &laps, &splits, T)
         });
         let found = found.unwrap();
         let expected = Candidate {
-            view: View::of_numbers(7, 8, &[1.0, 2.0, 3.0, 4.0, 5.0, 6.0]),
+            view: View::of_numbers(7, 8, &[1.0, 2.0, 3.0, 4.0, 5.0, 6.0], u32::MAX),
             probe: Probe {
                 start: Vertex::new(9.0, 8.0, 7.0),
                 end: Vertex::new(6.0, 5.0, 4.0),
@@ -513,6 +531,7 @@ mod tests {
         assert_eq!(found.get(1), None);
         assert!(found.iter().eq([expected]));
         assert_eq!(found.iter().collect::<Candidates>(), found);
+        assert_eq!(found.editions(), [u32::MAX]);
 
         let call = &calls[0];
         assert_eq!(call.entry, "candidates");
@@ -523,6 +542,8 @@ mod tests {
         assert_eq!(call.lent("cand_at"), Lent::Room(2 * 2));
         assert_eq!(call.lent("cand"), Lent::Room(2 * 6));
         assert_eq!(call.lent("probe"), Lent::Room(2 * 6));
+        assert_eq!(call.lent("edition"), Lent::Code(u32::MAX));
+        assert_eq!(call.lent("cand_edition"), Lent::Room(2));
     }
 
     #[test]

@@ -89,6 +89,8 @@ pub struct CandidateRoom<'a> {
     pub cand: &'a mut [f64],
     /// 6: the two vertices whose midpoint the host tests, x, y, bulge each.
     pub probe: &'a mut [f64],
+    /// 1: the outline's edition.
+    pub cand_edition: &'a mut [u32],
 }
 
 /// Writes the candidates of one outline, and gives their number.
@@ -104,6 +106,7 @@ pub fn candidates(
     let answer = ffi::candidates(
         outline.numbers(),
         outline.vertex_count(),
+        outline.edition(),
         source.code(),
         intersections.indexes(),
         intersections.numbers(),
@@ -117,8 +120,20 @@ pub fn candidates(
         room.cand_at,
         room.cand,
         room.probe,
+        room.cand_edition,
     );
     Refusal::check(answer.refusal, answer.count)
+}
+
+/// Room for slices, for each of [`slices_needed`]:
+#[derive(Debug)]
+pub struct SliceRoom<'a> {
+    /// 4: source, inverted, start, offset.
+    pub slice_at: &'a mut [usize],
+    /// 6: updated start x, y, bulge, end bulge, end x, y.
+    pub slice: &'a mut [f64],
+    /// 1: the edition of the outline that the slice was cut from.
+    pub slice_edition: &'a mut [u32],
 }
 
 /// What [`prune`] wrote.
@@ -132,17 +147,13 @@ pub struct Pruned {
 
 /// Writes the slices that `mode` keeps. Beside the candidates of each outline stand the host's
 /// answers, 1 for inside and 0 for outside; any other number is refused with [`Refusal::Code`].
-///
-/// Room for a slice: `slice_at` 4 (source, inverted, start, offset), `slice` 6 (updated start x, y,
-/// bulge, end bulge, end x, y).
 pub fn prune(
     mode: Mode,
     opposing: bool,
     vertex_counts: [usize; 2],
     answered: [(&Candidates, &[u8]); 2],
     overlaps: &Overlaps,
-    slice_at: &mut [usize],
-    slice: &mut [f64],
+    room: SliceRoom<'_>,
 ) -> Result<Pruned, Refusal> {
     let [(candidates1, inside1), (candidates2, inside2)] = answered;
     let answer = ffi::prune(
@@ -152,17 +163,21 @@ pub fn prune(
         vertex_counts[1],
         candidates1.indexes(),
         candidates1.numbers(),
+        candidates1.editions(),
         inside1,
         candidates1.len(),
         candidates2.indexes(),
         candidates2.numbers(),
+        candidates2.editions(),
         inside2,
         candidates2.len(),
         overlaps.indexes(),
         overlaps.numbers(),
+        overlaps.editions(),
         overlaps.len(),
-        slice_at,
-        slice,
+        room.slice_at,
+        room.slice,
+        room.slice_edition,
     );
     let pruned = Pruned {
         slices: answer.slices,
@@ -210,10 +225,13 @@ pub fn stitch(
     let answer = ffi::stitch(
         pline1.numbers(),
         pline1.vertex_count(),
+        pline1.edition(),
         pline2.numbers(),
         pline2.vertex_count(),
+        pline2.edition(),
         slices.list.indexes(),
         slices.list.numbers(),
+        slices.list.editions(),
         slices.len(),
         slices.starts.pline2,
         slices.starts.pline1_overlapping,

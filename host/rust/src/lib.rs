@@ -63,6 +63,53 @@
 //! [`View`] has the entries over a single part of an outline. [`lent`] has the calls that write
 //! lists with room that the caller lends.
 //!
+//! # Outlines that change
+//!
+//! An outline has an edition, and what is cut of it keeps that edition: a [`View`], and with it each
+//! candidate, overlap and slice. Slices of one edition are not stitched with an outline of another:
+//! that is [`Refusal::Edition`], and the way out is to cut again. [`View::reopen`] and
+//! [`View::unmoved`] are for slices that are to be kept; docs/REOPENING.md says when that is honest.
+//!
+//! ```
+//! use mask_tools::{Intersection, Intersections, Masks, Mode, Outline, Overlaps, Point, Refusal};
+//! use mask_tools::{Source, StraightHost, Tolerance, Vertex};
+//!
+//! # fn main() -> Result<(), mask_tools::Refusal> {
+//! let a = Outline::straight(&[(0.0, 0.0), (4.0, 0.0), (4.0, 4.0), (0.0, 4.0)]);
+//! let b = Outline::straight(&[(2.0, 2.0), (6.0, 2.0), (6.0, 6.0), (2.0, 6.0)]);
+//! # let crossing = |start_index1, start_index2, x, y| Intersection {
+//! #     start_index1,
+//! #     start_index2,
+//! #     point: Point::new(x, y),
+//! # };
+//! # let crossings = Intersections::from([crossing(1, 0, 4.0, 2.0), crossing(2, 3, 2.0, 4.0)]);
+//! # let no_overlaps = Overlaps::new();
+//! let masks = Masks {
+//!     pline1: &a,
+//!     pline2: &b,
+//!     // ..
+//! #     intersections: &crossings,
+//! #     overlaps: &no_overlaps,
+//! #     tolerance: Tolerance::new(1.0 / 1024.0),
+//! #     area_limit: None,
+//! };
+//! let of_a = masks.answered(Source::Pline1, &mut StraightHost)?;
+//! let of_b = masks.answered(Source::Pline2, &mut StraightHost)?;
+//!
+//! // A late packet: A has another first corner. Its old candidates are not taken for the new one.
+//! let mut corners = a.vertices().to_vec();
+//! corners[0] = Vertex::new(1.0, 1.0, 0.0);
+//! let late = Masks {
+//!     pline1: &a.replaced_by(corners),
+//!     ..masks
+//! };
+//! let found = late.combine_answered(Mode::Union, [&of_a, &of_b], &mut StraightHost);
+//! assert_eq!(found, Err(Refusal::Edition));
+//! assert!(late.combine(Mode::Union, &mut StraightHost).is_ok());
+//! # Ok(())
+//! # }
+//! ```
+//!
 //! # Masks in whole microdegrees
 //!
 //! [`WholeOutline`] is an outline without arcs whose coordinates are whole numbers. Its winding

@@ -4,22 +4,43 @@ use std::fmt;
 use std::marker::PhantomData;
 use std::ops::Range;
 
-/// How an item of a list is laid out: some indexes or codes, and some numbers.
+/// How an item of a list is laid out: some indexes or codes, some numbers, and, where it was cut from
+/// an outline, that one's edition.
 pub trait Layout: Sized {
     /// How many indexes and codes an item has.
     const INDEXES: usize;
     /// How many numbers an item has; at least 1.
     const NUMBERS: usize;
+    /// How many editions an item has: 1 or 0.
+    const EDITIONS: usize;
 
-    /// Adds the item at the end of the two lists.
-    fn write(&self, indexes: &mut Vec<usize>, numbers: &mut Vec<f64>);
+    /// Adds the item at the end of the lists.
+    fn write(&self, to: &mut Flat);
 
     /// The item that lies in these places.
-    fn read(indexes: &[usize], numbers: &[f64]) -> Self;
+    fn read(indexes: &[usize], numbers: &[f64], editions: &[u32]) -> Self;
+}
+
+/// The items of a list as the library takes them, each kind of value in a list of its own.
+#[derive(Debug, Clone, PartialEq)]
+pub struct Flat {
+    pub(crate) indexes: Vec<usize>,
+    pub(crate) numbers: Vec<f64>,
+    pub(crate) editions: Vec<u32>,
+}
+
+impl Flat {
+    const fn new() -> Self {
+        Flat {
+            indexes: Vec::new(),
+            numbers: Vec::new(),
+            editions: Vec::new(),
+        }
+    }
 }
 
 /// A list that owns its items. It holds them as the library takes them: the indexes in one flat
-/// list, the numbers in another.
+/// list, the numbers in another, the editions in a third.
 ///
 /// ```
 /// use mask_tools::{Intersection, Intersections, Point};
@@ -37,8 +58,7 @@ pub trait Layout: Sized {
 /// ```
 #[derive(Clone, PartialEq)]
 pub struct List<T> {
-    indexes: Vec<usize>,
-    numbers: Vec<f64>,
+    flat: Flat,
     items: PhantomData<T>,
 }
 
@@ -46,23 +66,26 @@ impl<T> List<T> {
     /// A list without items.
     pub const fn new() -> Self {
         List {
-            indexes: Vec::new(),
-            numbers: Vec::new(),
+            flat: Flat::new(),
             items: PhantomData,
         }
     }
 
     pub(crate) fn indexes(&self) -> &[usize] {
-        &self.indexes
+        &self.flat.indexes
     }
 
     pub(crate) fn numbers(&self) -> &[f64] {
-        &self.numbers
+        &self.flat.numbers
     }
 
-    /// Both lists, to be written.
-    pub(crate) fn room(&mut self) -> (&mut [usize], &mut [f64]) {
-        (&mut self.indexes, &mut self.numbers)
+    pub(crate) fn editions(&self) -> &[u32] {
+        &self.flat.editions
+    }
+
+    /// The lists, to be written.
+    pub(crate) fn room(&mut self) -> &mut Flat {
+        &mut self.flat
     }
 }
 
@@ -70,31 +93,35 @@ impl<T: Layout> List<T> {
     /// Room for so many items, all 0.
     pub(crate) fn with_room(count: usize) -> Self {
         List {
-            indexes: vec![0; count * T::INDEXES],
-            numbers: vec![0.0; count * T::NUMBERS],
+            flat: Flat {
+                indexes: vec![0; count * T::INDEXES],
+                numbers: vec![0.0; count * T::NUMBERS],
+                editions: vec![0; count * T::EDITIONS],
+            },
             items: PhantomData,
         }
     }
 
     /// Keeps the first `count` items.
     pub(crate) fn truncate(&mut self, count: usize) {
-        self.indexes.truncate(count * T::INDEXES);
-        self.numbers.truncate(count * T::NUMBERS);
+        self.flat.indexes.truncate(count * T::INDEXES);
+        self.flat.numbers.truncate(count * T::NUMBERS);
+        self.flat.editions.truncate(count * T::EDITIONS);
     }
 
     /// Adds an item at the end.
     pub fn push(&mut self, item: T) {
-        item.write(&mut self.indexes, &mut self.numbers);
+        item.write(&mut self.flat);
     }
 
     /// How many items it has.
     pub fn len(&self) -> usize {
-        self.numbers.len() / T::NUMBERS
+        self.flat.numbers.len() / T::NUMBERS
     }
 
     /// Whether it has none.
     pub fn is_empty(&self) -> bool {
-        self.numbers.is_empty()
+        self.flat.numbers.is_empty()
     }
 
     /// Item number `index`; none where there is no such item.
@@ -112,8 +139,9 @@ impl<T: Layout> List<T> {
 
     fn item(&self, index: usize) -> T {
         T::read(
-            &self.indexes[index * T::INDEXES..][..T::INDEXES],
-            &self.numbers[index * T::NUMBERS..][..T::NUMBERS],
+            &self.flat.indexes[index * T::INDEXES..][..T::INDEXES],
+            &self.flat.numbers[index * T::NUMBERS..][..T::NUMBERS],
+            &self.flat.editions[index * T::EDITIONS..][..T::EDITIONS],
         )
     }
 }
@@ -189,7 +217,7 @@ impl<T: Layout> ExactSizeIterator for Iter<'_, T> {}
 #[cfg(test)]
 mod tests {
     use super::*;
-    use crate::{Intersection, Point, Probe, Vertex};
+    use crate::{Intersection, Overlap, Point, Probe, Vertex, View};
 
     fn hit(i: usize) -> Intersection {
         Intersection {
@@ -226,15 +254,33 @@ mod tests {
     fn room_is_0_until_it_is_written() {
         let mut list: List<Intersection> = List::with_room(2);
         assert_eq!(list.get(1), Some(Intersection::default()));
-        let (indexes, numbers) = list.room();
-        indexes[1] = 7;
-        numbers[0] = 2.5;
+        let room = list.room();
+        room.indexes[1] = 7;
+        room.numbers[0] = 2.5;
+        assert!(room.editions.is_empty());
         list.truncate(1);
         assert_eq!(list.len(), 1);
         assert_eq!(
             (list.indexes(), list.numbers()),
             (&[0, 7][..], &[2.5, 0.0][..])
         );
+    }
+
+    #[test]
+    fn what_was_cut_keeps_its_edition() {
+        let lap = |edition| Overlap {
+            view_data: View {
+                edition,
+                ..View::default()
+            },
+            ..Overlap::default()
+        };
+        let mut list = List::from([lap(0), lap(u32::MAX), lap(3)]);
+        assert_eq!(list.editions(), [0, u32::MAX, 3]);
+        assert!(list.iter().eq([lap(0), lap(u32::MAX), lap(3)]));
+        list.truncate(2);
+        assert_eq!(list.editions(), [0, u32::MAX]);
+        assert_ne!(list, List::from([lap(0), lap(1)]));
     }
 
     #[test]

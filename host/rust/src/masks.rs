@@ -51,7 +51,8 @@ impl Masks<'_> {
     }
 
     /// Cuts both outlines, asks the host, prunes, stitches, and takes the area pass where there
-    /// is a limit. The first call that is refused ends it.
+    /// is a limit. The first call that is refused ends it. Overlaps of another edition of outline 2
+    /// are refused with [`Refusal::Edition`].
     pub fn combine<H: Host + ?Sized>(&self, mode: Mode, host: &mut H) -> Result<Combined, Refusal> {
         let answered1 = self.answered(Source::Pline1, host)?;
         let answered2 = self.answered(Source::Pline2, host)?;
@@ -79,7 +80,9 @@ impl Masks<'_> {
         Ok(Answered { candidates, inside })
     }
 
-    /// Goes on from the answers of [`answered`](Masks::answered) for outline 1 and outline 2.
+    /// Goes on from the answers of [`answered`](Masks::answered) for outline 1 and outline 2. Where
+    /// one of the outlines has been changed since, its candidates are of another edition, and it
+    /// refuses with [`Refusal::Edition`], but where none of them stays.
     pub fn combine_answered<H: Host + ?Sized>(
         &self,
         mode: Mode,
@@ -176,9 +179,9 @@ mod tests {
         Reply::writing(count(1), vec![vec![segment, 0, 0]], vec![vec![4.0, 2.0]])
     }
 
-    /// One candidate, with a probe that starts at this x.
-    fn candidates(x: f64) -> Reply {
-        Reply::writing(count(1), vec![vec![1, 2]], vec![vec![], vec![x]])
+    /// One candidate, with a probe that starts at this x, and of this edition.
+    fn candidates(x: f64, edition: u32) -> Reply {
+        Reply::writing(count(1), vec![vec![1, 2]], vec![vec![], vec![x]]).with_editions(&[edition])
     }
 
     fn pruned() -> Reply {
@@ -186,7 +189,7 @@ mod tests {
             slices: 1,
             ..PruneAnswer::default()
         };
-        Reply::writing(answer, vec![vec![2, 0, 1, 2]], vec![])
+        Reply::writing(answer, vec![vec![2, 0, 1, 2]], vec![]).with_editions(&[4])
     }
 
     /// One loop of three vertices.
@@ -203,9 +206,9 @@ mod tests {
     fn steps() -> Vec<Reply> {
         vec![
             cuts(1),
-            candidates(11.0),
+            candidates(11.0, 8),
             cuts(0),
-            candidates(22.0),
+            candidates(22.0, 9),
             pruned(),
             stitched(),
         ]
@@ -217,8 +220,9 @@ mod tests {
         host: &mut Told,
     ) -> (Result<Combined, Refusal>, Vec<Call>) {
         let masks = Masks {
-            pline1: &Outline::straight(&[(0.0, 0.0), (4.0, 0.0), (4.0, 4.0), (0.0, 4.0)]),
-            pline2: &Outline::straight(&[(2.0, 2.0), (6.0, 2.0), (6.0, 6.0)]),
+            pline1: &Outline::straight(&[(0.0, 0.0), (4.0, 0.0), (4.0, 4.0), (0.0, 4.0)])
+                .with_edition(2),
+            pline2: &Outline::straight(&[(2.0, 2.0), (6.0, 2.0), (6.0, 6.0)]).with_edition(3),
             intersections: &Intersections::from([Intersection::default()]),
             overlaps: &Overlaps::new(),
             tolerance: Tolerance { x: 0.5, y: 0.25 },
@@ -269,6 +273,15 @@ mod tests {
         assert_eq!(prune.lent("inside1"), Lent::Answers(vec![1]));
         assert_eq!(prune.lent("inside2"), Lent::Answers(vec![0]));
 
+        // Each outline's edition, and what the call before has given beside the candidates and slices.
+        assert_eq!(calls[1].lent("edition"), Lent::Code(2));
+        assert_eq!(calls[3].lent("edition"), Lent::Code(3));
+        assert_eq!(prune.lent("cand_edition1"), Lent::Editions(vec![8]));
+        assert_eq!(prune.lent("cand_edition2"), Lent::Editions(vec![9]));
+        assert_eq!(calls[5].lent("slice_edition"), Lent::Editions(vec![4]));
+        assert_eq!(calls[5].lent("edition1"), Lent::Code(2));
+        assert_eq!(calls[5].lent("edition2"), Lent::Code(3));
+
         let stitch = &calls[5];
         assert_eq!(stitch.lent("slice_at"), Lent::Counts(vec![2, 0, 1, 2]));
         assert_eq!(stitch.lent("selector"), Lent::Code(1));
@@ -293,6 +306,17 @@ mod tests {
             assert_eq!(combined.loops().count(), loops);
             assert_eq!(combined.stitched.loop_count(), 1);
         }
+    }
+
+    #[test]
+    fn a_late_outline_is_told_by_the_stitch() {
+        let mut replies: Vec<Reply> = steps().into_iter().take(5).collect();
+        replies.push(Reply::of(StitchAnswer {
+            refusal: 14,
+            ..StitchAnswer::default()
+        }));
+        let (combined, _) = combine(replies, None, &mut host(1.0));
+        assert_eq!(combined, Err(Refusal::Edition));
     }
 
     #[test]

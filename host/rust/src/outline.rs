@@ -79,9 +79,15 @@ impl Tolerance {
     }
 }
 
-/// An outline: the vertices of a mask, in order. The last is followed by the first.
+/// An outline: the vertices of a mask, in order, and its edition. The last vertex is followed by the
+/// first.
 ///
 /// The library takes outlines of 2 to 1,024 vertices, with numbers of magnitude at most 2^30.
+///
+/// The edition tells an outline from what it was before. What is cut of an outline keeps its edition,
+/// and is not joined to parts of another one: [`Refusal::Edition`](crate::Refusal). So a changed
+/// outline must have another edition, and [`replaced_by`](Outline::replaced_by) gives it the next. An
+/// outline that is new has edition 0 until [`with_edition`](Outline::with_edition) gives it another.
 ///
 /// ```
 /// use mask_tools::{Outline, Vertex};
@@ -93,16 +99,45 @@ impl Tolerance {
 /// // A circle: two arcs of bulge 1, each half of it.
 /// let circle: Outline = [Vertex::new(0.0, 0.0, 1.0), Vertex::new(2.0, 0.0, 1.0)].into();
 /// assert!(!circle.is_straight());
+///
+/// // A late packet: the first corner has moved.
+/// let mut corners = square.vertices().to_vec();
+/// corners[0] = Vertex::new(1.0, 1.0, 0.0);
+/// let late = square.replaced_by(corners);
+/// assert_eq!((square.edition(), late.edition()), (0, 1));
 /// ```
 #[derive(Debug, Clone, PartialEq, Default)]
 pub struct Outline {
     vertices: Vec<Vertex>,
+    edition: u32,
 }
 
 impl Outline {
-    /// The outline of these vertices.
+    /// The outline of these vertices, of edition 0.
     pub const fn new(vertices: Vec<Vertex>) -> Self {
-        Outline { vertices }
+        Outline {
+            vertices,
+            edition: 0,
+        }
+    }
+
+    /// The same outline as this edition.
+    pub fn with_edition(self, edition: u32) -> Self {
+        Outline { edition, ..self }
+    }
+
+    /// What this outline is changed to: other vertices, and the next edition. After the last edition,
+    /// 2^32 - 1, comes 0.
+    pub fn replaced_by(&self, vertices: Vec<Vertex>) -> Outline {
+        Outline {
+            vertices,
+            edition: self.edition.wrapping_add(1),
+        }
+    }
+
+    /// Its edition.
+    pub const fn edition(&self) -> u32 {
+        self.edition
     }
 
     /// The outline of straight segments between these positions.
@@ -187,6 +222,19 @@ mod tests {
         assert_eq!(t.segment(3), None);
         assert_eq!(t.segment(usize::MAX), None);
         assert_eq!(Outline::default().segment(0), None);
+    }
+
+    #[test]
+    fn a_changed_outline_has_another_edition() {
+        let other = vec![Vertex::default()];
+        for (before, after) in [(0, 1), (7, 8), (u32::MAX, 0)] {
+            let outline = triangle().with_edition(before);
+            assert_eq!((outline.edition(), outline.vertex_count()), (before, 3));
+            assert_ne!(outline, triangle().with_edition(after));
+            let changed = outline.replaced_by(other.clone());
+            assert_eq!((changed.edition(), changed.vertices()), (after, &other[..]));
+        }
+        assert_eq!(triangle().edition(), 0);
     }
 
     #[test]

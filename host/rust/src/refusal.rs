@@ -39,6 +39,9 @@ pub enum Refusal {
     Starts,
     /// 9: lent room is smaller than the need. Only the calls of [`lent`](crate::lent) can give it.
     Room,
+    /// 14: a view, or a slice, is of another edition than the outline: the outline was changed after
+    /// it was cut.
+    Edition,
     /// 18: a whole coordinate is out of range.
     Range,
     /// 19: a report has more than 4,096 outlines.
@@ -69,6 +72,7 @@ impl Refusal {
             7 => Refusal::Count,
             8 => Refusal::Starts,
             9 => Refusal::Room,
+            14 => Refusal::Edition,
             18 => Refusal::Range,
             19 => Refusal::Loops,
             20 => Refusal::Full,
@@ -103,6 +107,7 @@ impl Refusal {
                 "the starts of the classes fall back, or lie past the slices",
             ),
             Refusal::Room => (9, "lent room is smaller than the need"),
+            Refusal::Edition => (14, "a slice is of another edition than its outline"),
             Refusal::Range => (18, "a whole coordinate is out of range"),
             Refusal::Loops => (19, "too many outlines in a report"),
             Refusal::Full => (20, "the party's part of the store is full"),
@@ -140,7 +145,7 @@ mod tests {
         for number in 1..=40 {
             let refusal = Refusal::from_number(number).unwrap();
             assert_eq!(refusal.number(), number);
-            let known = number <= 9 || (18..=22).contains(&number);
+            let known = number <= 9 || number == 14 || (18..=22).contains(&number);
             assert_eq!(matches!(refusal, Refusal::Other(_)), !known);
         }
     }
@@ -148,6 +153,7 @@ mod tests {
     #[test]
     fn every_refusal_has_a_sentence_of_its_own() {
         let mut sentences: Vec<String> = (1..=11)
+            .chain([14])
             .chain(18..=22)
             .map(|number| Refusal::from_number(number).unwrap().to_string())
             .collect();
@@ -161,7 +167,7 @@ mod tests {
         );
         sentences.sort();
         sentences.dedup();
-        assert_eq!(sentences.len(), 16);
+        assert_eq!(sentences.len(), 17);
     }
 
     #[test]

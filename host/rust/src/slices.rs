@@ -1,7 +1,7 @@
 //! Slices: which candidates and overlaps stay.
 
-use crate::lent;
-use crate::list::{Layout, List};
+use crate::lent::{self, SliceRoom};
+use crate::list::{Flat, Layout, List};
 use crate::{Candidates, Overlaps, Refusal, Selector, Source, Starts, View};
 
 /// The most slices: 768 candidates of each outline, and 128 overlaps for each.
@@ -52,7 +52,7 @@ impl Mode {
 pub struct Slice {
     /// The outline that it is a part of.
     pub source: Source,
-    /// The part, forward or inverted.
+    /// The part, forward or inverted. Its edition is that of the outline that it was cut from.
     pub view: View,
 }
 
@@ -92,7 +92,8 @@ pub struct Answered {
 }
 
 /// The slices that `mode` keeps. `opposing` says whether the two outlines run in opposing
-/// directions. `vertex_counts` and `answered` are of outline 1 and of outline 2.
+/// directions. `vertex_counts` and `answered` are of outline 1 and of outline 2. A slice has the
+/// edition of its candidate or overlap, whatever that is: [`stitch`](crate::stitch) compares it.
 ///
 /// Refusals: `Length`, `Outline`, `Number`, `Index`, `Count`.
 pub fn prune(
@@ -106,7 +107,12 @@ pub fn prune(
     let candidates = answered.map(|one| &one.candidates);
     let room = lent::slices_needed(candidates, overlaps).min(MOST_SLICES);
     let mut list = List::with_room(room);
-    let (slice_at, slice) = list.room();
+    let room = list.room();
+    let room = SliceRoom {
+        slice_at: &mut room.indexes,
+        slice: &mut room.numbers,
+        slice_edition: &mut room.editions,
+    };
     let pruned = lent::prune(
         mode,
         opposing,
@@ -116,8 +122,7 @@ pub fn prune(
             (candidates[1], &inside[1][..]),
         ],
         overlaps,
-        slice_at,
-        slice,
+        room,
     )?;
     list.truncate(pruned.slices);
     Ok(Slices {
@@ -134,19 +139,21 @@ fn codes_of(answers: &[bool]) -> Vec<u8> {
 impl Layout for Slice {
     const INDEXES: usize = 4;
     const NUMBERS: usize = 6;
+    const EDITIONS: usize = 1;
 
-    fn write(&self, indexes: &mut Vec<usize>, numbers: &mut Vec<f64>) {
-        indexes.extend([
+    fn write(&self, to: &mut Flat) {
+        to.indexes.extend([
             self.source.code() as usize,
             usize::from(self.view.inverted_direction),
             self.view.start_index,
             self.view.end_index_offset,
         ]);
-        numbers.extend(self.view.numbers());
+        to.numbers.extend(self.view.numbers());
+        to.editions.push(self.view.edition);
     }
 
-    fn read(indexes: &[usize], numbers: &[f64]) -> Self {
-        let forward = View::of_numbers(indexes[2], indexes[3], numbers);
+    fn read(indexes: &[usize], numbers: &[f64], editions: &[u32]) -> Self {
+        let forward = View::of_numbers(indexes[2], indexes[3], numbers, editions[0]);
         Slice {
             source: if indexes[0] == 1 {
                 Source::Pline1
@@ -169,7 +176,8 @@ mod tests {
     use crate::{Candidate, Overlap};
 
     fn answered(start_index: usize, inside: &[bool]) -> Answered {
-        let view = View::of_numbers(start_index, 9, &[1.0, 2.0, 3.0, 4.0, 5.0, 6.0]);
+        let edition = 10 * start_index as u32;
+        let view = View::of_numbers(start_index, 9, &[1.0, 2.0, 3.0, 4.0, 5.0, 6.0], edition);
         let candidate = Candidate {
             view,
             ..Candidate::default()
@@ -184,7 +192,7 @@ mod tests {
     fn a_slice_comes_back() {
         for source in [Source::Pline1, Source::Pline2] {
             for inverted_direction in [false, true] {
-                let forward = View::of_numbers(7, 8, &[1.0, 2.0, 3.0, 4.0, 5.0, 6.0]);
+                let forward = View::of_numbers(7, 8, &[1.0, 2.0, 3.0, 4.0, 5.0, 6.0], 3);
                 let view = View {
                     inverted_direction,
                     ..forward
@@ -194,6 +202,7 @@ mod tests {
                 assert_eq!(list.get(1), Some(slice));
                 let code = usize::from(inverted_direction);
                 assert_eq!(list.indexes()[..4], [source.code() as usize, code, 7, 8]);
+                assert_eq!(list.editions(), [3, 3]);
             }
         }
     }
@@ -214,9 +223,17 @@ mod tests {
             answer,
             vec![vec![1, 1, 5, 9, 2, 0, 6, 9]],
             vec![vec![1.0; 12]],
-        );
+        )
+        .with_editions(&[50, u32::MAX]);
         let sides = [answered(5, &[true, false]), answered(6, &[false])];
-        let laps = Overlaps::from([Overlap::default()]);
+        let view_data = View {
+            edition: u32::MAX,
+            ..View::default()
+        };
+        let laps = Overlaps::from([Overlap {
+            view_data,
+            ..Overlap::default()
+        }]);
         let (slices, calls) = told([reply], || {
             let sides = [&sides[0], &sides[1]];
             prune(Mode::SecondMinusFirst, true, [10, 20], sides, &laps)
@@ -226,6 +243,8 @@ mod tests {
         let last = slices.list.get(1).unwrap();
         assert_eq!((last.source, last.view.start_index), (Source::Pline2, 6));
         assert!(slices.iter().next().unwrap().view.inverted_direction);
+        let editions: Vec<u32> = slices.iter().map(|slice| slice.view.edition).collect();
+        assert_eq!(editions, [50, u32::MAX]);
 
         let call = &calls[0];
         assert_eq!(call.entry, "prune");
@@ -242,6 +261,10 @@ mod tests {
         assert_eq!(call.lent("inside2"), Lent::Answers(vec![0]));
         assert_eq!(call.lent("count2"), Lent::Count(1));
         assert_eq!(call.lent("laps"), Lent::Count(1));
+        assert_eq!(call.lent("cand_edition1"), Lent::Editions(vec![50, 50]));
+        assert_eq!(call.lent("cand_edition2"), Lent::Editions(vec![60]));
+        assert_eq!(call.lent("lap_edition"), Lent::Editions(vec![u32::MAX]));
+        assert_eq!(call.lent("slice_edition"), Lent::Room(5));
         assert_eq!(call.lent("slice_at"), Lent::Room(5 * 4));
         assert_eq!(call.lent("slice"), Lent::Room(5 * 6));
     }

@@ -116,9 +116,9 @@ fn part<'a, T>(list: &'a [T], ends: &[usize], index: usize) -> Option<&'a [T]> {
     list.get(start..end)
 }
 
-/// The loops that the slices of two outlines make.
+/// The loops that the slices of two outlines make. Each slice must be of its outline's edition.
 ///
-/// Refusals: `Length`, `Outline`, `Tolerance`, `Number`, `Index`, `Count`, `Starts`.
+/// Refusals: `Length`, `Outline`, `Tolerance`, `Number`, `Index`, `Count`, `Starts`, `Edition`.
 pub fn stitch(
     pline1: &Outline,
     pline2: &Outline,
@@ -200,6 +200,7 @@ mod tests {
             source: Source::Pline2,
             view: View {
                 end_index_offset,
+                edition: end_index_offset as u32,
                 ..View::default()
             },
         };
@@ -240,8 +241,9 @@ mod tests {
             vec![room],
         );
         let slices = slices(&[0, 1, 2, 3, 0]);
+        let (first, second) = (outline().with_edition(u32::MAX), outline().with_edition(6));
         let (found, calls) = told([reply], || {
-            stitch(&outline(), &outline(), &slices, Selector::NotXor, T)
+            stitch(&first, &second, &slices, Selector::NotXor, T)
         });
         let found = found.unwrap();
         assert_eq!((found.rounds(), found.loop_count()), (5, 2));
@@ -265,6 +267,10 @@ mod tests {
         assert_eq!(call.lent("slices"), Lent::Count(5));
         let front = vec![2, 0, 0, 0, 2, 0, 0, 1, 2, 0, 0, 2, 2, 0, 0, 3, 2, 0, 0, 0];
         assert_eq!(call.lent("slice_at"), Lent::Counts(front));
+        assert_eq!(call.lent("edition1"), Lent::Code(u32::MAX));
+        assert_eq!(call.lent("edition2"), Lent::Code(6));
+        let editions = vec![0, 1, 2, 3, 0];
+        assert_eq!(call.lent("slice_edition"), Lent::Editions(editions));
         assert_eq!(call.lent("pline2"), Lent::Count(1));
         assert_eq!(call.lent("pline1_overlapping"), Lent::Count(2));
         assert_eq!(call.lent("pline2_overlapping"), Lent::Count(3));
@@ -314,7 +320,7 @@ mod tests {
 
     #[test]
     fn every_refusal_comes_through() {
-        for number in 1..=11 {
+        for number in 1..=14 {
             let (found, _) = told([refused(number)], || {
                 stitch(&outline(), &outline(), &slices(&[]), Selector::OrAnd, T)
             });

@@ -71,10 +71,8 @@ impl<P: Party> Handle<P> {
 pub struct Kept<P> {
     /// Its handle.
     pub handle: Handle<P>,
-    /// The slice.
+    /// The slice, with the edition of the outline that it was cut from.
     pub slice: Slice,
-    /// The edition of the outline that it was cut from.
-    pub edition: u32,
 }
 
 /// Slices of two parties, kept between runs: up to 896 of each.
@@ -89,16 +87,19 @@ pub struct Kept<P> {
 /// use mask_tools::{First, Refusal, Second, Slice, Source, Store, View};
 ///
 /// # fn main() -> Result<(), Refusal> {
-/// let slice = Slice { source: Source::Pline1, view: View::default() };
+/// let slice = |edition| Slice {
+///     source: Source::Pline1,
+///     view: View { edition, ..View::default() },
+/// };
 /// let mut store = Store::new();
-/// let first = store.put(First, slice, 7)?;
-/// store.put(First, slice, 8)?;
-/// let theirs = store.put(Second, slice, 1)?;
+/// let first = store.put(First, slice(7))?;
+/// store.put(First, slice(8))?;
+/// let theirs = store.put(Second, slice(1))?;
 /// assert_eq!((first.number(), theirs.number()), (0, 0)); // handles count within a party
 ///
 /// store.release(first)?;
 /// assert_eq!(store.release(first), Err(Refusal::Handle));
-/// let third = store.put(First, slice, 9)?;
+/// let third = store.put(First, slice(9))?;
 /// assert_eq!(third, first); // the lowest that is free
 ///
 /// store.compact(First)?;
@@ -129,24 +130,22 @@ impl Store {
         }
     }
 
-    /// Puts a slice of a party, with the edition of the outline that it was cut from. It gets the
-    /// lowest handle that no live slice of the party has.
+    /// Puts a slice of a party. It gets the lowest handle that no live slice of the party has.
     ///
     /// # Errors
     ///
     /// [`Refusal::Number`], and [`Refusal::Full`] where 896 slices of the party are live.
-    pub fn put<P: Party>(&mut self, party: P, slice: Slice, edition: u32) -> Result<Handle<P>, Refusal> {
-        let (mut put_at, mut put) = (Vec::new(), Vec::new());
-        slice.write(&mut put_at, &mut put);
+    pub fn put<P: Party>(&mut self, party: P, slice: Slice) -> Result<Handle<P>, Refusal> {
+        let put = List::from([slice]);
         let answer = ffi::store_put(
             &mut self.held,
             &mut self.slice_at,
             &mut self.slice,
             &mut self.slice_edition,
             P::CODE,
-            &put_at,
-            &put,
-            edition,
+            put.indexes(),
+            put.numbers(),
+            slice.view.edition,
         );
         Refusal::check(answer.refusal, Handle::of_number(party, answer.handle))
     }
@@ -175,9 +174,8 @@ impl Store {
     /// None: the room lent is what the library needs.
     pub fn list<P: Party>(&self, party: P) -> Result<Listed<P>, Refusal> {
         let mut handles = vec![0; SHARE];
-        let mut editions = vec![0; SHARE];
         let mut list = List::with_room(SHARE);
-        let (list_at, numbers) = list.room();
+        let room = list.room();
         let answer = ffi::store_list(
             &self.held,
             &self.slice_at,
@@ -185,19 +183,17 @@ impl Store {
             &self.slice_edition,
             P::CODE,
             &mut handles,
-            list_at,
-            numbers,
-            &mut editions,
+            &mut room.indexes,
+            &mut room.numbers,
+            &mut room.editions,
         );
         let count = Refusal::check(answer.refusal, answer.count)?;
         handles.truncate(count);
-        editions.truncate(count);
         list.truncate(count);
         Ok(Listed {
             party,
             handles,
             list,
-            editions,
         })
     }
 
@@ -264,7 +260,6 @@ pub struct Listed<P> {
     party: P,
     handles: Vec<usize>,
     list: List<Slice>,
-    editions: Vec<u32>,
 }
 
 impl<P: Party> Listed<P> {
@@ -280,19 +275,16 @@ impl<P: Party> Listed<P> {
 
     /// The live slices, in the order put.
     pub fn iter(&self) -> impl Iterator<Item = Kept<P>> + '_ {
-        let named = self.handles.iter().zip(&self.editions);
-        named
-            .zip(self.list.iter())
-            .map(move |((&number, &edition), slice)| Kept {
-                handle: Handle::of_number(self.party, number),
-                slice,
-                edition,
-            })
+        let slices = self.handles.iter().zip(&self.list);
+        slices.map(|(&number, slice)| Kept {
+            handle: Handle::of_number(self.party, number),
+            slice,
+        })
     }
 
     /// The editions, in the order put.
     pub fn editions(&self) -> &[u32] {
-        &self.editions
+        self.list.editions()
     }
 
     /// The list as a stitch takes it: nothing is copied. `starts` says where the classes begin, as
@@ -315,7 +307,7 @@ mod tests {
     fn slice() -> Slice {
         let view = View {
             inverted_direction: true,
-            ..View::of_numbers(3, 4, &[1.0, 2.0, 3.0, 4.0, 5.0, 6.0])
+            ..View::of_numbers(3, 4, &[1.0, 2.0, 3.0, 4.0, 5.0, 6.0], 77)
         };
         Slice {
             source: Source::Pline2,
@@ -330,7 +322,7 @@ mod tests {
             handle: 11,
         };
         let mut store = Store::new();
-        let (handle, calls) = told([Reply::of(answer)], || store.put(Second, slice(), 77));
+        let (handle, calls) = told([Reply::of(answer)], || store.put(Second, slice()));
         assert_eq!(handle.map(|h| h.number()), Ok(11));
         let call = &calls[0];
         assert_eq!(call.entry, "store_put");
@@ -355,14 +347,16 @@ mod tests {
             answer,
             vec![vec![5, 0], vec![1, 1, 7, 9, 2, 0, 8, 9]],
             vec![vec![1.0; 12]],
-        );
+        )
+        .with_editions(&[3, 4]);
         let (listed, calls) = told([reply], || Store::new().list(First));
         let listed = listed.unwrap();
         assert_eq!((listed.len(), listed.is_empty()), (2, false));
         let kept: Vec<Kept<First>> = listed.iter().collect();
         assert_eq!(kept[0].handle, Handle::of_number(First, 5));
         assert_eq!(kept[1].slice.view.start_index, 8);
-        assert_eq!((kept[1].edition, listed.editions()), (0, &[0, 0][..]));
+        assert_eq!(listed.editions(), [3, 4]);
+        assert_eq!(kept[1].slice.view.edition, 4);
         let call = &calls[0];
         assert_eq!(call.lent("held"), Lent::Counts(vec![0; 1792]));
         assert_eq!(call.lent("slice_edition"), Lent::Editions(vec![0; 1792]));
@@ -391,13 +385,19 @@ mod tests {
         let dead = Reply::of(DoneAnswer { refusal: 21 });
         let done = Reply::of(DoneAnswer { refusal: 0 });
         let ((released, compacted), calls) = told([dead, done], || {
-            (store.release(Handle::of_number(Second, 9)), store.compact(First))
+            (
+                store.release(Handle::of_number(Second, 9)),
+                store.compact(First),
+            )
         });
         assert_eq!((released, compacted), (Err(Refusal::Handle), Ok(())));
         assert_eq!(calls[0].lent("handle"), Lent::Count(9));
         let parties = [calls[0].lent("party"), calls[1].lent("party")];
         assert_eq!(parties, [Lent::Code(1), Lent::Code(0)]);
-        assert_eq!(calls[0].lent("slice_edition"), Lent::Editions(vec![0; 1792]));
+        assert_eq!(
+            calls[0].lent("slice_edition"),
+            Lent::Editions(vec![0; 1792])
+        );
         assert_eq!(calls[1].lent("slice"), Lent::Room(10752));
     }
 

@@ -6,7 +6,7 @@ use crate::{Outline, Point, Refusal, Split, Tolerance, Vertex};
 use std::iter::FusedIterator;
 
 /// A part of an outline, or the whole of it, forward or inverted. It holds no outline: hand it
-/// the one that it was made of.
+/// the one that it was made of. It has that one's edition, which tells whether it is still the same.
 #[derive(Debug, Clone, Copy, PartialEq, Default)]
 pub struct View {
     /// The segment on which it starts.
@@ -21,6 +21,8 @@ pub struct View {
     pub end_point: Point,
     /// Whether it runs against the outline. The other fields stay as they are for that.
     pub inverted_direction: bool,
+    /// The edition of the outline that it was cut from.
+    pub edition: u32,
 }
 
 /// A walk along an outline, from a point on one segment to a point on another one: what
@@ -108,7 +110,7 @@ impl View {
             tolerance.y,
             walk.split,
         );
-        Refusal::check(answer.refusal, answer.view.into())
+        Refusal::check(answer.refusal, of_edition(answer.view, source))
     }
 
     /// The view between two points of one segment. There is none where the two agree.
@@ -130,7 +132,7 @@ impl View {
             tolerance.x,
             tolerance.y,
         );
-        let view = (answer.found != 0).then(|| answer.view.into());
+        let view = (answer.found != 0).then(|| of_edition(answer.view, source));
         Refusal::check(answer.refusal, view)
     }
 
@@ -153,7 +155,7 @@ impl View {
     pub fn from_entire_pline(source: &Outline, closed: bool) -> Result<View, Refusal> {
         let answer =
             ffi::from_entire_pline(source.numbers(), source.vertex_count(), u32::from(closed));
-        Refusal::check(answer.refusal, answer.view.into())
+        Refusal::check(answer.refusal, of_edition(answer.view, source))
     }
 
     /// How many vertices it has: two more than its offset.
@@ -207,7 +209,7 @@ impl View {
 
     /// Whether it fits this outline, and if not, why.
     ///
-    /// Refusals: `Outline` (too long only), `Number`, `Index`.
+    /// Refusals: `Outline` (too long only), `Number`, `Index`, `Edition`.
     pub fn validate_for_source(
         &self,
         source: &Outline,
@@ -216,12 +218,92 @@ impl View {
         let answer = ffi::validate_for_source(
             source.numbers(),
             source.vertex_count(),
+            source.edition(),
             (*self).into(),
+            self.edition,
             u32::from(on_segment.start),
             u32::from(on_segment.end),
         );
         Refusal::check(answer.refusal, answer)?;
         Ok(verdict_of(&answer))
+    }
+
+    /// Reopens it on an outline of another edition: the same verdict, without comparing editions.
+    /// Where that is [`IsValid`](Verdict::IsValid) the view has the outline's edition from now on.
+    /// Nothing else of it changes.
+    ///
+    /// The verdict looks at the two ends. Whether the view is still the piece that it was,
+    /// [`unmoved`](View::unmoved) tells.
+    ///
+    /// Refusals: `Outline` (too long only), `Number`, `Index`.
+    ///
+    /// ```
+    /// use mask_tools::{OnSegment, Outline, Refusal, Verdict, Vertex, View};
+    ///
+    /// # fn main() -> Result<(), mask_tools::Refusal> {
+    /// let square = Outline::straight(&[(0.0, 0.0), (4.0, 0.0), (4.0, 4.0), (0.0, 4.0)]);
+    /// let mut view = View::from_entire_pline(&square, true)?;
+    /// let mut corners = square.vertices().to_vec();
+    /// corners[2] = Vertex::new(9.0, 9.0, 0.0);
+    /// let late = square.replaced_by(corners);
+    ///
+    /// let on = OnSegment { start: true, end: true };
+    /// assert_eq!(view.validate_for_source(&late, on), Err(Refusal::Edition));
+    /// assert_eq!(view.first_moved(&square, &late)?, Some(2));
+    /// assert_eq!(view.reopen(&late, on)?, Verdict::IsValid);
+    /// assert_eq!(view.edition, late.edition());
+    /// # Ok(())
+    /// # }
+    /// ```
+    pub fn reopen(&mut self, source: &Outline, on_segment: OnSegment) -> Result<Verdict, Refusal> {
+        let answer = ffi::reopen(
+            source.numbers(),
+            source.vertex_count(),
+            source.edition(),
+            (*self).into(),
+            self.edition,
+            u32::from(on_segment.start),
+            u32::from(on_segment.end),
+        );
+        Refusal::check(answer.refusal, answer)?;
+        self.edition = answer.edition;
+        Ok(verdict_of(&ffi::VerdictAnswer {
+            refusal: answer.refusal,
+            verdict: answer.verdict,
+            offset: answer.offset,
+            source_length: answer.source_length,
+            point: answer.point,
+            vertex: answer.vertex,
+            updated_bulge: answer.updated_bulge,
+            expected: answer.expected,
+        }))
+    }
+
+    /// Whether it has the same vertices, bit for bit, on the old outline and on the new one. Editions
+    /// are not looked at.
+    ///
+    /// Refusals: `Outline`, `Number`, `Index`, `Count`, of either outline.
+    pub fn unmoved(&self, old: &Outline, new: &Outline) -> Result<bool, Refusal> {
+        Ok(self.first_moved(old, new)?.is_none())
+    }
+
+    /// The lowest number of a vertex that is not the same on the old outline and on the new one; none
+    /// where it is [`unmoved`](View::unmoved). Its first vertex and its last are its own, and the same
+    /// on every outline.
+    ///
+    /// Refusals: as of [`unmoved`](View::unmoved).
+    pub fn first_moved(&self, old: &Outline, new: &Outline) -> Result<Option<usize>, Refusal> {
+        let answer = ffi::unmoved(
+            old.numbers(),
+            old.vertex_count(),
+            new.numbers(),
+            new.vertex_count(),
+            (*self).into(),
+        );
+        Refusal::check(
+            answer.refusal,
+            (answer.unmoved == 0).then_some(answer.first),
+        )
     }
 
     /// Its numbers as they lie in a list.
@@ -237,7 +319,12 @@ impl View {
     }
 
     /// The view whose numbers lie in a list.
-    pub(crate) fn of_numbers(start_index: usize, end_index_offset: usize, n: &[f64]) -> View {
+    pub(crate) fn of_numbers(
+        start_index: usize,
+        end_index_offset: usize,
+        n: &[f64],
+        edition: u32,
+    ) -> View {
         View {
             start_index,
             end_index_offset,
@@ -245,6 +332,7 @@ impl View {
             updated_end_bulge: n[3],
             end_point: Point::new(n[4], n[5]),
             inverted_direction: false,
+            edition,
         }
     }
 }
@@ -331,16 +419,16 @@ impl From<View> for ffi::View {
     }
 }
 
-impl From<ffi::View> for View {
-    fn from(view: ffi::View) -> Self {
-        View {
-            start_index: view.start_index,
-            end_index_offset: view.end_index_offset,
-            updated_start: view.updated_start,
-            updated_end_bulge: view.updated_end_bulge,
-            end_point: view.end_point,
-            inverted_direction: view.inverted_direction != 0,
-        }
+/// A view that was made of this outline.
+fn of_edition(view: ffi::View, source: &Outline) -> View {
+    View {
+        start_index: view.start_index,
+        end_index_offset: view.end_index_offset,
+        updated_start: view.updated_start,
+        updated_end_bulge: view.updated_end_bulge,
+        end_point: view.end_point,
+        inverted_direction: view.inverted_direction != 0,
+        edition: source.edition(),
     }
 }
 
@@ -348,12 +436,16 @@ impl From<ffi::View> for View {
 mod tests {
     use super::*;
     use crate::ffi::standin::{told, Lent, Reply};
-    use crate::ffi::{CountAnswer, VerdictAnswer, VertexAnswer, ViewAnswer};
+    use crate::ffi::{
+        CountAnswer, ReopenAnswer, UnmovedAnswer, VerdictAnswer, VertexAnswer, ViewAnswer,
+    };
 
     const T: Tolerance = Tolerance { x: 0.25, y: 0.125 };
 
+    /// Of the edition that the view below has.
     fn outline() -> Outline {
-        [Vertex::new(1.0, 2.0, 0.5), Vertex::new(3.0, 4.0, 0.0)].into()
+        let outline: Outline = [Vertex::new(1.0, 2.0, 0.5), Vertex::new(3.0, 4.0, 0.0)].into();
+        outline.with_edition(9)
     }
 
     fn view() -> View {
@@ -364,6 +456,7 @@ mod tests {
             updated_end_bulge: 6.0,
             end_point: Point::new(7.0, 8.0),
             inverted_direction: true,
+            edition: 9,
         }
     }
 
@@ -371,14 +464,14 @@ mod tests {
     fn a_view_crosses_the_boundary_and_comes_back() {
         let lent = ffi::View::from(view());
         assert_eq!(lent.inverted_direction, 1);
-        assert_eq!(View::from(lent), view());
+        assert_eq!(of_edition(lent, &outline()), view());
         let numbers = [3.0, 4.0, 5.0, 6.0, 7.0, 8.0];
         assert_eq!(view().numbers(), numbers);
         let forward = View {
             inverted_direction: false,
             ..view()
         };
-        assert_eq!(View::of_numbers(1, 2, &numbers), forward);
+        assert_eq!(View::of_numbers(1, 2, &numbers, 9), forward);
     }
 
     #[test]
@@ -495,7 +588,7 @@ mod tests {
 
     #[test]
     fn refusals_come_through() {
-        for number in 1..=11 {
+        for number in 1..=14 {
             let refusal = Refusal::from_number(number).unwrap();
             let refused = ViewAnswer {
                 refusal: number,
@@ -563,7 +656,125 @@ mod tests {
             let code = |yes| Lent::Code(u32::from(yes));
             assert_eq!(calls[0].lent("start_on_segment"), code(on_segment.start));
             assert_eq!(calls[0].lent("end_on_segment"), code(on_segment.end));
+
+            let reply = Reply::of(reopened(number, 70 + number));
+            let mut again = view();
+            let (found, calls) = told([reply], || again.reopen(&outline(), on_segment));
+            assert_eq!(found, Ok(expected));
+            let edition = 70 + number;
+            assert_eq!(again, View { edition, ..view() });
+            assert_eq!(calls[0].lent("start_on_segment"), code(on_segment.start));
+            assert_eq!(calls[0].lent("end_on_segment"), code(on_segment.end));
         }
+    }
+
+    /// The same as of a view that is reopened.
+    fn reopened(number: u32, edition: u32) -> ReopenAnswer {
+        let told = verdict(number);
+        ReopenAnswer {
+            refusal: 0,
+            verdict: told.verdict,
+            offset: told.offset,
+            source_length: told.source_length,
+            point: told.point,
+            vertex: told.vertex,
+            updated_bulge: told.updated_bulge,
+            expected: told.expected,
+            edition,
+        }
+    }
+
+    #[test]
+    fn the_editions_of_the_outline_and_of_the_view_are_lent() {
+        let on = OnSegment::default();
+        for (edition, own) in [(0, 0), (0, u32::MAX), (u32::MAX, 0), (5, 6)] {
+            let source = outline().with_edition(edition);
+            let mut view = View {
+                edition: own,
+                ..view()
+            };
+            let replies = [Reply::of(verdict(7)), Reply::of(reopened(7, edition))];
+            let (_, calls) = told(replies, || {
+                let verdict = view.validate_for_source(&source, on);
+                verdict.and_then(|_| view.reopen(&source, on))
+            });
+            for (call, entry) in calls.iter().zip(["validate_for_source", "reopen"]) {
+                assert_eq!(call.entry, entry);
+                assert_eq!(call.lent("vc"), Lent::Count(2));
+                assert_eq!(call.lent("edition"), Lent::Code(edition));
+                assert_eq!(call.lent("view_edition"), Lent::Code(own));
+            }
+            assert_eq!(view.edition, edition);
+        }
+    }
+
+    #[test]
+    fn a_view_that_is_refused_keeps_its_edition() {
+        let refused = ReopenAnswer {
+            refusal: 6,
+            ..ReopenAnswer::default()
+        };
+        let mut again = view();
+        let (found, _) = told([Reply::of(refused)], || {
+            again.reopen(&outline(), OnSegment::default())
+        });
+        assert_eq!((found, again), (Err(Refusal::Index), view()));
+    }
+
+    #[test]
+    fn views_have_the_edition_of_their_outline() {
+        let answer = ViewAnswer {
+            found: 1,
+            view: view().into(),
+            ..ViewAnswer::default()
+        };
+        for edition in [0, 1, u32::MAX] {
+            let source = outline().with_edition(edition);
+            let end = Point::default();
+            let replies = [answer; 3].map(Reply::of);
+            let (made, _) = told(replies, || {
+                let walked = View::create(&source, &Walk::default(), T);
+                let on_one = View::create_on_single_segment(&source, 0, Vertex::default(), end, T);
+                let whole = View::from_entire_pline(&source, true);
+                [walked, on_one.map(Option::unwrap), whole]
+            });
+            assert_eq!(made, [Ok(View { edition, ..view() }); 3]);
+        }
+    }
+
+    #[test]
+    fn unmoved_lends_both_outlines() {
+        let moved = |refusal, unmoved, first| {
+            Reply::of(UnmovedAnswer {
+                refusal,
+                unmoved,
+                first,
+            })
+        };
+        let new = Outline::straight(&[(0.0, 0.0), (1.0, 0.0), (1.0, 1.0)]);
+        let replies = [
+            moved(0, 1, 0),
+            moved(0, 0, 2),
+            moved(0, 0, 2),
+            moved(7, 0, 0),
+        ];
+        let (found, calls) = told(replies, || {
+            let old = outline();
+            assert_eq!(view().first_moved(&old, &new), Ok(None));
+            assert_eq!(view().first_moved(&old, &new), Ok(Some(2)));
+            assert_eq!(view().unmoved(&old, &new), Ok(false));
+            view().unmoved(&old, &new)
+        });
+        assert_eq!(found, Err(Refusal::Count));
+        let call = &calls[0];
+        assert_eq!(call.entry, "unmoved");
+        assert_eq!(call.lent("vc1"), Lent::Count(2));
+        assert_eq!(call.lent("vc2"), Lent::Count(3));
+        let numbers = vec![1.0, 2.0, 0.5, 3.0, 4.0, 0.0];
+        assert_eq!(call.lent("outline1"), Lent::Numbers(numbers));
+        let numbers = vec![0.0, 0.0, 0.0, 1.0, 0.0, 0.0, 1.0, 1.0, 0.0];
+        assert_eq!(call.lent("outline2"), Lent::Numbers(numbers));
+        assert_eq!(call.lent("view"), Lent::View(view().into()));
     }
 
     #[test]

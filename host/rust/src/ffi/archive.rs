@@ -94,6 +94,30 @@ pub struct VerdictAnswer {
     pub expected: f64,
 }
 
+/// `mask_reopen_answer`
+#[repr(C)]
+#[derive(Debug, Clone, Copy, Default)]
+pub struct ReopenAnswer {
+    pub refusal: u32,
+    pub verdict: u32,
+    pub offset: usize,
+    pub source_length: usize,
+    pub point: Point,
+    pub vertex: Vertex,
+    pub updated_bulge: f64,
+    pub expected: f64,
+    pub edition: u32,
+}
+
+/// `mask_unmoved_answer`
+#[repr(C)]
+#[derive(Debug, Clone, Copy, Default)]
+pub struct UnmovedAnswer {
+    pub refusal: u32,
+    pub unmoved: u32,
+    pub first: usize,
+}
+
 /// `mask_count_answer`
 #[repr(C)]
 #[derive(Debug, Clone, Copy, Default)]
@@ -177,8 +201,9 @@ pub use entries::*;
 #[cfg(not(test))]
 mod entries {
     use super::{
-        AreaAnswer, CountAnswer, DoneAnswer, HandleAnswer, Point, PruneAnswer, ReportAnswer, Split,
-        StitchAnswer, VerdictAnswer, Vertex, VertexAnswer, View, ViewAnswer, WindingAnswer,
+        AreaAnswer, CountAnswer, DoneAnswer, HandleAnswer, Point, PruneAnswer, ReopenAnswer,
+        ReportAnswer, Split, StitchAnswer, UnmovedAnswer, VerdictAnswer, Vertex, VertexAnswer, View,
+        ViewAnswer, WindingAnswer,
     };
 
     extern "C" {
@@ -235,10 +260,33 @@ mod entries {
             outline: *const f64,
             outline_len: usize,
             vc: usize,
+            edition: u32,
             view: View,
+            view_edition: u32,
             start_on_segment: u32,
             end_on_segment: u32,
         ) -> VerdictAnswer;
+
+        pub fn mask_reopen(
+            outline: *const f64,
+            outline_len: usize,
+            vc: usize,
+            edition: u32,
+            view: View,
+            view_edition: u32,
+            start_on_segment: u32,
+            end_on_segment: u32,
+        ) -> ReopenAnswer;
+
+        pub fn mask_unmoved(
+            outline1: *const f64,
+            outline1_len: usize,
+            vc1: usize,
+            outline2: *const f64,
+            outline2_len: usize,
+            vc2: usize,
+            view: View,
+        ) -> UnmovedAnswer;
 
         pub fn mask_cut_order(
             outline: *const f64,
@@ -267,6 +315,7 @@ mod entries {
             outline: *const f64,
             outline_len: usize,
             vc: usize,
+            edition: u32,
             source: u32,
             hit_at: *const usize,
             hit_at_len: usize,
@@ -288,6 +337,8 @@ mod entries {
             cand_len: usize,
             probe: *mut f64,
             probe_len: usize,
+            cand_edition: *mut u32,
+            cand_edition_len: usize,
         ) -> CountAnswer;
 
         pub fn mask_prune(
@@ -299,6 +350,8 @@ mod entries {
             cand_at1_len: usize,
             cand1: *const f64,
             cand1_len: usize,
+            cand_edition1: *const u32,
+            cand_edition1_len: usize,
             inside1: *const u8,
             inside1_len: usize,
             count1: usize,
@@ -306,6 +359,8 @@ mod entries {
             cand_at2_len: usize,
             cand2: *const f64,
             cand2_len: usize,
+            cand_edition2: *const u32,
+            cand_edition2_len: usize,
             inside2: *const u8,
             inside2_len: usize,
             count2: usize,
@@ -313,24 +368,32 @@ mod entries {
             lap_at_len: usize,
             lap: *const f64,
             lap_len: usize,
+            lap_edition: *const u32,
+            lap_edition_len: usize,
             laps: usize,
             slice_at: *mut usize,
             slice_at_len: usize,
             slice: *mut f64,
             slice_len: usize,
+            slice_edition: *mut u32,
+            slice_edition_len: usize,
         ) -> PruneAnswer;
 
         pub fn mask_stitch(
             outline1: *const f64,
             outline1_len: usize,
             vc1: usize,
+            edition1: u32,
             outline2: *const f64,
             outline2_len: usize,
             vc2: usize,
+            edition2: u32,
             slice_at: *const usize,
             slice_at_len: usize,
             slice: *const f64,
             slice_len: usize,
+            slice_edition: *const u32,
+            slice_edition_len: usize,
             slices: usize,
             pline2: usize,
             pline1_overlapping: usize,
@@ -536,7 +599,9 @@ mod entries {
     pub fn validate_for_source(
         outline: &[f64],
         vc: usize,
+        edition: u32,
         view: View,
+        view_edition: u32,
         start_on_segment: u32,
         end_on_segment: u32,
     ) -> VerdictAnswer {
@@ -546,9 +611,58 @@ mod entries {
                 outline.as_ptr(),
                 outline.len(),
                 vc,
+                edition,
                 view,
+                view_edition,
                 start_on_segment,
                 end_on_segment,
+            )
+        }
+    }
+
+    #[inline]
+    pub fn reopen(
+        outline: &[f64],
+        vc: usize,
+        edition: u32,
+        view: View,
+        view_edition: u32,
+        start_on_segment: u32,
+        end_on_segment: u32,
+    ) -> ReopenAnswer {
+        // SAFETY: pointer and length are those of one slice, which is only read.
+        unsafe {
+            mask_reopen(
+                outline.as_ptr(),
+                outline.len(),
+                vc,
+                edition,
+                view,
+                view_edition,
+                start_on_segment,
+                end_on_segment,
+            )
+        }
+    }
+
+    #[inline]
+    pub fn unmoved(
+        outline1: &[f64],
+        vc1: usize,
+        outline2: &[f64],
+        vc2: usize,
+        view: View,
+    ) -> UnmovedAnswer {
+        // SAFETY: each pointer and length are those of one slice, and both are only read.
+        unsafe {
+            mask_unmoved(
+                outline1.as_ptr(),
+                outline1.len(),
+                vc1,
+                outline2.as_ptr(),
+                outline2.len(),
+                vc2,
+                view,
             )
         }
     }
@@ -603,6 +717,7 @@ mod entries {
     pub fn candidates(
         outline: &[f64],
         vc: usize,
+        edition: u32,
         source: u32,
         hit_at: &[usize],
         hit: &[f64],
@@ -616,14 +731,16 @@ mod entries {
         cand_at: &mut [usize],
         cand: &mut [f64],
         probe: &mut [f64],
+        cand_edition: &mut [u32],
     ) -> CountAnswer {
-        // SAFETY: each pointer and length are those of one slice; the three that are written are
+        // SAFETY: each pointer and length are those of one slice; the four that are written are
         // `&mut`, so nothing shares them.
         unsafe {
             mask_candidates(
                 outline.as_ptr(),
                 outline.len(),
                 vc,
+                edition,
                 source,
                 hit_at.as_ptr(),
                 hit_at.len(),
@@ -645,6 +762,8 @@ mod entries {
                 cand.len(),
                 probe.as_mut_ptr(),
                 probe.len(),
+                cand_edition.as_mut_ptr(),
+                cand_edition.len(),
             )
         }
     }
@@ -658,19 +777,23 @@ mod entries {
         vc2: usize,
         cand_at1: &[usize],
         cand1: &[f64],
+        cand_edition1: &[u32],
         inside1: &[u8],
         count1: usize,
         cand_at2: &[usize],
         cand2: &[f64],
+        cand_edition2: &[u32],
         inside2: &[u8],
         count2: usize,
         lap_at: &[usize],
         lap: &[f64],
+        lap_edition: &[u32],
         laps: usize,
         slice_at: &mut [usize],
         slice: &mut [f64],
+        slice_edition: &mut [u32],
     ) -> PruneAnswer {
-        // SAFETY: each pointer and length are those of one slice; the two that are written are
+        // SAFETY: each pointer and length are those of one slice; the three that are written are
         // `&mut`, so nothing shares them.
         unsafe {
             mask_prune(
@@ -682,6 +805,8 @@ mod entries {
                 cand_at1.len(),
                 cand1.as_ptr(),
                 cand1.len(),
+                cand_edition1.as_ptr(),
+                cand_edition1.len(),
                 inside1.as_ptr(),
                 inside1.len(),
                 count1,
@@ -689,6 +814,8 @@ mod entries {
                 cand_at2.len(),
                 cand2.as_ptr(),
                 cand2.len(),
+                cand_edition2.as_ptr(),
+                cand_edition2.len(),
                 inside2.as_ptr(),
                 inside2.len(),
                 count2,
@@ -696,11 +823,15 @@ mod entries {
                 lap_at.len(),
                 lap.as_ptr(),
                 lap.len(),
+                lap_edition.as_ptr(),
+                lap_edition.len(),
                 laps,
                 slice_at.as_mut_ptr(),
                 slice_at.len(),
                 slice.as_mut_ptr(),
                 slice.len(),
+                slice_edition.as_mut_ptr(),
+                slice_edition.len(),
             )
         }
     }
@@ -710,10 +841,13 @@ mod entries {
     pub fn stitch(
         outline1: &[f64],
         vc1: usize,
+        edition1: u32,
         outline2: &[f64],
         vc2: usize,
+        edition2: u32,
         slice_at: &[usize],
         slice: &[f64],
+        slice_edition: &[u32],
         slices: usize,
         pline2: usize,
         pline1_overlapping: usize,
@@ -734,13 +868,17 @@ mod entries {
                 outline1.as_ptr(),
                 outline1.len(),
                 vc1,
+                edition1,
                 outline2.as_ptr(),
                 outline2.len(),
                 vc2,
+                edition2,
                 slice_at.as_ptr(),
                 slice_at.len(),
                 slice.as_ptr(),
                 slice.len(),
+                slice_edition.as_ptr(),
+                slice_edition.len(),
                 slices,
                 pline2,
                 pline1_overlapping,

@@ -2,7 +2,8 @@
 //! parameters of each function, the number of each code. No compiler compares the two.
 
 use super::{
-    AreaAnswer, CountAnswer, DoneAnswer, HandleAnswer, PruneAnswer, ReportAnswer, StitchAnswer,
+    AreaAnswer, CountAnswer, DoneAnswer, HandleAnswer, PruneAnswer, ReopenAnswer, ReportAnswer,
+    StitchAnswer, UnmovedAnswer,
     VerdictAnswer, VertexAnswer, View, ViewAnswer, WindingAnswer,
 };
 use crate::cuts::MOST_CUTS;
@@ -137,6 +138,15 @@ fn structs_lie_as_in_the_header() {
                 updated_bulge, expected),
         ),
         (
+            "mask_reopen_answer",
+            layout_here!(ReopenAnswer: refusal, verdict, offset, source_length, point, vertex,
+                updated_bulge, expected, edition),
+        ),
+        (
+            "mask_unmoved_answer",
+            layout_here!(UnmovedAnswer: refusal, unmoved, first),
+        ),
+        (
             "mask_count_answer",
             layout_here!(CountAnswer: refusal, count),
         ),
@@ -176,6 +186,8 @@ fn sizes_that_were_reckoned_by_hand() {
     assert_eq!(size_of::<Vertex>(), 24);
     assert_eq!(size_of::<View>(), 72);
     assert_eq!(size_of::<VerdictAnswer>(), 80);
+    assert_eq!(size_of::<ReopenAnswer>(), 88);
+    assert_eq!(size_of::<UnmovedAnswer>(), 16);
     assert_eq!(size_of::<PruneAnswer>(), 40);
     assert_eq!(size_of::<AreaAnswer>(), 24);
 }
@@ -254,7 +266,7 @@ fn bound() -> Vec<Function> {
 fn functions_are_declared_in_the_header() {
     let declared = declared();
     let bound = bound();
-    assert_eq!(bound.len(), 18);
+    assert_eq!(bound.len(), 20);
     for here in bound {
         let there = declared.iter().find(|there| there.0 == here.0);
         assert_eq!(there, Some(&here));
@@ -297,6 +309,7 @@ fn assert_codes(name: &str, prefix: &str, here: impl IntoIterator<Item = (String
 #[test]
 fn codes_are_those_of_the_header() {
     let refusals = (1..=9)
+        .chain([14])
         .chain(18..=22)
         .map(|n| (header_name(Refusal::from_number(n).unwrap()), n));
     assert_codes("mask_refusal", "MASK_REFUSED_", refusals);

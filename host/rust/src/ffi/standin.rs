@@ -4,7 +4,8 @@
 //! `tests` show.
 
 use super::{
-    AreaAnswer, CountAnswer, DoneAnswer, HandleAnswer, PruneAnswer, ReportAnswer, StitchAnswer,
+    AreaAnswer, CountAnswer, DoneAnswer, HandleAnswer, PruneAnswer, ReopenAnswer, ReportAnswer,
+    StitchAnswer, UnmovedAnswer,
     VerdictAnswer, VertexAnswer, View, ViewAnswer, WindingAnswer,
 };
 use crate::{Point, Split, Vertex};
@@ -53,6 +54,7 @@ pub(crate) struct Reply {
     answer: Answer,
     counts: Vec<Vec<usize>>,
     numbers: Vec<Vec<f64>>,
+    editions: Vec<u32>,
 }
 
 impl Reply {
@@ -71,6 +73,15 @@ impl Reply {
             answer: answer.into(),
             counts,
             numbers,
+            editions: vec![],
+        }
+    }
+
+    /// The same, which writes the front of the list of editions too.
+    pub fn with_editions(self, editions: &[u32]) -> Reply {
+        Reply {
+            editions: editions.to_vec(),
+            ..self
         }
     }
 }
@@ -94,6 +105,16 @@ pub(crate) fn told<T>(
 
 /// Writes the call down and gives the next answer.
 fn play(call: Call, counts: &mut [&mut [usize]], numbers: &mut [&mut [f64]]) -> Answer {
+    play_all(call, counts, numbers, &mut [])
+}
+
+/// The same of an entry that writes editions too.
+fn play_all(
+    call: Call,
+    counts: &mut [&mut [usize]],
+    numbers: &mut [&mut [f64]],
+    editions: &mut [u32],
+) -> Answer {
     let entry = call.entry;
     CALLS.with(|all| all.borrow_mut().push(call));
     let reply = REPLIES.with(|all| all.borrow_mut().pop_front());
@@ -104,6 +125,7 @@ fn play(call: Call, counts: &mut [&mut [usize]], numbers: &mut [&mut [f64]]) -> 
     for (list, front) in numbers.iter_mut().zip(reply.numbers) {
         list[..front.len()].copy_from_slice(&front);
     }
+    editions[..reply.editions.len()].copy_from_slice(&reply.editions);
     reply.answer
 }
 
@@ -134,6 +156,8 @@ answers!(
     Vertex VertexAnswer,
     View ViewAnswer,
     Verdict VerdictAnswer,
+    Reopen ReopenAnswer,
+    Unmoved UnmovedAnswer,
     Count CountAnswer,
     Prune PruneAnswer,
     Stitch StitchAnswer,
@@ -188,10 +212,10 @@ macro_rules! call {
 #[allow(clippy::too_many_arguments)] // those of the header
 #[rustfmt::skip] // one parameter list a paragraph, as the interface has them
 pub(crate) mod entries {
-    use super::{play, Call, Lent};
+    use super::{play, play_all, Call, Lent};
     use super::{CountAnswer, PruneAnswer, StitchAnswer, VerdictAnswer, VertexAnswer, ViewAnswer};
     use super::{AreaAnswer, Point, ReportAnswer, Split, Vertex, View, WindingAnswer};
-    use super::{DoneAnswer, HandleAnswer};
+    use super::{DoneAnswer, HandleAnswer, ReopenAnswer, UnmovedAnswer};
 
     pub(crate) fn view_vertex(outline: &[f64], vc: usize, view: View, index: usize) -> VertexAnswer {
         play(call!(view_vertex: outline, vc, view, index;), &mut [], &mut []).into()
@@ -226,10 +250,27 @@ pub(crate) mod entries {
     }
 
     pub(crate) fn validate_for_source(
-        outline: &[f64], vc: usize, view: View, start_on_segment: u32, end_on_segment: u32,
+        outline: &[f64], vc: usize, edition: u32, view: View, view_edition: u32,
+        start_on_segment: u32, end_on_segment: u32,
     ) -> VerdictAnswer {
-        let call = call!(validate_for_source: outline, vc, view, start_on_segment, end_on_segment;);
+        let call = call!(validate_for_source: outline, vc, edition, view, view_edition,
+            start_on_segment, end_on_segment;);
         play(call, &mut [], &mut []).into()
+    }
+
+    pub(crate) fn reopen(
+        outline: &[f64], vc: usize, edition: u32, view: View, view_edition: u32,
+        start_on_segment: u32, end_on_segment: u32,
+    ) -> ReopenAnswer {
+        let call = call!(reopen: outline, vc, edition, view, view_edition, start_on_segment,
+            end_on_segment;);
+        play(call, &mut [], &mut []).into()
+    }
+
+    pub(crate) fn unmoved(
+        outline1: &[f64], vc1: usize, outline2: &[f64], vc2: usize, view: View,
+    ) -> UnmovedAnswer {
+        play(call!(unmoved: outline1, vc1, outline2, vc2, view;), &mut [], &mut []).into()
     }
 
     pub(crate) fn cut_order(
@@ -243,38 +284,40 @@ pub(crate) mod entries {
     }
 
     pub(crate) fn candidates(
-        outline: &[f64], vc: usize, source: u32, hit_at: &[usize], hit: &[f64], hits: usize,
-        lap_at: &[usize], lap: &[f64], laps: usize, splits: &[f64], tolerance_x: f64, tolerance_y: f64,
-        cand_at: &mut [usize], cand: &mut [f64], probe: &mut [f64],
+        outline: &[f64], vc: usize, edition: u32, source: u32, hit_at: &[usize], hit: &[f64],
+        hits: usize, lap_at: &[usize], lap: &[f64], laps: usize, splits: &[f64],
+        tolerance_x: f64, tolerance_y: f64,
+        cand_at: &mut [usize], cand: &mut [f64], probe: &mut [f64], cand_edition: &mut [u32],
     ) -> CountAnswer {
-        let call = call!(candidates: outline, vc, source, hit_at, hit, hits, lap_at, lap, laps,
-            splits, tolerance_x, tolerance_y; cand_at, cand, probe);
-        play(call, &mut [cand_at], &mut [cand, probe]).into()
+        let call = call!(candidates: outline, vc, edition, source, hit_at, hit, hits, lap_at, lap,
+            laps, splits, tolerance_x, tolerance_y; cand_at, cand, probe, cand_edition);
+        play_all(call, &mut [cand_at], &mut [cand, probe], cand_edition).into()
     }
 
     pub(crate) fn prune(
         mode: u32, opposing: u32, vc1: usize, vc2: usize,
-        cand_at1: &[usize], cand1: &[f64], inside1: &[u8], count1: usize,
-        cand_at2: &[usize], cand2: &[f64], inside2: &[u8], count2: usize,
-        lap_at: &[usize], lap: &[f64], laps: usize,
-        slice_at: &mut [usize], slice: &mut [f64],
+        cand_at1: &[usize], cand1: &[f64], cand_edition1: &[u32], inside1: &[u8], count1: usize,
+        cand_at2: &[usize], cand2: &[f64], cand_edition2: &[u32], inside2: &[u8], count2: usize,
+        lap_at: &[usize], lap: &[f64], lap_edition: &[u32], laps: usize,
+        slice_at: &mut [usize], slice: &mut [f64], slice_edition: &mut [u32],
     ) -> PruneAnswer {
-        let call = call!(prune: mode, opposing, vc1, vc2, cand_at1, cand1, inside1, count1,
-            cand_at2, cand2, inside2, count2, lap_at, lap, laps; slice_at, slice);
-        play(call, &mut [slice_at], &mut [slice]).into()
+        let call = call!(prune: mode, opposing, vc1, vc2, cand_at1, cand1, cand_edition1, inside1,
+            count1, cand_at2, cand2, cand_edition2, inside2, count2, lap_at, lap, lap_edition, laps;
+            slice_at, slice, slice_edition);
+        play_all(call, &mut [slice_at], &mut [slice], slice_edition).into()
     }
 
     pub(crate) fn stitch(
-        outline1: &[f64], vc1: usize, outline2: &[f64], vc2: usize,
-        slice_at: &[usize], slice: &[f64], slices: usize,
+        outline1: &[f64], vc1: usize, edition1: u32, outline2: &[f64], vc2: usize, edition2: u32,
+        slice_at: &[usize], slice: &[f64], slice_edition: &[u32], slices: usize,
         pline2: usize, pline1_overlapping: usize, pline2_overlapping: usize,
         selector: u32, tolerance_x: f64, tolerance_y: f64,
         room: &mut [f64], ends: &mut [usize], chain: &mut [usize], chain_ends: &mut [usize],
         chain_how: &mut [usize],
     ) -> StitchAnswer {
-        let call = call!(stitch: outline1, vc1, outline2, vc2, slice_at, slice, slices, pline2,
-            pline1_overlapping, pline2_overlapping, selector, tolerance_x, tolerance_y;
-            room, ends, chain, chain_ends, chain_how);
+        let call = call!(stitch: outline1, vc1, edition1, outline2, vc2, edition2, slice_at, slice,
+            slice_edition, slices, pline2, pline1_overlapping, pline2_overlapping, selector,
+            tolerance_x, tolerance_y; room, ends, chain, chain_ends, chain_how);
         play(call, &mut [ends, chain, chain_ends, chain_how], &mut [room]).into()
     }
 
@@ -301,7 +344,7 @@ pub(crate) mod entries {
         party: u32, put_at: &[usize], put: &[f64], put_edition: u32,
     ) -> HandleAnswer {
         let call = call!(store_put: party, put_at, put, put_edition; held, slice_at, slice, slice_edition);
-        play(call, &mut [held, slice_at], &mut [slice]).into()
+        play_all(call, &mut [held, slice_at], &mut [slice], slice_edition).into()
     }
 
     pub(crate) fn store_release(
@@ -318,7 +361,7 @@ pub(crate) mod entries {
     ) -> CountAnswer {
         let call = call!(store_list: held, slice_at, slice, slice_edition, party;
             handles, list_at, list, list_edition);
-        play(call, &mut [handles, list_at], &mut [list]).into()
+        play_all(call, &mut [handles, list_at], &mut [list], list_edition).into()
     }
 
     pub(crate) fn store_compact(
@@ -326,6 +369,6 @@ pub(crate) mod entries {
         party: u32,
     ) -> DoneAnswer {
         let call = call!(store_compact: party; held, slice_at, slice, slice_edition);
-        play(call, &mut [held, slice_at], &mut [slice]).into()
+        play_all(call, &mut [held, slice_at], &mut [slice], slice_edition).into()
     }
 }

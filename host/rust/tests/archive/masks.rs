@@ -154,7 +154,7 @@ fn masks_that_do_not_meet_give_no_slices() {
 }
 
 /// The overlap of A with a square to its right: on A's segment 1, on that one's segment 3.
-fn right_of_a() -> (Outline, Overlap) {
+pub fn right_of_a() -> (Outline, Overlap) {
     let right = Outline::straight(&[(4.0, 0.0), (8.0, 0.0), (8.0, 4.0), (4.0, 4.0)]);
     let overlap = Overlap {
         start_indexes: (1, 3),
@@ -167,6 +167,7 @@ fn right_of_a() -> (Outline, Overlap) {
             updated_end_bulge: 0.0,
             end_point: Point::new(4.0, 0.0),
             inverted_direction: false,
+            edition: right.edition(),
         },
     };
     (right, overlap)
@@ -188,6 +189,7 @@ fn corner_of_a() -> (Outline, Overlap) {
             updated_end_bulge: 0.0,
             end_point: Point::new(2.0, 0.0),
             inverted_direction: false,
+            edition: corner.edition(),
         },
     };
     (corner, overlap)

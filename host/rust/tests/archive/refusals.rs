@@ -187,6 +187,78 @@ fn of_validate_for_source() {
     };
     assert_eq!(validate(&a(), bad), Err(Refusal::Index));
     assert_eq!(validate(&line_of(1), bad), Ok(()));
+
+    // An edition that differs comes after these, and on an outline that is too short too.
+    let of_another = View { edition: 1, ..bad };
+    assert_eq!(validate(&a(), of_another), Err(Refusal::Index));
+    assert_eq!(validate(&line_of(1025), of_another), Err(Refusal::Outline));
+    assert_eq!(validate(&line_of(1), of_another), Err(Refusal::Edition));
+    let of_another = View {
+        edition: 1,
+        ..view()
+    };
+    assert_eq!(validate(&a(), of_another), Err(Refusal::Edition));
+}
+
+#[test]
+fn of_reopen() {
+    let reopen = |outline: &Outline, view: View| {
+        let mut view = view;
+        let on = OnSegment {
+            start: true,
+            end: true,
+        };
+        let found = view.reopen(outline, on);
+        found.map(|_| view.edition)
+    };
+    assert_eq!(reopen(&line_of(1).with_edition(3), view()), Ok(0));
+    assert_eq!(reopen(&line_of(1025), view()), Err(Refusal::Outline));
+    assert_eq!(reopen(&a().with_edition(3), view()), Ok(3));
+    for x in BAD_NUMBERS {
+        let bad = View {
+            updated_end_bulge: x,
+            ..view()
+        };
+        assert_eq!(reopen(&a(), bad), Err(Refusal::Number));
+    }
+    let bad = View {
+        start_index: 4,
+        ..view()
+    };
+    assert_eq!(reopen(&a(), bad), Err(Refusal::Index));
+    assert_eq!(reopen(&line_of(1), bad), Ok(0));
+}
+
+#[test]
+fn of_unmoved() {
+    let unmoved = |outline: &Outline, view: View| {
+        let found = [view.unmoved(&a(), outline), view.unmoved(outline, &a())];
+        assert_eq!(found[0], found[1]);
+        found[0]
+    };
+    assert_eq!(unmoved(&a().with_edition(3), view()), Ok(true));
+    for (outline, refusal) in bad_outlines() {
+        assert_eq!(unmoved(&outline, view()), Err(refusal));
+    }
+    for x in BAD_NUMBERS {
+        let bad = View {
+            end_point: Point::new(0.0, x),
+            ..view()
+        };
+        assert_eq!(unmoved(&a(), bad), Err(Refusal::Number));
+    }
+    // Start and offset are looked at on both outlines, and A has one vertex more.
+    let triangle = Outline::straight(&[(0.0, 0.0), (4.0, 0.0), (0.0, 3.0)]);
+    let far = |start_index, end_index_offset| View {
+        start_index,
+        end_index_offset,
+        ..view()
+    };
+    assert_eq!(unmoved(&triangle, far(3, 0)), Err(Refusal::Index));
+    assert_eq!(unmoved(&triangle, far(0, 4)), Err(Refusal::Count));
+    assert_eq!(unmoved(&triangle, far(3, 4)), Err(Refusal::Index));
+    assert_eq!(unmoved(&a(), far(4, 5)), Err(Refusal::Index));
+    assert_eq!(unmoved(&a(), far(0, 5)), Err(Refusal::Count));
 }
 
 /// What both entries over cuts take, and what they answer to it.
@@ -392,18 +464,16 @@ fn of_prune_with_an_unknown_code() {
         (255, Some(Refusal::Code)),
     ] {
         let sides = [(&good.candidates, &[0][..]), (&good.candidates, &[code])];
-        let (mut slice_at, mut slice) = ([7; 8], [7.0; 12]);
-        let found = lent::prune(
-            Mode::Union,
-            false,
-            [4, 4],
-            sides,
-            &Overlaps::new(),
-            &mut slice_at,
-            &mut slice,
-        );
+        let (mut slice_at, mut slice, mut slice_edition) = ([7; 8], [7.0; 12], [7; 2]);
+        let room = lent::SliceRoom {
+            slice_at: &mut slice_at,
+            slice: &mut slice,
+            slice_edition: &mut slice_edition,
+        };
+        let found = lent::prune(Mode::Union, false, [4, 4], sides, &Overlaps::new(), room);
         assert_eq!(found.err(), expected);
         assert_eq!(slice_at == [7; 8], expected.is_some());
+        assert_eq!(slice_edition == [7; 2], expected.is_some());
     }
 }
 
@@ -431,6 +501,12 @@ fn of_stitch() {
     assert_eq!(stitched(&a, &b, &slices(view(), 1792), t), Ok(()));
     let found = stitched(&a, &b, &slices(view(), 1793), t);
     assert_eq!(found, Err(Refusal::Length));
+    let of_another = View {
+        edition: 1,
+        ..view()
+    };
+    let found = stitched(&a, &b, &slices(of_another, 1), t);
+    assert_eq!(found, Err(Refusal::Edition));
     for (outline, refusal) in bad_outlines() {
         assert_eq!(stitched(&outline, &b, &slices(view(), 1), t), Err(refusal));
         assert_eq!(stitched(&a, &outline, &slices(view(), 1), t), Err(refusal));
@@ -520,19 +596,61 @@ fn of_room_that_is_lent() {
     let ordered = cut_order(&a(), Source::Pline1, &hits, &laps, T).unwrap();
     let splits = split_cuts(&a(), &ordered, &mut StraightHost).unwrap();
     for (expected, lengths) in [
-        (Ok(2), [4, 12, 12]),
-        (Err(Refusal::Room), [3, 12, 12]),
-        (Err(Refusal::Room), [4, 11, 12]),
-        (Err(Refusal::Room), [4, 12, 11]),
+        (Ok(2), [4, 12, 12, 2]),
+        (Err(Refusal::Room), [3, 12, 12, 2]),
+        (Err(Refusal::Room), [4, 11, 12, 2]),
+        (Err(Refusal::Room), [4, 12, 11, 2]),
+        (Err(Refusal::Room), [4, 12, 12, 1]),
     ] {
         let room = lent::CandidateRoom {
             cand_at: &mut vec![7; lengths[0]],
             cand: &mut vec![7.0; lengths[1]],
             probe: &mut vec![7.0; lengths[2]],
+            cand_edition: &mut vec![7; lengths[3]],
         };
         let found = lent::candidates(&a(), Source::Pline1, &hits, &laps, &splits, T, room);
         assert_eq!(found, expected);
     }
+}
+
+/// An edition that differs is told after the starts and before the room.
+#[test]
+fn of_an_edition_in_its_place() {
+    let of_another = View {
+        edition: 1,
+        ..view()
+    };
+    let stitched = |slices: &Slices, numbers: usize| {
+        let mut room = vec![7.0; numbers];
+        let (mut ends, mut chain) = ([7; 1], [7; 1]);
+        let (mut chain_ends, mut chain_how) = ([7; 1], [7; 1]);
+        let lent = lent::StitchRoom {
+            room: &mut room,
+            ends: &mut ends,
+            chain: &mut chain,
+            chain_ends: &mut chain_ends,
+            chain_how: &mut chain_how,
+        };
+        let found = lent::stitch(&a(), &b(), slices, Selector::OrAnd, T, lent);
+        if found.is_err() {
+            assert!(room.iter().all(|x| *x == 7.0));
+            assert_eq!([ends, chain, chain_ends, chain_how], [[7]; 4]);
+        }
+        found.err()
+    };
+    assert_eq!(stitched(&slices(view(), 1), 6), None);
+    assert_eq!(stitched(&slices(view(), 1), 5), Some(Refusal::Room));
+    let late = slices(of_another, 1);
+    assert_eq!(stitched(&late, 6), Some(Refusal::Edition));
+    assert_eq!(stitched(&late, 5), Some(Refusal::Edition));
+    let starts = Starts {
+        pline2: 2,
+        ..late.starts
+    };
+    assert_eq!(
+        stitched(&Slices { starts, ..late }, 5),
+        Some(Refusal::Starts)
+    );
 }
 
 /// The lowest number that applies is given.

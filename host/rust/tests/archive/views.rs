@@ -109,6 +109,7 @@ fn round_the_corner() -> View {
         updated_end_bulge: 0.0,
         end_point: Point::new(4.0, 1.0),
         inverted_direction: false,
+        edition: a().edition(),
     }
 }
 

@@ -22,9 +22,12 @@ mul-or-else-3 c = search needs
 or-else-requires-3 : tie.Need-or-else-requires-3
 or-else-requires-3 c κs = search needs
 
+or-else-requires-4 : tie.Need-or-else-requires-4
+or-else-requires-4 c κs = search needs
+
 returns : tie.Need-returns
 unfolding firstFrom
-returns c = search rows depth 12
+returns c = search rows depth 24
 
 pub room-refusal-spec : {M : Type 1} → statement M
 room-refusal-spec =
@@ -36,4 +39,5 @@ room-refusal-spec =
     or-else-requires-2
     mul-or-else-3
     or-else-requires-3
+    or-else-requires-4
     returns)

@@ -12,8 +12,8 @@ count-refused-requires c κs = search needs
 returns : tie.Need-returns
 returns c = search (needs, ways)
 
-found-requires : tie.Need-found-requires
-found-requires c κs = let told = c .before .before .before in cand-ready _ _ _ _ (told .before .refusal .ensures) (told .if1 .left)
+dated-requires : tie.Need-dated-requires
+dated-requires c κs = let told = c .before .before .before .before in cand-ready _ _ 0 _ _ (told .before .refusal .ensures) (told .if1 .left)
 
 counted-as-requires : tie.Need-counted-as-requires
 counted-as-requires c κs = search needs
@@ -27,6 +27,9 @@ same-length-2 c = search needs
 same-length-3 : tie.Need-same-length-3
 same-length-3 c = search needs
 
+same-length-4 : tie.Need-same-length-4
+same-length-4 c = search needs
+
 returns-2 : tie.Need-returns-2
 returns-2 c = search (needs, ways)
 
@@ -37,9 +40,10 @@ sliced-spec =
     refusal-requires
     count-refused-requires
     returns
-    found-requires
+    dated-requires
     counted-as-requires
     same-length
     same-length-2
     same-length-3
+    same-length-4
     returns-2)

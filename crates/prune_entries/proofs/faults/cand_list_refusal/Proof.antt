@@ -22,8 +22,14 @@ bad-length-requires-3 c κs = search needs
 or-else-requires-3 : tie.Need-or-else-requires-3
 or-else-requires-3 c κs = search needs
 
+bad-length-requires-4 : tie.Need-bad-length-requires-4
+bad-length-requires-4 c κs = search needs
+
 or-else-requires-4 : tie.Need-or-else-requires-4
 or-else-requires-4 c κs = search needs
+
+or-else-requires-5 : tie.Need-or-else-requires-5
+or-else-requires-5 c κs = search needs
 
 returns : tie.Need-returns
 unfolding firstFrom
@@ -39,5 +45,7 @@ cand-list-refusal-spec =
     or-else-requires-2
     bad-length-requires-3
     or-else-requires-3
+    bad-length-requires-4
     or-else-requires-4
+    or-else-requires-5
     returns)

@@ -16,8 +16,14 @@ bad-length-requires-2 c κs = search needs
 or-else-requires-2 : tie.Need-or-else-requires-2
 or-else-requires-2 c κs = search needs
 
+bad-length-requires-3 : tie.Need-bad-length-requires-3
+bad-length-requires-3 c κs = search needs
+
 or-else-requires-3 : tie.Need-or-else-requires-3
 or-else-requires-3 c κs = search needs
+
+or-else-requires-4 : tie.Need-or-else-requires-4
+or-else-requires-4 c κs = search needs
 
 returns : tie.Need-returns
 unfolding firstFrom
@@ -31,5 +37,7 @@ lap-list-refusal-spec =
     or-else-requires
     bad-length-requires-2
     or-else-requires-2
+    bad-length-requires-3
     or-else-requires-3
+    or-else-requires-4
     returns)

@@ -16,8 +16,8 @@ returns c = search (needs, pruning)
 need-of-requires : tie.Need-need-of-requires
 need-of-requires c κs = input-few _ _ (c .before .input-refusal .ensures) (c .if1 .left)
 
-room-refusal-requires : tie.Need-room-refusal-requires
-room-refusal-requires c κs = search (needs, pruning)
+lent-refusal-requires : tie.Need-lent-refusal-requires
+lent-refusal-requires c κs = search (needs, pruning)
 
 prune-refused-requires-2 : tie.Need-prune-refused-requires-2
 prune-refused-requires-2 c κs = search needs
@@ -27,23 +27,22 @@ returns-2 c = search (needs, pruning)
 
 write-both-requires : tie.Need-write-both-requires
 write-both-requires c κs =
-    let second = c .before .before in
+    let second = c .before .before .before in
     let lent = second .before in
     let need = lent .before in
     let first = need .before in
     let input = first .before in
-    fit-both _ _ _ _ _ (accepted-ready _ _ _ _ _ (input .input-refusal .ensures) (first .if1 .left) (need .need-of .ensures) (lent .room-refusal .ensures) (second .if2 .left))
+    fit-both _ _ _ _ _ (accepted-ready _ _ _ _ _ (input .input-refusal .ensures) (first .if1 .left) (need .need-of .ensures) (lent .lent-refusal .ensures) (second .if2 .left))
 
 finish-requires : tie.Need-finish-requires
 finish-requires c κs =
-    let lists = c .before .before .before in
-    let kept = lists .before .before .before in
-    let second = kept .before .before .before in
+    let kept = c .before .before .before .before .before .before .before .before .before in
+    let second = kept .before .before .before .before in
     let lent = second .before in
     let need = lent .before in
     let first = need .before in
     let input = first .before in
-    fit-finish _ _ _ _ _ _ _ (accepted-ready _ _ _ _ _ (input .input-refusal .ensures) (first .if1 .left) (need .need-of .ensures) (lent .room-refusal .ensures) (second .if2 .left)) (kept .write-both .ensures)
+    fit-finish _ _ _ _ _ _ _ (accepted-ready _ _ _ _ _ (input .input-refusal .ensures) (first .if1 .left) (need .need-of .ensures) (lent .lent-refusal .ensures) (second .if2 .left)) (kept .write-both .ensures)
 
 prune-given-requires : tie.Need-prune-given-requires
 prune-given-requires c κs = search needs
@@ -54,18 +53,19 @@ same-length c = search needs
 same-length-2 : tie.Need-same-length-2
 same-length-2 c = search needs
 
+same-length-3 : tie.Need-same-length-3
+same-length-3 c = search needs
+
 returns-3 : tie.Need-returns-3
 returns-3 c =
-    let out = c .before .before in
-    let done = out .before .before .before in
-    let lists = done .before .before .before .before in
-    let kept = lists .before .before .before in
-    let second = kept .before .before .before in
+    let done = c .before .before .before .before .before .before .before in
+    let kept = done .before .before .before .before .before .before .before .before .before .before in
+    let second = kept .before .before .before .before in
     let lent = second .before in
     let need = lent .before in
     let first = need .before in
     let input = first .before in
-    accepted-given _ _ _ _ _ (input .input-refusal .ensures) (first .if1 .left) (need .need-of .ensures) (lent .room-refusal .ensures) _ _ _ (second .if2 .left)
+    accepted-given _ _ _ _ _ (input .input-refusal .ensures) (first .if1 .left) (need .need-of .ensures) (lent .lent-refusal .ensures) _ _ _ (second .if2 .left)
     (written-of _ _ _ _ _ _ _ _ _ (kept .write-both .ensures) (done .finish .ensures)) (c .prune-given .ensures)
 
 pub entry-spec : {M : Type 1} → statement M
@@ -76,7 +76,7 @@ entry-spec =
     prune-refused-requires
     returns
     need-of-requires
-    room-refusal-requires
+    lent-refusal-requires
     prune-refused-requires-2
     returns-2
     write-both-requires
@@ -84,4 +84,5 @@ entry-spec =
     prune-given-requires
     same-length
     same-length-2
+    same-length-3
     returns-3)

@@ -21,8 +21,16 @@ same-length c = search needs
 same-length-2 : tie.Need-same-length-2
 same-length-2 c = search needs
 
+same-length-3 : tie.Need-same-length-3
+same-length-3 c = search needs
+
 returns : tie.Need-returns
-returns c = search (needs, finished-of)
+returns c =
+    let cleared = c .before .before .before .before .before .before .before in
+    let need = cleared .before in
+    let wrote = need .before .before .before .before .before .before .before .before .before .before in
+    let begun = wrote .before .before .before .before .before .before .before .before .before .before in
+    finished-of _ _ _ _ _ _ _ _ _ (begun .pre) (wrote .write-twice .ensures) (need .need-of .ensures) (cleared .clear-rest .ensures) (c .pruned-at .ensures)
 
 pub finish-spec : {M : Type 1} → statement M
 finish-spec =
@@ -34,4 +42,5 @@ finish-spec =
     pruned-at-requires
     same-length
     same-length-2
+    same-length-3
     returns)

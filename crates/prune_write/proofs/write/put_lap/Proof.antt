@@ -9,6 +9,12 @@ lap-codes-requires c κs = search needs
 shape-at-requires : tie.Need-shape-at-requires
 shape-at-requires c κs = search needs
 
+mul-put-slice : tie.Need-mul-put-slice
+mul-put-slice c = search needs
+
+shared-slice-read-put-slice : tie.Need-shared-slice-read-put-slice
+shared-slice-read-put-slice c = search needs
+
 put-slice-requires : tie.Need-put-slice-requires
 put-slice-requires c κs = search needs
 
@@ -17,6 +23,9 @@ same-length c = search needs
 
 same-length-2 : tie.Need-same-length-2
 same-length-2 c = search needs
+
+same-length-3 : tie.Need-same-length-3
+same-length-3 c = search needs
 
 returns : tie.Need-returns
 returns c = search (needs, placed-as)
@@ -27,7 +36,10 @@ put-lap-spec =
     (tie.spec
     lap-codes-requires
     shape-at-requires
+    mul-put-slice
+    shared-slice-read-put-slice
     put-slice-requires
     same-length
     same-length-2
+    same-length-3
     returns)

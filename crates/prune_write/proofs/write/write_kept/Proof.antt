@@ -7,10 +7,11 @@ use Rattle.prune_write.proofs.write.write_kept.Statement.{statement}
 use Rattle.prune_write.proofs.write.write_kept.Tie as tie
 
 abbrev Inv-loop : tie.InvT-loop
-Inv-loop cand-at cand inside count part slice-at₀ slice₀ m n₀ i₀ slice-at slice n i = Keeping (cands cand-at cand inside) count part (rooms slice-at₀ slice₀) m (rooms slice-at slice) n i
+Inv-loop cand-at cand cand-edition inside count part slice-at₀ slice₀ slice-edition₀ m n₀ i₀ slice-at slice slice-edition n i =
+    Keeping (cands cand-at cand cand-edition inside) count part (rooms slice-at₀ slice₀ slice-edition₀) m (rooms slice-at slice slice-edition) n i
 
 abbrev μ-loop : tie.MeasureT-loop
-μ-loop cand-at cand inside count part slice-at₀ slice₀ m n₀ i₀ slice-at slice n i = count - i
+μ-loop cand-at cand cand-edition inside count part slice-at₀ slice₀ slice-edition₀ m n₀ i₀ slice-at slice slice-edition n i = count - i
 
 loop-holds : tie.Need-loop-holds Inv-loop μ-loop
 loop-holds c = search (needs, keeping)
@@ -45,6 +46,9 @@ same-length c = search (needs, keeping)
 same-length-2 : tie.Need-same-length-2 Inv-loop μ-loop
 same-length-2 c = search (needs, keeping)
 
+same-length-3 : tie.Need-same-length-3 Inv-loop μ-loop
+same-length-3 c = search (needs, keeping)
+
 returns : tie.Need-returns Inv-loop μ-loop
 returns c = search (needs, keeping)
 
@@ -65,4 +69,5 @@ write-kept-spec =
     loop-again-2
     same-length
     same-length-2
+    same-length-3
     returns)

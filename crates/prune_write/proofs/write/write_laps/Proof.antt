@@ -7,10 +7,11 @@ use Rattle.prune_write.proofs.write.write_laps.Statement.{statement}
 use Rattle.prune_write.proofs.write.write_laps.Tie as tie
 
 abbrev Inv-loop : tie.InvT-loop
-Inv-loop lap-at lap laps first slice-at₀ slice₀ m n₀ j₀ slice-at slice n j = Lapping (overlaps lap-at lap) laps first (rooms slice-at₀ slice₀) m (rooms slice-at slice) n j
+Inv-loop lap-at lap lap-edition laps first slice-at₀ slice₀ slice-edition₀ m n₀ j₀ slice-at slice slice-edition n j =
+    Lapping (overlaps lap-at lap lap-edition) laps first (rooms slice-at₀ slice₀ slice-edition₀) m (rooms slice-at slice slice-edition) n j
 
 abbrev μ-loop : tie.MeasureT-loop
-μ-loop lap-at lap laps first slice-at₀ slice₀ m n₀ j₀ slice-at slice n j = laps - j
+μ-loop lap-at lap lap-edition laps first slice-at₀ slice₀ slice-edition₀ m n₀ j₀ slice-at slice slice-edition n j = laps - j
 
 loop-holds : tie.Need-loop-holds Inv-loop μ-loop
 loop-holds c = search (needs, lapping)
@@ -36,6 +37,9 @@ same-length c = search (needs, lapping)
 same-length-2 : tie.Need-same-length-2 Inv-loop μ-loop
 same-length-2 c = search (needs, lapping)
 
+same-length-3 : tie.Need-same-length-3 Inv-loop μ-loop
+same-length-3 c = search (needs, lapping)
+
 returns : tie.Need-returns Inv-loop μ-loop
 returns c = search (needs, lapping)
 
@@ -53,4 +57,5 @@ write-laps-spec =
     loop-again
     same-length
     same-length-2
+    same-length-3
     returns)

@@ -15,10 +15,13 @@ same-length c = search needs
 same-length-2 : tie.Need-same-length-2
 same-length-2 c = search needs
 
+same-length-3 : tie.Need-same-length-3
+same-length-3 c = search needs
+
 returns : tie.Need-returns
 returns c = search (needs, twice-of)
 
 pub write-twice-spec : {M : Type 1} → statement M
 write-twice-spec =
     tie.close
-    (tie.spec write-laps-requires write-laps-requires-2 same-length same-length-2 returns)
+    (tie.spec write-laps-requires write-laps-requires-2 same-length same-length-2 same-length-3 returns)

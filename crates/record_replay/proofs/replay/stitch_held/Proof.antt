@@ -17,7 +17,7 @@ mul-n4 : tie.Need-mul-n4
 mul-n4 c =
     let lent = c .before .before .before .before .before .before in
     let entry = lent .before .before .before .before .before .before .before in
-    omega (arith, entry .pre .shapes, entry .good)
+    omega (arith, entry .pre .roomy .shapes, entry .good)
 
 sub-stitched : tie.Need-sub-stitched
 sub-stitched c = search needs
@@ -54,6 +54,15 @@ part-stitched-start-4 c = search needs
 
 part-stitched-end-4 : tie.Need-part-stitched-end-4
 part-stitched-end-4 c = search needs
+
+sub-stitched-5 : tie.Need-sub-stitched-5
+sub-stitched-5 c = search needs
+
+part-stitched-start-5 : tie.Need-part-stitched-start-5
+part-stitched-start-5 c = search needs
+
+part-stitched-end-5 : tie.Need-part-stitched-end-5
+part-stitched-end-5 c = search needs
 
 stitched-requires : tie.Need-stitched-requires
 stitched-requires c κs = search needs
@@ -96,6 +105,9 @@ stitch-held-spec =
     sub-stitched-4
     part-stitched-start-4
     part-stitched-end-4
+    sub-stitched-5
+    part-stitched-start-5
+    part-stitched-end-5
     stitched-requires
     same-length
     same-length-2

@@ -15,11 +15,20 @@ mul-put-shape c = search needs
 put-shape-requires : tie.Need-put-shape-requires
 put-shape-requires c κs = search needs
 
+mul-slice-edition : tie.Need-mul-slice-edition
+mul-slice-edition c = search needs
+
+slice-write-slice-edition : tie.Need-slice-write-slice-edition
+slice-write-slice-edition c = search needs
+
 same-length : tie.Need-same-length
 same-length c = search needs
 
 same-length-2 : tie.Need-same-length-2
 same-length-2 c = search needs
+
+same-length-3 : tie.Need-same-length-3
+same-length-3 c = search needs
 
 returns : tie.Need-returns
 returns c = search (needs, putting)
@@ -32,6 +41,9 @@ put-slice-spec =
     put-codes-requires
     mul-put-shape
     put-shape-requires
+    mul-slice-edition
+    slice-write-slice-edition
     same-length
     same-length-2
+    same-length-3
     returns)

@@ -12,10 +12,10 @@ use Rattle.stitch_entries.proofs.faults.list_refusal.Statement.{stateme
 use Rattle.stitch_entries.proofs.faults.list_refusal.Tie as tie
 
 -- the slices' rows between the outlines' and the count's
-then-slices : (n q p len1 vc1 len2 vc2 at numbers count : ℕ) → n ≡ orElse q (ltb mostSlices count) 1 → q ≡ firstFrom p (slices.listRows at numbers count)
-    → p ≡ orElse (orElse 0 (lengthFault 3 len1 vc1) 1) (lengthFault 3 len2 vc2) 1 → n ≡ firstFrom 0 (listRows len1 vc1 len2 vc2 at numbers count)
-then-slices n q p len1 vc1 len2 vc2 at numbers count e f g =
-    then-rows n p 0 (row (lengthFault 3 len1 vc1) 1 ∷ row (lengthFault 3 len2 vc2) 1 ∷ []) (slices.listRows at numbers count ++ (row (ltb mostSlices count) 1 ∷ []))
+then-slices : (n q p r len1 vc1 len2 vc2 at numbers count : ℕ) → n ≡ orElse q (ltb mostSlices count) 1 → q ≡ firstFrom p (slices.listRows at numbers count)
+    → p ≡ orElse (orElse r (lengthFault 3 len1 vc1) 1) (lengthFault 3 len2 vc2) 1 → n ≡ firstFrom r (listRows len1 vc1 len2 vc2 at numbers count)
+then-slices n q p r len1 vc1 len2 vc2 at numbers count e f g =
+    then-rows n p r (row (lengthFault 3 len1 vc1) 1 ∷ row (lengthFault 3 len2 vc2) 1 ∷ []) (slices.listRows at numbers count ++ (row (ltb mostSlices count) 1 ∷ []))
     (then-rows n q p (slices.listRows at numbers count) (row (ltb mostSlices count) 1 ∷ []) (unfold firstFrom in e) f) (unfold firstFrom in g)
 
 bad-length-requires : tie.Need-bad-length-requires

@@ -3,11 +3,14 @@ use borrow.Author.Needs.{needs}
 use Rattle.stitch_entries.proofs.stitching.refusal.Statement.{statement}
 use Rattle.stitch_entries.proofs.stitching.refusal.Tie as tie
 
-shape-refusal-requires : tie.Need-shape-refusal-requires
-shape-refusal-requires c κs = search needs
+input-refusal-requires : tie.Need-input-refusal-requires
+input-refusal-requires c κs = search needs
 
 returns : tie.Need-returns
 returns c = search (needs, finding)
+
+edition-refusal-requires : tie.Need-edition-refusal-requires
+edition-refusal-requires c κs = search (needs, finding)
 
 room-refusal-requires : tie.Need-room-refusal-requires
 room-refusal-requires c κs = search (needs, finding)
@@ -16,4 +19,4 @@ returns-2 : tie.Need-returns-2
 returns-2 c = search (needs, finding)
 
 pub refusal-spec : {M : Type 1} → statement M
-refusal-spec = tie.close (tie.spec shape-refusal-requires returns room-refusal-requires returns-2)
+refusal-spec = tie.close (tie.spec input-refusal-requires returns edition-refusal-requires room-refusal-requires returns-2)

@@ -15,7 +15,7 @@ returns c = search (needs, ways)
 write-stitch-requires : tie.Need-write-stitch-requires
 write-stitch-requires c κs =
     let passed = c .before .before .before .before .before in
-    stitch-accepted _ _ _ (passed .before .refusal .ensures) (passed .if1 .left)
+    stitch-accepted _ _ _ _ (passed .before .refusal .ensures) (passed .if1 .left)
 
 stitch-given-requires : tie.Need-stitch-given-requires
 stitch-given-requires c κs = search needs

@@ -1,19 +1,16 @@
-use borrow.Author.Needs.{needs}
 use Rattle.basis.specs.RefuseLaws.{then-rows}
-use Rattle.record_write.proofs.write.keep_refusal.Statement.{statement}
-use Rattle.record_write.proofs.write.keep_refusal.Tie as tie
+use borrow.Author.Needs.{needs}
+use Rattle.stitch_entries.proofs.stitching.input_refusal.Statement.{statement}
+use Rattle.stitch_entries.proofs.stitching.input_refusal.Tie as tie
 
 list-refusal-requires : tie.Need-list-refusal-requires
 list-refusal-requires c κs = search needs
 
-taken-refusal-requires : tie.Need-taken-refusal-requires
-taken-refusal-requires c κs = search needs
+list-refusal-requires-2 : tie.Need-list-refusal-requires-2
+list-refusal-requires-2 c κs = search needs
 
 code-refusal-requires : tie.Need-code-refusal-requires
 code-refusal-requires c κs = search needs
-
-axes-refusal-requires : tie.Need-axes-refusal-requires
-axes-refusal-requires c κs = search needs
 
 number-refusal-requires : tie.Need-number-refusal-requires
 number-refusal-requires c κs = search needs
@@ -22,16 +19,15 @@ index-refusal-requires : tie.Need-index-refusal-requires
 index-refusal-requires c κs = search needs
 
 returns : tie.Need-returns
-returns c = search (then-rows) depth 14
+returns c = search (then-rows) depth 16
 
-pub keep-refusal-spec : {M : Type 1} → statement M
-keep-refusal-spec =
+pub input-refusal-spec : {M : Type 1} → statement M
+input-refusal-spec =
     tie.close
     (tie.spec
     list-refusal-requires
-    taken-refusal-requires
+    list-refusal-requires-2
     code-refusal-requires
-    axes-refusal-requires
     number-refusal-requires
     index-refusal-requires
     returns)

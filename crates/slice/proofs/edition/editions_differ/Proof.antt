@@ -1,0 +1,59 @@
+use borrow.Author.Needs.{needs}
+use Prim.Native.Nat.{_-_}
+use native.Mathlib.Omega.{arith}
+use Rattle.basis.specs.EachLaws.{item-few}
+use Rattle.slice.specs.Slice.{codeWidth}
+use Rattle.slice.specs.Editions.{editions}
+use Rattle.slice.specs.SliceLaws.{codes-there}
+use Rattle.slice.proofs.Comparing.{Compared, compare-none, compare-more, compare-end}
+use Rattle.slice.proofs.edition.editions_differ.Statement.{statement}
+use Rattle.slice.proofs.edition.editions_differ.Tie as tie
+
+abbrev Inv-loop : tie.InvT-loop
+Inv-loop edition1 edition2 slice-at slice-edition count same₀ i₀ same i = Compared (editions edition1 edition2 slice-edition) slice-at same i
+
+abbrev μ-loop : tie.MeasureT-loop
+μ-loop edition1 edition2 slice-at slice-edition count same₀ i₀ same i = count - i
+
+loop-holds : tie.Need-loop-holds Inv-loop μ-loop
+loop-holds c = compare-none _ _
+
+codes-at-requires : tie.Need-codes-at-requires Inv-loop μ-loop
+codes-at-requires c κs = codes-there _ _ (c .loop-test .taken)
+
+mul-same : tie.Need-mul-same Inv-loop μ-loop
+mul-same c = search needs
+
+shared-slice-read-same : tie.Need-shared-slice-read-same Inv-loop μ-loop
+shared-slice-read-same c = search needs
+
+edition-of-requires : tie.Need-edition-of-requires Inv-loop μ-loop
+edition-of-requires c κs = search needs
+
+add-i : tie.Need-add-i Inv-loop μ-loop
+add-i c = search needs
+
+loop-less : tie.Need-loop-less Inv-loop μ-loop
+loop-less c = search needs
+
+loop-again : tie.Need-loop-again Inv-loop μ-loop
+loop-again c = search (needs, compare-more)
+
+returns : tie.Need-returns Inv-loop μ-loop
+returns c = search (needs, compare-end)
+
+pub editions-differ-spec : {M : Type 1} → statement M
+editions-differ-spec =
+    tie.close
+    (tie.spec
+    Inv-loop
+    μ-loop
+    loop-holds
+    codes-at-requires
+    mul-same
+    shared-slice-read-same
+    edition-of-requires
+    add-i
+    loop-less
+    loop-again
+    returns)

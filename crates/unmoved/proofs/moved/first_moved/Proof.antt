@@ -1,0 +1,54 @@
+use Prim.Native.Nat.{_+_, _-_, _≤_}
+use mathlib.Core.Bool.{true}
+use mathlib.Core.Path.{_≡_}
+use Rattle.basis.specs.Each.{eachTo}
+use Rattle.unmoved.specs.Unmoved.{sameAt}
+use Rattle.unmoved.specs.UnmovedLaws.{moving}
+use borrow.Author.Needs.{needs}
+use Rattle.unmoved.proofs.moved.first_moved.Statement.{statement}
+use Rattle.unmoved.proofs.moved.first_moved.Tie as tie
+
+abbrev Inv-loop : tie.InvT-loop
+Inv-loop outline1 vc1 outline2 vc2 v offset k₀ k = (k ≤ offset + 1) × (eachTo (sameAt outline1 vc1 outline2 vc2 v) k ≡ true)
+
+abbrev μ-loop : tie.MeasureT-loop
+μ-loop outline1 vc1 outline2 vc2 v offset k₀ k = offset + 1 - k
+
+loop-holds : tie.Need-loop-holds Inv-loop μ-loop
+loop-holds c = search (needs, moving)
+
+same-at-requires : tie.Need-same-at-requires Inv-loop μ-loop
+same-at-requires c κs = search needs
+
+returns : tie.Need-returns Inv-loop μ-loop
+returns c = search (needs, moving)
+
+add-k : tie.Need-add-k Inv-loop μ-loop
+add-k c = search needs
+
+loop-less : tie.Need-loop-less Inv-loop μ-loop
+loop-less c = search needs
+
+loop-again : tie.Need-loop-again Inv-loop μ-loop
+loop-again c = search (needs, moving)
+
+add-result : tie.Need-add-result Inv-loop μ-loop
+add-result c = search needs
+
+returns-2 : tie.Need-returns-2 Inv-loop μ-loop
+returns-2 c = search (needs, moving)
+
+pub first-moved-spec : {M : Type 1} → statement M
+first-moved-spec =
+    tie.close
+    (tie.spec
+    Inv-loop
+    μ-loop
+    loop-holds
+    same-at-requires
+    returns
+    add-k
+    loop-less
+    loop-again
+    add-result
+    returns-2)

@@ -1,0 +1,37 @@
+use Rattle.basis.specs.Choice.{cases}
+use Rattle.unmoved.specs.Unmoved.{sameVertex}
+use borrow.Author.Needs.{needs}
+use Rattle.unmoved.proofs.moved.same_vertex.Statement.{statement}
+use Rattle.unmoved.proofs.moved.same_vertex.Tie as tie
+
+same-number-requires : tie.Need-same-number-requires
+same-number-requires c κs = search needs
+
+same-number-requires-2 : tie.Need-same-number-requires-2
+same-number-requires-2 c κs = search needs
+
+same-number-requires-3 : tie.Need-same-number-requires-3
+same-number-requires-3 c κs = search needs
+
+returns : tie.Need-returns
+unfolding sameVertex
+returns c = search (needs, cases)
+
+returns-2 : tie.Need-returns-2
+unfolding sameVertex
+returns-2 c = search (needs, cases)
+
+returns-3 : tie.Need-returns-3
+unfolding sameVertex
+returns-3 c = search (needs, cases)
+
+pub same-vertex-spec : {M : Type 1} → statement M
+same-vertex-spec =
+    tie.close
+    (tie.spec
+    same-number-requires
+    same-number-requires-2
+    same-number-requires-3
+    returns
+    returns-2
+    returns-3)

@@ -1,0 +1,3 @@
+pub mod Unmoved
+pub mod UnmovedLaws
+pub mod UnmovedTheorems

@@ -1,0 +1,2 @@
+pub mod UnmovedEntry
+pub mod UnmovedExamples
