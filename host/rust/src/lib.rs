@@ -136,9 +136,10 @@
 //!
 //! # Slices kept between runs
 //!
-//! [`Store`] keeps up to 1,792 slices, each with the edition of the outline that it was cut from.
-//! It gives a handle for each, lists what is live in the order put, and what it lists goes straight
-//! into a stitch.
+//! [`Store`] keeps up to 896 slices for each of two parties, each with the edition of the outline
+//! that it was cut from. It gives a handle for each, lists what is live in the order put, and what
+//! it lists goes straight into a stitch. Parties and handles are types, so that a handle of one
+//! party cannot be taken for one of the other.
 //!
 //! # Masks that do not meet
 //!
@@ -195,6 +196,6 @@ pub use settings::{Named, Setting, Settings};
 pub use slices::{prune, Answered, Mode, Slice, Slices};
 pub use start::{slice_span, Place, Span};
 pub use stitch::{area_pass, stitch, Chain, ChainEnd, Selector, Stitched};
-pub use store::{Handle, Kept, Listed, Store};
+pub use store::{First, Handle, Kept, Listed, Party, Second, Store};
 pub use straight::{straight_report, StraightReport, WholeOutline};
 pub use view::{OnSegment, Verdict, Vertices, View, Walk};
