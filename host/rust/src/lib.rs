@@ -138,10 +138,9 @@
 //!
 //! [`Store`] keeps up to 896 slices for each of two parties, each with the edition of the outline
 //! that it was cut from. It gives a handle for each, lists what is live in the order put, and what
-//! it lists goes straight into a stitch. Parties and handles are types, so that a handle of one
-//! party cannot be taken for one of the other. The example
-//! `kept_slices` finds those that a late outline has left behind, reopens them or cuts them again,
-//! and stitches.
+//! it lists goes straight into a stitch. The example `kept_slices` finds those that a late outline has
+//! left behind, reopens them or cuts them again, and stitches. Parties and handles are types, so that a
+//! handle of one party cannot be taken for one of the other.
 //!
 //! # Masks that do not meet
 //!
