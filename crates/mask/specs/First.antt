@@ -38,7 +38,7 @@ use Rattle.named_entries.specs.NamedStitch.{namedStitchRows, namedStitchRefusal
 use Rattle.named_entries.specs.NamedArea.{namedAreaRows, namedAreaRefusal}
 use Rattle.settings.specs.declared.Setting.{Setting}
 use Rattle.settings.specs.Settings.{Held}
-use Rattle.settings_entries.specs.SettingsEntry.{enterRows, enterRefusal, askRows, askRefusal}
+use Rattle.settings_entries.specs.SettingsEntry as settings
 use Rattle.straight_entries.specs.WindingEntry.{windingRows, windingRefusal}
 use Rattle.straight_entries.specs.AreaEntry as straight
 use Rattle.straight_entries.specs.ReportEntry.{reportRows, reportRefusal}
@@ -112,13 +112,13 @@ pub area-first : (h : Held) (e : ℕ) (areas : List Float) (loops kept : ℕ) �
 unfolding namedAreaRefusal before refusalOrder
 area-first h e areas loops kept = first-of (namedAreaRows h e areas loops kept) tt
 
-pub enter-first : (h : Held) (s : Setting) → First (enterRows h s) (enterRefusal h s)
-unfolding enterRefusal before refusalOrder
-enter-first h s = first-of (enterRows h s) tt
+pub enter-first : (h : Held) (s : Setting) → First (settings.enterRows h s) (settings.enterRefusal h s)
+unfolding settings.enterRefusal before refusalOrder
+enter-first h s = first-of (settings.enterRows h s) tt
 
-pub ask-first : (h : Held) (e : ℕ) → First (askRows h e) (askRefusal h e)
-unfolding askRefusal before refusalOrder
-ask-first h e = first-of (askRows h e) tt
+pub ask-first : (h : Held) (e : ℕ) → First (settings.askRows h e) (settings.askRefusal h e)
+unfolding settings.askRefusal before refusalOrder
+ask-first h e = first-of (settings.askRows h e) tt
 
 pub winding-first : (o : List ℤ) (vc : ℕ) (x y : ℤ) → First (windingRows o vc x y) (windingRefusal o vc x y)
 unfolding windingRefusal before refusalOrder

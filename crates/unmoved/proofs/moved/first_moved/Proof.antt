@@ -3,7 +3,8 @@ use mathlib.Core.Bool.{true}
 use mathlib.Core.Path.{_≡_}
 use Rattle.basis.specs.Each.{eachTo}
 use Rattle.unmoved.specs.Unmoved.{sameAt}
-use Rattle.unmoved.specs.UnmovedLaws.{moving}
+use Rattle.unmoved.specs.UnmovedLaws.{moved-found, moving}
+use native.Mathlib.Omega.{arith}
 use borrow.Author.Needs.{needs}
 use Rattle.unmoved.proofs.moved.first_moved.Statement.{statement}
 use Rattle.unmoved.proofs.moved.first_moved.Tie as tie
@@ -21,7 +22,10 @@ same-at-requires : tie.Need-same-at-requires Inv-loop μ-loop
 same-at-requires c κs = search needs
 
 returns : tie.Need-returns Inv-loop μ-loop
-returns c = search (needs, moving)
+returns c =
+    let asked = c .before in
+    let turn = asked .before in
+    moved-found _ _ _ _ _ _ _ (turn .before .loop .inv .1) (asked .same-at .ensures) (c .if1 .taken) (omega arith)
 
 add-k : tie.Need-add-k Inv-loop μ-loop
 add-k c = search needs
