@@ -93,6 +93,7 @@ extern "C" {
 #define MASK_MOST_WHOLE_DOUBLED 800000000 /* the same of a point in doubled coordinates */
 #define MASK_MOST_OUTLINES 4096           /* in a report */
 #define MASK_STORE_PLACES 1792            /* slices in a store */
+#define MASK_STORE_SHARE 896              /* of them of one party */
 
 /*
  * Stack: how many bytes a call takes at most, whatever the input; with its return address,
@@ -122,10 +123,10 @@ extern "C" {
 #define MASK_STACK_STRAIGHT_WINDING 512
 #define MASK_STACK_STRAIGHT_AREA 512
 #define MASK_STACK_STRAIGHT_REPORT 512
-#define MASK_STACK_STORE_PUT 20480
-#define MASK_STACK_STORE_RELEASE 20480
-#define MASK_STACK_STORE_LIST 20480
-#define MASK_STACK_STORE_COMPACT 106496
+#define MASK_STACK_STORE_PUT 10240
+#define MASK_STACK_STORE_RELEASE 10240
+#define MASK_STACK_STORE_LIST 10240
+#define MASK_STACK_STORE_COMPACT 53248
 
 /*
  * Why a call is refused: the first that applies, in this order. For 1 to 9 that is the
@@ -149,8 +150,9 @@ enum mask_refusal {
     MASK_REFUSED_STARTS = 8,    /* the starts of the classes fall back, or lie past the slices */
     MASK_REFUSED_EDITION = 14,  /* a slice or a view is of another edition than its outline */
     MASK_REFUSED_ROOM = 9,      /* a list lent to be written is shorter than the need */
-    MASK_REFUSED_FULL = 20,     /* as many slices are live as the store has places */
-    MASK_REFUSED_HANDLE = 21    /* no live slice has the handle */
+    MASK_REFUSED_PARTY = 22,    /* a party of the store is neither 0 nor 1 */
+    MASK_REFUSED_FULL = 20,     /* the party has as many live slices as places */
+    MASK_REFUSED_HANDLE = 21    /* no live slice of the party has the handle */
 };
 
 /* What `mask_validate_for_source` and `mask_reopen` found. 0 stands only beside a refusal. */
@@ -586,15 +588,21 @@ mask_setting_answer mask_settings_ask(const size_t *entered, size_t entered_len,
  *   slice_at       4 to a place, as for a stitch
  *   slice          6 to a place, as for a stitch
  *   slice_edition  1 to a place: the edition of the outline that the slice was cut from
+ * Two parties share it, 0 and 1. Each has MASK_STORE_SHARE places, the first half of every
+ * list or the second, and handles of its own. What one party does, nobody sees who calls
+ * for the other: its lists, handles and refusals are the same in any two histories that
+ * agree on its own calls. A call writes nothing in the other party's half.
+ *
  * All zeros is the empty store, and whatever else the lists hold is some store: no content
  * is refused. A list of another length is refused (1). The library holds nothing between
  * calls, so a host has as many stores as it makes lists, and may copy them or write them to
  * a file. Two calls on one store must not run at the same time.
  *
- * Whatever is called in whatever order, the store answers as a plain list would. Before a
- * host reads `slice_at` or `slice` itself it asks for the list: which place is whose is
+ * Whatever is called in whatever order, a party's half answers as a plain list would. Before
+ * a host reads `slice_at` or `slice` itself it asks for the list: which place is whose is
  * written in `held` alone.
  */
+
 /* The handle of a slice that was put. */
 typedef struct mask_handle_answer {
     uint32_t refusal;
@@ -606,50 +614,53 @@ typedef struct mask_done_answer {
 } mask_done_answer;
 
 /*
- * Puts a slice: `put_at` has its 4 codes and `put` its 6 numbers. It gets the lowest handle,
- * from 0, that no live slice has, and keeps it until it is released. A start and an offset
- * are not looked at: the store knows no outline. No other slice is moved. Refusals 1, 3, 5,
- * 20; those of 3 and 5 look only at the slice that is put.
+ * Puts a slice of a party: `put_at` has its 4 codes and `put` its 6 numbers. It gets the
+ * lowest handle, from 0, that no live slice of the party has, and keeps it until it is
+ * released. A start and an offset are not looked at: the store knows no outline. No other
+ * slice is moved. Refusals 1, 3, 5, 22, 20; 3 and 5 look only at the slice that is put, and
+ * 20 is given exactly where MASK_STORE_SHARE slices of the party are live.
  */
 mask_handle_answer mask_store_put(size_t *held, size_t held_len, size_t *slice_at,
                                   size_t slice_at_len, double *slice, size_t slice_len,
                                   uint32_t *slice_edition, size_t slice_edition_len,
-                                  const size_t *put_at, size_t put_at_len, const double *put,
-                                  size_t put_len, uint32_t put_edition);
+                                  uint32_t party, const size_t *put_at, size_t put_at_len,
+                                  const double *put, size_t put_len, uint32_t put_edition);
 
 /*
- * Lets the slice with this handle go. Where there is none, nothing changes. Refusals 1, 21.
+ * Lets the party's slice with this handle go. Where there is none, nothing changes.
+ * Refusals 1, 22, 21.
  */
 mask_done_answer mask_store_release(size_t *held, size_t held_len, const size_t *slice_at,
                                     size_t slice_at_len, const double *slice, size_t slice_len,
                                     const uint32_t *slice_edition, size_t slice_edition_len,
-                                    size_t handle);
+                                    uint32_t party, size_t handle);
 
 /*
- * The live slices, in the order put. `count` is how many they are. Written for each:
+ * The party's live slices, in the order put. `count` is how many they are. Written for each:
  *   handles       1: its handle
  *   list_at       4, and
  *   list          6, as `mask_stitch` takes them
  *   list_edition  1: its edition
- * The need is that for MASK_STORE_PLACES slices, however many are live. The store itself is
- * not written. Refusals 1, 9.
+ * The need is that for MASK_STORE_SHARE slices, however many are live. The store itself is
+ * not written. Refusals 1, 9, 22.
  */
 mask_count_answer mask_store_list(const size_t *held, size_t held_len, const size_t *slice_at,
                                   size_t slice_at_len, const double *slice, size_t slice_len,
                                   const uint32_t *slice_edition, size_t slice_edition_len,
-                                  size_t *handles, size_t handles_len, size_t *list_at,
-                                  size_t list_at_len, double *list, size_t list_len,
-                                  uint32_t *list_edition, size_t list_edition_len);
+                                  uint32_t party, size_t *handles, size_t handles_len,
+                                  size_t *list_at, size_t list_at_len, double *list,
+                                  size_t list_len, uint32_t *list_edition,
+                                  size_t list_edition_len);
 
 /*
- * Moves the live slices to the first places, in the order put, and sets all behind them to
- * 0. Neither the list nor a handle changes. So stores that answer the same are then the
- * same, bit for bit, and only the first part of the lists need be written to a file.
- * Refusal 1.
+ * Moves the party's live slices to the first places of its half, in the order put, and sets
+ * all behind them in that half to 0. Neither the list nor a handle changes. So halves that
+ * answer the same are then the same, bit for bit. Refusals 1, 22.
  */
 mask_done_answer mask_store_compact(size_t *held, size_t held_len, size_t *slice_at,
                                     size_t slice_at_len, double *slice, size_t slice_len,
-                                    uint32_t *slice_edition, size_t slice_edition_len);
+                                    uint32_t *slice_edition, size_t slice_edition_len,
+                                    uint32_t party);
 
 /*
  * Masks without arcs, in whole microdegrees. An outline has two numbers to a vertex: x,

@@ -37,7 +37,7 @@ static void numbers(void)
     check(MASK_MOST_WHOLE == 400000000 && MASK_MOST_WHOLE_DOUBLED == 2 * MASK_MOST_WHOLE &&
               MASK_MOST_OUTLINES == 4096,
           "mask.h: the sizes of masks without arcs");
-    check(MASK_STORE_PLACES == 1792, "mask.h: the size of a store");
+    check(MASK_STORE_PLACES == 1792 && 2 * MASK_STORE_SHARE == MASK_STORE_PLACES, "mask.h: the size of a store");
 }
 
 /* ---- The largest inputs ---- */
@@ -236,28 +236,28 @@ static void store_put(void)
 {
     static const size_t put_at[] = {1, 0, 2, 3};
     static const double put[6];
-    refusal = mask_store_put(ALL(held), ALL(kept_at), ALL(kept_slice), ALL(kept_edition),
+    refusal = mask_store_put(ALL(held), ALL(kept_at), ALL(kept_slice), ALL(kept_edition), 1,
                              ALL(put_at), ALL(put), 1)
                   .refusal;
 }
 
 static void store_release(void)
 {
-    held[0] = 2; /* the mark of handle 1, at place 0 */
-    refusal = mask_store_release(ALL(held), ALL(kept_at), ALL(kept_slice), ALL(kept_edition), 1)
+    held[0] = 2; /* party 0's mark of handle 1, at place 0 */
+    refusal = mask_store_release(ALL(held), ALL(kept_at), ALL(kept_slice), ALL(kept_edition), 0, 1)
                   .refusal;
 }
 
 static void store_list(void)
 {
-    refusal = mask_store_list(ALL(held), ALL(kept_at), ALL(kept_slice), ALL(kept_edition),
+    refusal = mask_store_list(ALL(held), ALL(kept_at), ALL(kept_slice), ALL(kept_edition), 1,
                               ALL(handles), ALL(slice_at), ALL(slice), ALL(list_edition))
                   .refusal;
 }
 
 static void store_compact(void)
 {
-    refusal = mask_store_compact(ALL(held), ALL(kept_at), ALL(kept_slice), ALL(kept_edition))
+    refusal = mask_store_compact(ALL(held), ALL(kept_at), ALL(kept_slice), ALL(kept_edition), 1)
                   .refusal;
 }
 

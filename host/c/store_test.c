@@ -1,9 +1,10 @@
 /*
  * Calls the four entries of the store as a host does, and compares every answer with that
- * of a plain list. One line for each check; the status is 0 where none failed.
+ * of a plain list, one for each party. One line for each check; the status is 0 where none
+ * failed.
  *
- * The plain list below is written from request K9 and from nothing else: it is an array of
- * live slices in the order put, and knows nothing of places. Every list lent ends where a
+ * The plain list below is written from requests K9 and K10 and from nothing else: it is an
+ * array of live slices in the order put, and knows nothing of places. Every list lent ends where a
  * page begins that faults when it is touched, and a list that a call only reads is lent from
  * memory that faults when it is written.
  */
@@ -15,8 +16,9 @@ SIZE(mask_handle_answer, 16);
 AT(mask_done_answer, refusal, 0);
 SIZE(mask_done_answer, 4);
 _Static_assert(MASK_STORE_PLACES == 1792, "the store has another number of places");
+_Static_assert(MASK_STORE_SHARE == 896, "a party has another number of places");
 
-enum { PLACES = MASK_STORE_PLACES, EXTRA = 8 };
+enum { PLACES = MASK_STORE_PLACES, SHARE = MASK_STORE_SHARE, EXTRA = 8 };
 
 /* ---- A slice, and the plain list ---- */
 
@@ -28,8 +30,8 @@ typedef struct slice {
 
 typedef struct plain {
     size_t count;
-    size_t handles[PLACES];
-    slice slices[PLACES];
+    size_t handles[SHARE];
+    slice slices[SHARE];
 } plain;
 
 static size_t plain_find(const plain *p, size_t handle)
@@ -55,7 +57,7 @@ static uint32_t plain_put(plain *p, const slice *x, size_t *handle)
     *handle = 0;
     if (number)
         return number;
-    if (p->count == PLACES)
+    if (p->count == SHARE)
         return 20;
     while (plain_find(p, *handle) < p->count)
         ++*handle;
@@ -101,6 +103,11 @@ static void protect(const lending *m, int how)
         exit(1);
 }
 
+/* Whose calls are made, and what each party has. */
+static uint32_t who;
+static plain lives[2];
+#define live lives[who]
+
 static lending held, at, numbers, edition;
 static lending handles, list_at, list, list_edition;
 
@@ -119,32 +126,30 @@ static void allow_all(int how)
 static mask_handle_answer call_put(const slice *x)
 {
     return mask_store_put(start(&held), PLACES, start(&at), 4 * PLACES, start(&numbers), 6 * PLACES,
-                          start(&edition), PLACES, x->at, 4, x->numbers, 6, x->edition);
+                          start(&edition), PLACES, who, x->at, 4, x->numbers, 6, x->edition);
 }
 
 static mask_done_answer call_release(size_t handle)
 {
     return mask_store_release(start(&held), PLACES, start(&at), 4 * PLACES, start(&numbers),
-                              6 * PLACES, start(&edition), PLACES, handle);
+                              6 * PLACES, start(&edition), PLACES, who, handle);
 }
 
 static mask_count_answer call_list(void)
 {
     return mask_store_list(start(&held), PLACES, start(&at), 4 * PLACES, start(&numbers), 6 * PLACES,
-                           start(&edition), PLACES, start(&handles), PLACES + EXTRA, start(&list_at),
-                           4 * (PLACES + EXTRA), start(&list), 6 * (PLACES + EXTRA),
-                           start(&list_edition), PLACES + EXTRA);
+                           start(&edition), PLACES, who, start(&handles), SHARE + EXTRA,
+                           start(&list_at), 4 * (SHARE + EXTRA), start(&list), 6 * (SHARE + EXTRA),
+                           start(&list_edition), SHARE + EXTRA);
 }
 
 static mask_done_answer call_compact(void)
 {
     return mask_store_compact(start(&held), PLACES, start(&at), 4 * PLACES, start(&numbers),
-                              6 * PLACES, start(&edition), PLACES);
+                              6 * PLACES, start(&edition), PLACES, who);
 }
 
 /* ---- One call beside the plain list ---- */
-
-static plain live;
 
 static int put_right(const slice *x, size_t *handle)
 {
@@ -188,8 +193,8 @@ static int list_right(void)
               memcmp(n + 6 * i, live.slices[i].numbers, unit[2]) == 0 && e[i] == live.slices[i].edition;
     for (int i = 0; i < 4; i++) {
         const char *first = start(room_lists[i]);
-        ok &= all_zero(first + live.count * unit[i], (PLACES - live.count) * unit[i]);
-        for (size_t k = PLACES * unit[i]; k < (PLACES + EXTRA) * unit[i]; k++)
+        ok &= all_zero(first + live.count * unit[i], (SHARE - live.count) * unit[i]);
+        for (size_t k = SHARE * unit[i]; k < (SHARE + EXTRA) * unit[i]; k++)
             ok &= (unsigned char)first[k] == 0xa5;
     }
     return ok;
@@ -253,7 +258,7 @@ static void empty(void)
 {
     for (int i = 0; i < 4; i++)
         memset(start(store_lists[i]), 0, store_lists[i]->bytes);
-    live.count = 0;
+    lives[0].count = lives[1].count = 0;
 }
 
 /* ---- The checks ---- */
@@ -263,26 +268,26 @@ static void first_steps(void)
     size_t h;
     slice x;
     int ok = 1;
-    empty();
-    check(list_right(), "zeros are the empty store");
+    check(list_right(), "party %u: zeros are the empty store", who);
     for (size_t i = 0; i < 5; i++) {
         x = drawn_slice();
         ok &= put_right(&x, &h) && h == i;
     }
-    check(ok && list_right(), "five slices get the handles 0 to 4");
-    check(release_right(1) && release_right(3) && list_right(), "1 and 3 are released");
+    check(ok && list_right(), "party %u: five slices get the handles 0 to 4", who);
+    check(release_right(1) && release_right(3) && list_right(), "party %u: 1 and 3 are released", who);
     remember();
-    check(release_right(3) && release_right(5) && release_right(PLACES) && release_right(HALF) && unchanged(),
-          "a dead handle is 21, and nothing changes");
+    check(release_right(3) && release_right(5) && release_right(SHARE) && release_right(HALF) && unchanged(),
+          "party %u: a dead handle is 21, and nothing changes", who);
     x = drawn_slice();
-    check(put_right(&x, &h) && h == 1 && list_right(), "the lowest handle is given again, last in the list");
-    check(compact_right() && list_right(), "compaction changes neither list nor handles");
-    check(memcmp(start(&at), live.slices[0].at, sizeof live.slices[0].at) == 0 &&
-              memcmp((double *)start(&numbers) + 18, live.slices[3].numbers, sizeof live.slices[3].numbers) == 0 &&
-              all_zero((double *)start(&numbers) + 24, (6 * PLACES - 24) * sizeof(double)),
-          "the live slices stand at the first places, in the order put, and zeros behind them");
+    check(put_right(&x, &h) && h == 1 && list_right(), "party %u: the lowest handle is given again, last in the list", who);
+    check(compact_right() && list_right(), "party %u: compaction changes neither list nor handles", who);
+    check(memcmp((size_t *)start(&at) + 4 * SHARE * who, live.slices[0].at, sizeof live.slices[0].at) == 0 &&
+              memcmp((double *)start(&numbers) + 6 * SHARE * who + 18, live.slices[3].numbers,
+                     sizeof live.slices[3].numbers) == 0 &&
+              all_zero((double *)start(&numbers) + 6 * SHARE * who + 24, (6 * SHARE - 24) * sizeof(double)),
+          "party %u: the live slices stand at its first places, in the order put, and zeros behind them", who);
     x = drawn_slice();
-    check(put_right(&x, &h) && h == 3 && list_right(), "and a put goes on as before");
+    check(put_right(&x, &h) && h == 3 && list_right(), "party %u: and a put goes on as before", who);
 }
 
 static void fill_up(void)
@@ -290,30 +295,30 @@ static void fill_up(void)
     slice x;
     size_t h, n = 0;
     int ok = 1;
-    while (live.count < PLACES && ok) {
+    while (live.count < SHARE && ok) {
         x = drawn_slice();
         ok &= put_right(&x, &h);
         n++;
     }
-    check(ok && list_right(), "put until 1792 are live");
+    check(ok && list_right(), "party %u: put until 896 are live", who);
     x = drawn_slice();
     remember();
-    check(put_right(&x, &h) && unchanged(), "then 20, and nothing changes");
+    check(put_right(&x, &h) && unchanged(), "party %u: then 20, and nothing changes", who);
     x.at[0] = 0;
-    check(put_right(&x, &h) && unchanged(), "3 comes before 20");
+    check(put_right(&x, &h) && unchanged(), "party %u: 3 comes before 20", who);
     x.at[0] = 1;
     x.numbers[5] = NAN;
-    check(put_right(&x, &h) && unchanged(), "5 comes before 20");
-    ok = release_right(700) && release_right(0) && release_right(PLACES - 1);
+    check(put_right(&x, &h) && unchanged(), "party %u: 5 comes before 20", who);
+    ok = release_right(700) && release_right(0) && release_right(SHARE - 1);
     for (int i = 0; i < 3; i++) {
         x = drawn_slice();
         ok &= put_right(&x, &h);
     }
-    check(ok && live.count == PLACES && list_right(), "freed places are used again, without compaction");
-    check(compact_right() && list_right(), "a full store is compacted");
-    for (size_t i = 0; i < PLACES; i += 2)
+    check(ok && live.count == SHARE && list_right(), "party %u: freed places are used again, without compaction", who);
+    check(compact_right() && list_right(), "party %u: a full half is compacted", who);
+    for (size_t i = 0; i < SHARE; i += 2)
         ok &= release_right(i);
-    check(ok && list_right(), "every second slice is released");
+    check(ok && list_right(), "party %u: every second slice is released", who);
 }
 
 static void lengths(void)
@@ -327,52 +332,73 @@ static void lengths(void)
             size_t n[] = {PLACES, 4 * PLACES, 6 * PLACES, PLACES};
             n[i] += (size_t)off[k]; /* one too long is refused by its length: nothing is read */
             put &= mask_store_put(start(&held), n[0], start(&at), n[1], start(&numbers), n[2],
-                                  start(&edition), n[3], x.at, 4, x.numbers, 6, 0)
+                                  start(&edition), n[3], 2, x.at, 4, x.numbers, 6, 0)
                        .refusal == 1;
             release &= mask_store_release(start(&held), n[0], start(&at), n[1], start(&numbers), n[2],
-                                          start(&edition), n[3], live.handles[0])
+                                          start(&edition), n[3], 2, live.handles[0])
                            .refusal == 1;
             compact &= mask_store_compact(start(&held), n[0], start(&at), n[1], start(&numbers), n[2],
-                                          start(&edition), n[3])
+                                          start(&edition), n[3], 2)
                            .refusal == 1;
             lists &= mask_store_list(start(&held), n[0], start(&at), n[1], start(&numbers), n[2],
-                                     start(&edition), n[3], start(&handles), PLACES, start(&list_at),
-                                     4 * PLACES, start(&list), 6 * PLACES, start(&list_edition), PLACES)
+                                     start(&edition), n[3], 2, start(&handles), 0, start(&list_at), 0,
+                                     start(&list), 0, start(&list_edition), 0)
                          .refusal == 1;
         }
-    check(put && release && compact && lists && unchanged(), "lists of another length are 1, and nothing changes");
+    check(put && release && compact && lists && unchanged(), "lists of another length are 1, before all others, and nothing changes");
     x.at[0] = 0;
     slices &= mask_store_put(start(&held), PLACES, start(&at), 4 * PLACES, start(&numbers), 6 * PLACES,
-                             start(&edition), PLACES, x.at, 3, x.numbers, 6, 0)
+                             start(&edition), PLACES, 2, x.at, 3, x.numbers, 6, 0)
                   .refusal == 1;
     slices &= mask_store_put(start(&held), PLACES, start(&at), 4 * PLACES, start(&numbers), 6 * PLACES,
-                             start(&edition), PLACES, x.at, 4, x.numbers, 5, 0)
+                             start(&edition), PLACES, 2, x.at, 4, x.numbers, 5, 0)
                   .refusal == 1;
     slices &= mask_store_put(start(&held), PLACES, start(&at), 4 * PLACES, start(&numbers), 6 * PLACES,
-                             start(&edition), PLACES, NULL, 0, NULL, 0, 0)
+                             start(&edition), PLACES, 2, NULL, 0, NULL, 0, 0)
                   .refusal == 1;
-    check(slices && unchanged(), "a slice of other lengths is 1, before 3");
+    check(slices && unchanged(), "a slice of other lengths is 1, before 3 and 22");
     for (int i = 0; i < 4; i++) {
-        size_t n[] = {PLACES, 4 * PLACES, 6 * PLACES, PLACES};
+        size_t n[] = {SHARE, 4 * SHARE, 6 * SHARE, SHARE};
         n[i]--;
         for (int k = 0; k < 4; k++)
             memset(start(room_lists[k]), 0xa5, room_lists[k]->bytes);
         mask_count_answer c = mask_store_list(start(&held), PLACES, start(&at), 4 * PLACES, start(&numbers),
-                                              6 * PLACES, start(&edition), PLACES, start(&handles), n[0],
+                                              6 * PLACES, start(&edition), PLACES, 2, start(&handles), n[0],
                                               start(&list_at), n[1], start(&list), n[2], start(&list_edition), n[3]);
         room &= c.refusal == 9 && c.count == 0;
         for (int k = 0; k < 4; k++)
             for (size_t j = 0; j < room_lists[k]->bytes; j++)
                 room &= ((unsigned char *)start(room_lists[k]))[j] == 0xa5;
     }
-    check(room && unchanged(), "room for fewer than 1792 slices is 9, and nothing is written");
+    check(room && unchanged(), "room for fewer than 896 slices is 9, before 22, and nothing is written");
 }
 
-/* Whatever the lists hold at first, they answer as a plain list does: as the one that they list. */
+/* What the party lists, whatever the lists hold, taken for its plain list: handles that differ. */
+static int taken_as_listed(void)
+{
+    static unsigned char used[SHARE];
+    mask_count_answer c = call_list();
+    memset(used, 0, sizeof used);
+    if (c.refusal != 0 || c.count > SHARE)
+        return 0;
+    live.count = c.count;
+    for (size_t i = 0; i < c.count; i++) {
+        size_t h = ((size_t *)start(&handles))[i];
+        if (h >= SHARE || used[h]++)
+            return 0;
+        live.handles[i] = h;
+        memcpy(live.slices[i].at, (size_t *)start(&list_at) + 4 * i, sizeof live.slices[i].at);
+        memcpy(live.slices[i].numbers, (double *)start(&list) + 6 * i, sizeof live.slices[i].numbers);
+        live.slices[i].edition = ((uint32_t *)start(&list_edition))[i];
+    }
+    return 1;
+}
+
+/* Whatever the lists hold at first, each half answers as a plain list does: as the one that it lists. */
 static int anything(void)
 {
     for (size_t i = 0; i < PLACES; i++) {
-        size_t m = below(PLACES) * 2048 + below(PLACES) + 1;
+        size_t m = below(SHARE) * 2048 + below(SHARE) + 1;
         ((size_t *)start(&held))[i] = rarely(3) ? draw() : rarely(3) ? 0 : m;
         ((uint32_t *)start(&edition))[i] = (uint32_t)draw();
     }
@@ -380,39 +406,98 @@ static int anything(void)
         ((size_t *)start(&at))[i] = draw();
     for (size_t i = 0; i < 6 * PLACES; i++)
         ((uint64_t *)start(&numbers))[i] = draw();
-    mask_count_answer c = call_list();
-    static unsigned char used[PLACES];
-    memset(used, 0, sizeof used);
-    live.count = c.count;
-    for (size_t i = 0; i < c.count; i++) {
-        size_t h = ((size_t *)start(&handles))[i];
-        if (h >= PLACES || used[h]++)
+    int ok = 1;
+    for (who = 0; who < 2; who++)
+        ok &= taken_as_listed();
+    who = 0;
+    return ok;
+}
+
+/* The half of the party that was not called is as it was. */
+static int other_unchanged(void)
+{
+    for (int i = 0; i < 4; i++) {
+        size_t half = store_lists[i]->bytes / 2, from = who ? 0 : half;
+        if (memcmp(before[i] + from, (char *)start(store_lists[i]) + from, half) != 0)
             return 0;
-        live.handles[i] = h;
-        memcpy(live.slices[i].at, (size_t *)start(&list_at) + 4 * i, sizeof live.slices[i].at);
-        memcpy(live.slices[i].numbers, (double *)start(&list) + 6 * i, sizeof live.slices[i].numbers);
-        live.slices[i].edition = ((uint32_t *)start(&list_edition))[i];
     }
-    return c.refusal == 0;
+    return 1;
 }
 
 /* So many drawn calls; the list after some of them. */
-static int history(unsigned calls, unsigned full)
+static int history(unsigned calls, unsigned full, unsigned ours)
 {
     int ok = 1;
     for (unsigned i = 0; i < calls && ok; i++) {
         size_t h;
+        int watched = rarely(40);
         slice x = rarely(12) ? bad_slice() : drawn_slice();
+        who = below(100) < ours ? 0 : 1;
+        if (watched)
+            remember();
         if (below(100) < full)
             ok &= put_right(&x, &h);
         else
-            ok &= release_right(live.count && !rarely(10) ? live.handles[below(live.count)] : below(PLACES + 4));
+            ok &= release_right(live.count && !rarely(10) ? live.handles[below(live.count)] : below(SHARE + 4));
         if (rarely(60))
             ok &= compact_right();
-        if (rarely(25))
+        if (watched)
+            ok &= other_unchanged();
+        if (rarely(25)) {
+            who = (uint32_t)below(2);
             ok &= list_right();
+        }
     }
-    return ok && list_right();
+    for (who = 0; who < 2; who++)
+        ok &= list_right();
+    who = 0;
+    return ok;
+}
+
+/* Numbers 22, 20 and 21: an unknown party is 22 before the store is asked, and after what the call itself is refused by. */
+static void unknown(void)
+{
+    const uint32_t parties[] = {2, 3, 0x80000000, 0xffffffff};
+    slice x = drawn_slice(), bad = bad_slice();
+    int ok = 1;
+    remember();
+    for (int i = 0; i < 4; i++) {
+        who = parties[i];
+        ok &= call_put(&x).refusal == 22 && call_put(&x).handle == 0;
+        ok &= call_put(&bad).refusal == slice_refusal(&bad);
+        ok &= call_release(0).refusal == 22 && call_release(HALF).refusal == 22;
+        ok &= call_list().refusal == 22 && call_list().count == 0;
+        ok &= call_compact().refusal == 22;
+    }
+    who = 0;
+    check(ok && unchanged(), "an unknown party is 22, after 3 and 5 and before 20 and 21, and nothing changes");
+}
+
+/* One party full, the other not: each is answered by its own slices. */
+static void apart(void)
+{
+    slice x = drawn_slice();
+    size_t h;
+    int ok = 1;
+    who = 1;
+    check(live.count < SHARE && put_right(&x, &h), "party 1 has room while party 0 is full");
+    ok &= release_right(h);
+    who = 0;
+    while (live.count < SHARE)
+        ok &= put_right(&x, &h);
+    who = 1;
+    while (live.count)
+        ok &= release_right(live.handles[0]);
+    remember();
+    ok &= release_right(5) && unchanged();
+    who = 0;
+    check(ok && put_right(&x, &h) && list_right() && live.count == SHARE, "party 0 stays full while party 1 is emptied, and no handle of one is the other's");
+    who = 1;
+    check(list_right() && put_right(&x, &h) && h == 0, "party 1 begins at handle 0 again");
+    remember();
+    ok = compact_right() && other_unchanged();
+    who = 0;
+    check(ok && list_right(), "compaction by party 1 writes nothing in the half of party 0");
 }
 
 int main(void)
@@ -422,23 +507,35 @@ int main(void)
     make(&at, 4 * PLACES * sizeof(size_t));
     make(&numbers, 6 * PLACES * sizeof(double));
     make(&edition, PLACES * sizeof(uint32_t));
-    make(&handles, (PLACES + EXTRA) * sizeof(size_t));
-    make(&list_at, 4 * (PLACES + EXTRA) * sizeof(size_t));
-    make(&list, 6 * (PLACES + EXTRA) * sizeof(double));
-    make(&list_edition, (PLACES + EXTRA) * sizeof(uint32_t));
+    make(&handles, (SHARE + EXTRA) * sizeof(size_t));
+    make(&list_at, 4 * (SHARE + EXTRA) * sizeof(size_t));
+    make(&list, 6 * (SHARE + EXTRA) * sizeof(double));
+    make(&list_edition, (SHARE + EXTRA) * sizeof(uint32_t));
     for (int i = 0; i < 4; i++)
         before[i] = malloc(store_lists[i]->bytes);
     seed = 20260209;
-    first_steps();
-    fill_up();
+    empty();
+    for (who = 0; who < 2; who++) {
+        first_steps();
+        fill_up();
+    }
+    who = 0;
     lengths();
+    unknown();
+    for (slice x = drawn_slice(); live.count < SHARE;) {
+        size_t h;
+        if (!put_right(&x, &h))
+            break;
+    }
+    unknown();
+    apart();
     empty();
-    check(history(6000, 55), "6000 drawn calls from the empty store answer as a plain list");
+    check(history(8000, 55, 50), "8000 drawn calls of two parties from the empty store answer as two plain lists");
     empty();
-    check(history(12000, 90) && live.count > PLACES / 2, "12000 drawn calls towards a full store do");
+    check(history(12000, 90, 70) && lives[0].count > SHARE / 2, "12000 drawn calls towards a full store do");
     int ok = 1;
     for (int i = 0; i < 20 && ok; i++)
-        ok &= anything() && list_right() && history(300, 50);
+        ok &= anything() && history(300, 50, 50);
     check(ok, "from any content of the lists, 20 histories do");
     return finish("store_test");
 }

@@ -43,7 +43,7 @@ use Rattle.straight_entries.specs.WindingEntry.{windingRows, windingRefusal}
 use Rattle.straight_entries.specs.AreaEntry as straight
 use Rattle.straight_entries.specs.ReportEntry.{reportRows, reportRefusal}
 use Rattle.store.specs.Lists as store
-use Rattle.store_entries.specs.StoreEntry.{Asked, toPut, toRelease, toList, toCompact, ownRows, callRows, storeTurn, lastRows, wholeRows, refusalIn}
+use Rattle.store_entries.specs.StoreEntry.{Asked, toPut, toRelease, toList, toCompact, called, ownRows, callRows, storeTurn, lastRows, wholeRows, refusalIn}
 use Rattle.store_entries.specs.StoreTheorems.{whole-table}
 
 pub vertex-first : (o : List Float) (vc : ℕ) (v : View) → First (viewVertexRows o vc v) (viewVertexRefusal o vc v)
@@ -132,12 +132,12 @@ pub report-first : (points : List ℤ) (ends : List ℕ) (loops : ℕ) → First
 unfolding reportRefusal before refusalOrder
 report-first points ends loops = first-of (reportRows points ends loops) tt
 
-store-ordered : (w : store.Lists) (a : Asked) → T (inOrder (wholeRows w a))
+store-ordered : (w : store.Lists) (p : ℕ) (a : Asked) → T (inOrder (wholeRows w (called p a)))
 unfolding wholeRows callRows ownRows lastRows before refusalOrder
-store-ordered w (toPut x) = tt
-store-ordered w (toRelease h) = tt
-store-ordered w (toList h a s e) = tt
-store-ordered w toCompact = tt
+store-ordered w p (toPut x) = tt
+store-ordered w p (toRelease h) = tt
+store-ordered w p (toList h a s e) = tt
+store-ordered w p toCompact = tt
 
-pub store-first : (w : store.Lists) (a : Asked) → First (wholeRows w a) (refusalIn (storeTurn w a .answer))
-store-first w a = rw (whole-table w a) (first-of (wholeRows w a) (store-ordered w a))
+pub store-first : (w : store.Lists) (p : ℕ) (a : Asked) → First (wholeRows w (called p a)) (refusalIn (storeTurn w (called p a) .answer))
+store-first w p a = rw (whole-table w (called p a)) (first-of (wholeRows w (called p a)) (store-ordered w p a))

@@ -58,7 +58,8 @@ use Rattle.store.specs.Slice.{Slice}
 use Rattle.store.specs.Plain.{Answer}
 use Rattle.store.specs.Lists as store
 use Rattle.store_write.specs.Calls as kept
-use Rattle.store_entries.specs.StoreEntry.{Asked, StoreLeft, ListLeft}
+use Rattle.store_entries.specs.StoreEntry as stored
+use Rattle.store_entries.specs.StoreEntry.{StoreLeft, ListLeft}
 
 pub vertex-one : (o : List Float) (vc : ℕ) (v : View) (k : ℕ) (r s : VertexAnswer) → r ≡ viewVertexAnswer o vc v k → s ≡ viewVertexAnswer o vc v k → r ≡ s
 vertex-one o vc v k r s e f = one-answer r s (viewVertexAnswer o vc v k) e f
@@ -153,8 +154,8 @@ pub report-one : (points : List ℤ) (ends : List ℕ) (loops : ℕ) (r s : Repo
 report-one points ends loops r s e f = one-answer r s (reportAnswer points ends loops) e f
 
 -- the four entries of the store: put, release and compaction leave the lists, the list leaves its room
-pub store-one : {R : Type 0} (f : Answer Slice → R) (w : store.Lists) (a : Asked) (r s : R) (v u : store.Lists) → StoreLeft f w a r v → StoreLeft f w a s u → (r ≡ s) × (v ≡ u)
-store-one f w a r s v u x y = (one-answer r s _ (x .answers) (y .answers), one-answer v u _ (x .lists) (y .lists))
+pub store-one : {R : Type 0} (f : Answer Slice → R) (w : store.Lists) (c : stored.Called) (r s : R) (v u : store.Lists) → StoreLeft f w c r v → StoreLeft f w c s u → (r ≡ s) × (v ≡ u)
+store-one f w c r s v u x y = (one-answer r s _ (x .answers) (y .answers), one-answer v u _ (x .lists) (y .lists))
 
-pub list-one : (w : store.Lists) (o : kept.Rooms) (r s : CountAnswer) (v u : kept.Rooms) → ListLeft w o r v → ListLeft w o s u → (r ≡ s) × (v ≡ u)
-list-one w o r s v u x y = (one-answer r s _ (x .answers) (y .answers), one-answer v u _ (x .room) (y .room))
+pub list-one : (w : store.Lists) (p : ℕ) (o : kept.Rooms) (r s : CountAnswer) (v u : kept.Rooms) → ListLeft w p o r v → ListLeft w p o s u → (r ≡ s) × (v ≡ u)
+list-one w p o r s v u x y = (one-answer r s _ (x .answers) (y .answers), one-answer v u _ (x .room) (y .room))

@@ -1,11 +1,12 @@
 -- Request K6: "With both equal, all answers are those of before."
--- Document 01's agreement, box and range of one tolerance, and that those of two are these where both are `alike`. Only four definitions ask for agreement or box,
+-- Document 01's agreement, box and range of one tolerance, and that those of two are these where both are `alike`. Only six definitions ask for agreement or box,
 -- and each is shown here with document 01's own in it. Every definition above them takes a tolerance as a whole and hands it on, and so does every entry:
 -- an entry with the tolerance given twice is the entry of before.
 use Prim.Native.Nat.{ℕ}
-use mathlib.Core.Bool.{Bool, true, false, _&&_, cond}
+use mathlib.Core.Bool.{Bool, true, false, not, _&&_, cond}
 use mathlib.Core.Path.{_≡_, refl}
 use mathlib.Core.List.{List, _∷_}
+use lib.Dec.{eqb}
 use lib.Ieee.{Float}
 use Rattle.basis.specs.Number.{agree, inSpan, alike, tolerableOn, tolerable}
 use Rattle.outline.specs.declared.point.Point.{Point}
@@ -13,7 +14,11 @@ use Rattle.outline.specs.declared.point.Vertex.{Vertex}
 use Rattle.outline.specs.Outline.{outlineAt}
 use Rattle.outline.specs.Points.{posOf, withBulge, pointsAgree, inBox}
 use Rattle.view.specs.declared.create.OneSegment.the-variants as one
+use Rattle.view.specs.declared.create.Walk.{Walk}
 use Rattle.view.specs.Create.{viewOf, nearVertex, singleView}
+use Rattle.view_start.specs.declared.span.Ends.{Ends}
+use Rattle.view_start.specs.Span.{decided}
+use Rattle.view_start.specs.SlicePoints.{collapses}
 use Rattle.stitch_vertices.specs.Vertices.{addVertex}
 use Rattle.stitch_run.specs.declared.plan.Plan.{Plan}
 use Rattle.stitch_run.specs.Stitch.{given, planOf, offersTo, startPoint}
@@ -47,7 +52,7 @@ range-alike t = both (tolerableOn t)
     both true = refl
     both false = refl
 
--- ---- and so are the four definitions that ask for them
+-- ---- and so are the six definitions that ask for them
 
 -- whether a point stands on a vertex of an outline: cuts, walks, views
 pub near-alike : (o : List Float) (vc i : ℕ) (p : Point) (t : Float) → nearVertex o vc i p (alike t) ≡ agreeBy t p (posOf (outlineAt o vc i))
@@ -59,6 +64,17 @@ pub single-alike : (s : ℕ) (a : Vertex) (e : Point) (t : Float)
     → singleView s a e (alike t) ≡ cond (agreeBy t (posOf a) e) one.Collapsed (one.View (viewOf s 0 a (a .bulge) e))
 unfolding singleView
 single-alike s a e t = rw (agree-alike t (posOf a) e)
+
+-- whether the distances decide between two points on one segment, and whether a walk of one segment has no view
+pub decided-alike : (e : Ends) (n : ℕ) (t : Float) → decided e n (alike t) ≡ eqb n 0 && (e .closed && not (agreeBy t (e .«start_point») (e .«end_point»)))
+unfolding decided
+decided-alike e n t = rw (agree-alike t (e .«start_point») (e .«end_point»))
+
+pub collapses-alike : (o : List Float) (vc : ℕ) (w : Walk) (t : Float)
+    → collapses o vc w (alike t)
+    ≡ eqb (w .«traverse_count») 1 && (agreeBy t (w .«end_intersect») (posOf (outlineAt o vc (w .«intersect_index»))) && agreeBy t (posOf (w .«updated_start»)) (w .«end_intersect»))
+unfolding collapses
+collapses-alike o vc w t = rw (near-alike o vc (w .«intersect_index») (w .«end_intersect») t, agree-alike t (posOf (w .«updated_start»)) (w .«end_intersect»))
 
 -- whether a vertex is added to a chain, or replaces the last one's bulge
 pub add-alike : (t : Float) (last v : Vertex) (vs : List Vertex)

@@ -7,9 +7,9 @@ use lib.ListN.{length, getD, replicate}
 use lib.Dec.{leb, ltb}
 use Rattle.store.specs.Keys.{keyed}
 
--- the most places that a store has here
+-- the most places that lists have here: a party's half
 abbrev pub mostPlaces : ℕ
-mostPlaces = 1792
+mostPlaces = 896
 
 -- the mark of the slice with handle h at place t
 unfoldable pub markOf : ℕ → ℕ → ℕ

@@ -8,8 +8,8 @@ ghost use Rattle.store.specs.Ready.{Few, Low, PlaceIs, told, LookFits, L
 use crate::copies;
 use basis::room;
 
-// The most places that a store has here.
-pub const MOST_PLACES: usize = 1792;
+// The most places that lists have here: a party's half.
+pub const MOST_PLACES: usize = 896;
 
 // The handle that a mark names; of a number that names none, 0.
 pub fn handle_of(m: usize) -> usize

@@ -2,5 +2,6 @@ pub mod Answers
 pub mod StoreRows
 pub mod StoreEntry
 pub mod StoreTheorems
+pub mod PartyTheorems
 pub mod StoreEntryLaws
 pub mod Examples

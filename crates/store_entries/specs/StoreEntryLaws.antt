@@ -1,32 +1,36 @@
 -- What the store's entries are proved by: acceptance, and the ways out.
-use Prim.Native.Nat.{ℕ, _*_, _≤_}
-use mathlib.Core.Bool.{Bool, true, false, cond}
+use Prim.Native.Nat.{ℕ, _≤_, _<_}
+use mathlib.Core.Bool.{Bool, true, false}
 use mathlib.Core.Path.{_≡_, refl, sym, ap, _∙_}
-use mathlib.Core.List.{List, _++_}
+use mathlib.Core.List.{List, [], _++_}
 use native.Mathlib.Omega.{arith}
 use lib.ListN.{length}
-use lib.Dec.{eqb}
+use lib.Dec.{T, eqb}
 use lib.Ieee.{Float}
 use borrow.Author.Tests.{ltb-false}
 use Rattle.basis.specs.declared.answer.CountAnswer.{CountAnswer}
 use Rattle.basis.specs.Answers.{countRefused, counted}
 use Rattle.basis.specs.Choice.{by-test}
 use Rattle.basis.specs.Refuse.{Row, row, firstOf, firstFrom, answer}
-use Rattle.basis.specs.RefuseLaws.{Clear, clear, clear-left, clear-right, none-clear, first-from, then-rows, answer-no, answer-yes}
+use Rattle.basis.specs.RefuseLaws.{numbered, Clear, clear, clear-left, clear-right, none-clear, first-from, then-rows, answer-no, answer-yes}
 use Rattle.store_write.specs.declared.keep.Handle.{Handle}
 use Rattle.store_write.specs.declared.keep.Handle.the-variants.{Given, Full}
-use Rattle.store.specs.Keys.{keyed, without}
+use Rattle.store.specs.Keys.{keyed}
 use Rattle.store.specs.Machine.{Turn, turn}
 use Rattle.store.specs.Slice.{Slice, sliceOf}
 use Rattle.store.specs.Plain.{put, release, list, compact, Answer, refused, given, done, listed}
-use Rattle.store.specs.Marks.{handleOf, filled}
-use Rattle.store.specs.Lists.{Lists, lists, Sized, livesIn, plainOf, releasedIn, listStep}
-use Rattle.store_write.specs.Calls.{Fit, PutFits, Turned, handleAs, ReleaseFits, Released, Rooms, rooms, shown, ListFits, Listed}
+use Rattle.store.specs.Blocks.{block}
+use Rattle.store.specs.Marks.{handleOf, livesOf}
+use Rattle.store.specs.Lists.{Lists, lists, livesIn, plainOf, listStep}
+use Rattle.store_write.specs.Calls.{Turned, handleAs, Rooms, rooms}
+use Rattle.store_party.specs.Parties.{partOf, partyStep}
+use Rattle.store_party.specs.Ready.{share, PartFits, PartPutFits, PartMarksFit, PartReleased, PartListFits, PartListed}
+use Rattle.store_party.specs.PartiesLaws.{released-left}
 use Rattle.store_entries.specs.declared.answer.HandleAnswer.{HandleAnswer}
 use Rattle.store_entries.specs.declared.answer.DoneAnswer.{DoneAnswer}
 use Rattle.store_entries.specs.Answers.{handleRefused, handleGiven, handleFrom, handleAnswer, doneRefused, doneFrom, doneAnswer, countAnswer}
-use Rattle.store_entries.specs.StoreRows.{places, sliceRows, roomRows}
-use Rattle.store_entries.specs.StoreEntry.{Asked, toPut, toRelease, toList, toCompact, callOf, ownRows, listsRows, callRows, callRefusal, storeTurn, StoreLeft, shownBy, listTurn, ListLeft}
+use Rattle.store_entries.specs.StoreRows.{sliceRows, roomRows, partyRows}
+use Rattle.store_entries.specs.StoreEntry.{toPut, toRelease, toList, toCompact, callOf, ownRows, Called, called, listsRows, callRows, callRefusal, storeTurn, StoreLeft, shownBy, listTurn, ListLeft}
 use Rattle.store_entries.specs.StoreTheorems.{clear-lists, slice-whole}
 
 -- ---- what the functions that make answers return
@@ -45,194 +49,191 @@ done-no b e = rw e
 
 -- ---- a call that is refused, and one that is not
 
-refused-turn : (w : Lists) (a : Asked) (n : ℕ) → n ≡ callRefusal w a → (n ≡ 0 → ⊥) → storeTurn w a ≡ turn (refused n) w
+refused-turn : (w : Lists) (v : Called) (n : ℕ) → n ≡ callRefusal w v → (n ≡ 0 → ⊥) → storeTurn w v ≡ turn (refused n) w
 unfolding storeTurn
-refused-turn w a n e h = sym (answer-no (λ k. turn (refused k) w) n (callRefusal w a) (listStep places w (callOf a)) (turn (refused n) w) e h refl)
+refused-turn w v n e h =
+    sym (answer-no (λ k. turn (refused k) w) n (callRefusal w v) (partyStep share (v .party) w (callOf (v .asked))) (turn (refused n) w) e h refl)
 
-given-turn : (w : Lists) (a : Asked) (n : ℕ) → n ≡ callRefusal w a → n ≡ 0 → storeTurn w a ≡ listStep places w (callOf a)
+given-turn : (w : Lists) (v : Called) (n : ℕ) → n ≡ callRefusal w v → n ≡ 0 → storeTurn w v ≡ partyStep share (v .party) w (callOf (v .asked))
 unfolding storeTurn
-given-turn w a n e z = sym (answer-yes (λ k. turn (refused k) w) n (callRefusal w a) (listStep places w (callOf a)) (listStep places w (callOf a)) e z refl)
+given-turn w v n e z =
+    let t : Turn Lists (Answer Slice) = partyStep share (v .party) w (callOf (v .asked)) in
+    sym (answer-yes (λ k. turn (refused k) w) n (callRefusal w v) (partyStep share (v .party) w (callOf (v .asked))) (partyStep share (v .party) w (callOf (v .asked))) e z refl)
 
-left-refused : {R : Type 0} (f : Answer Slice → R) (w : Lists) (a : Asked) (n : ℕ) (r : R) → n ≡ callRefusal w a → (n ≡ 0 → ⊥) → r ≡ f (refused n) → StoreLeft f w a r w
-left-refused f w a n r e h q =
-    let t : storeTurn w a ≡ turn (refused n) w = refused-turn w a n e h in
+left-refused : {R : Type 0} (f : Answer Slice → R) (w : Lists) (v : Called) (n : ℕ) (r : R) → n ≡ callRefusal w v → (n ≡ 0 → ⊥) → r ≡ f (refused n) → StoreLeft f w v r w
+left-refused f w v n r e h q =
+    let t : storeTurn w v ≡ turn (refused n) w = refused-turn w v n e h in
     record { answers = rw t q; lists = rw t }
 
-left-given : {R : Type 0} (f : Answer Slice → R) (w : Lists) (a : Asked) (n : ℕ) (r : R) (left : Lists) → n ≡ callRefusal w a → n ≡ 0
-    → r ≡ f (listStep places w (callOf a) .answer) → left ≡ listStep places w (callOf a) .left → StoreLeft f w a r left
-left-given f w a n r left e z p q =
-    let t : storeTurn w a ≡ listStep places w (callOf a) = given-turn w a n e z in
+left-given : {R : Type 0} (f : Answer Slice → R) (w : Lists) (v : Called) (n : ℕ) (r : R) (left : Lists) → n ≡ callRefusal w v → n ≡ 0
+    → r ≡ f (partyStep share (v .party) w (callOf (v .asked)) .answer) → left ≡ partyStep share (v .party) w (callOf (v .asked)) .left → StoreLeft f w v r left
+left-given f w v n r left e z p q =
+    let t : storeTurn w v ≡ partyStep share (v .party) w (callOf (v .asked)) = given-turn w v n e z in
     record { answers = rw t p; lists = rw t q }
 
--- lists that are not refused by number 1
-sized-fit : (w : Lists) → Sized places w → Fit w
-sized-fit w z = let a = z .marks in record { sized = rw a z; most = omega arith }
+-- ---- what acceptance tells: lists of the right lengths, and a known party
 
--- the number, found in two parts
-module _ (w : Lists) where
-  number-put : (x : Slice) (p n : ℕ) → p ≡ firstFrom 0 (listsRows w) → n ≡ firstFrom p (sliceRows (x .code) (x .number)) → n ≡ callRefusal w (toPut x)
-  unfolding callRefusal callRows ownRows
-  number-put x p n e f =
-      first-from (listsRows w ++ sliceRows (x .code) (x .number)) n tt (then-rows n p 0 (listsRows w) (sliceRows (x .code) (x .number)) f e)
+known-party : (q : ℕ) → Clear (partyRows q) → q < 2
+known-party q c = let h : q ≤ 1 = ltb-false 1 q (c .0) in omega arith
 
-  number-list : (h a s d p n : ℕ) → p ≡ firstFrom 0 (listsRows w) → n ≡ firstFrom p (roomRows places h a s d) → n ≡ callRefusal w (toList h a s d)
-  unfolding callRefusal callRows ownRows
-  number-list h a s d p n e f = first-from (listsRows w ++ roomRows places h a s d) n tt (then-rows n p 0 (listsRows w) (roomRows places h a s d) f e)
+part-fits : (w : Lists) (q : ℕ) (rows : List Row) → Clear (listsRows w ++ (rows ++ partyRows q)) → PartFits w q
+part-fits w q rows c =
+    record {
+      sized = clear-lists w (clear-left (listsRows w) (rows ++ partyRows q) c);
+      known = known-party q (clear-right rows (partyRows q) (clear-right (listsRows w) (rows ++ partyRows q) c));
+    }
 
-  number-release : (h n : ℕ) → n ≡ firstFrom 0 (listsRows w) → n ≡ callRefusal w (toRelease h)
-  unfolding callRefusal callRows ownRows
-  number-release h n e = first-from (listsRows w) n tt e
+-- the number, found part by part
+number-of : (w : Lists) (v : Called) (rows : List Row) → ownRows share (v .asked) ≡ rows → T (numbered (listsRows w ++ (rows ++ partyRows (v .party)))) → (p₁ p₂ n : ℕ)
+    → p₁ ≡ firstFrom 0 (listsRows w) → p₂ ≡ firstFrom p₁ rows → n ≡ firstFrom p₂ (partyRows (v .party)) → n ≡ callRefusal w v
+unfolding callRefusal callRows
+number-of w v rows o t p₁ p₂ n e f g =
+    rw o
+    (first-from (listsRows w ++ (rows ++ partyRows (v .party))) n t
+    (then-rows n p₁ 0 (listsRows w) (rows ++ partyRows (v .party)) (then-rows n p₂ p₁ rows (partyRows (v .party)) g f) e))
 
-  number-compact : (n : ℕ) → n ≡ firstFrom 0 (listsRows w) → n ≡ callRefusal w toCompact
-  unfolding callRefusal callRows ownRows
-  number-compact n e = first-from (listsRows w) n tt e
+-- and where it is 0, no row's fault is there
+number-clear : (w : Lists) (v : Called) (rows : List Row) → ownRows share (v .asked) ≡ rows → T (numbered (listsRows w ++ (rows ++ partyRows (v .party)))) → (n : ℕ)
+    → n ≡ callRefusal w v → n ≡ 0 → Clear (listsRows w ++ (rows ++ partyRows (v .party)))
+unfolding callRefusal callRows
+number-clear w v rows o t n e z = clear (listsRows w ++ (rows ++ partyRows (v .party))) t (rw o at (sym e ∙ z))
 
 -- ---- entry by entry, over the four lists as they are lent
 
 module _ (held at : List ℕ) (shape : List Float) (edition : List ℕ) where
-  only-lists : (n : ℕ) → n ≡ firstFrom 0 (listsRows (lists held at shape edition)) → n ≡ 0 → Sized places (lists held at shape edition)
-  only-lists n e z = clear-lists (lists held at shape edition) (clear (listsRows (lists held at shape edition)) tt (sym (first-from (listsRows (lists held at shape edition)) n tt e) ∙ z))
+  -- ---- put
+  module _ (c : List ℕ) (m : List Float) (d q p₁ p₂ n : ℕ) (e : p₁ ≡ firstFrom 0 (listsRows (lists held at shape edition)))
+      (f : p₂ ≡ firstFrom p₁ (sliceRows c m)) (g : n ≡ firstFrom p₂ (partyRows q)) where
+    put-number : n ≡ callRefusal (lists held at shape edition) (called q (toPut (sliceOf c m d)))
+    unfolding ownRows
+    put-number = number-of (lists held at shape edition) (called q (toPut (sliceOf c m d))) (sliceRows c m) refl tt p₁ p₂ n e f g
 
-  module _ (c : List ℕ) (m : List Float) (d p n : ℕ) (e : p ≡ firstFrom 0 (listsRows (lists held at shape edition))) (f : n ≡ firstFrom p (sliceRows c m)) where
-    put-number : n ≡ callRefusal (lists held at shape edition) (toPut (sliceOf c m d))
-    put-number = number-put (lists held at shape edition) (sliceOf c m d) p n e f
+    pub put-refused : (r : HandleAnswer) → (n ≡ 0 → ⊥) → r ≡ handleRefused n
+        → StoreLeft handleAnswer (lists held at shape edition) (called q (toPut (sliceOf c m d))) r (lists held at shape edition)
+    put-refused r h k = left-refused handleAnswer (lists held at shape edition) (called q (toPut (sliceOf c m d))) n r put-number h k
 
-    pub put-refused : (r : HandleAnswer) → (n ≡ 0 → ⊥) → r ≡ handleRefused n → StoreLeft handleAnswer (lists held at shape edition) (toPut (sliceOf c m d)) r (lists held at shape edition)
-    put-refused r h q = left-refused handleAnswer (lists held at shape edition) (toPut (sliceOf c m d)) n r put-number h q
+    put-clear : n ≡ 0 → Clear (listsRows (lists held at shape edition) ++ (sliceRows c m ++ partyRows q))
+    unfolding ownRows
+    put-clear z = number-clear (lists held at shape edition) (called q (toPut (sliceOf c m d))) (sliceRows c m) refl tt n put-number z
 
-    module _ (z : n ≡ 0) where
-      put-clear : Clear (listsRows (lists held at shape edition) ++ sliceRows c m)
-      put-clear = clear (listsRows (lists held at shape edition) ++ sliceRows c m) tt (whole ∙ z)
-        where
-          whole : firstOf (listsRows (lists held at shape edition) ++ sliceRows c m) ≡ n
-          whole = unfold callRefusal callRows ownRows in sym put-number
+    pub put-fits : n ≡ 0 → PartPutFits (lists held at shape edition) q (sliceOf c m d)
+    put-fits z =
+        record {
+          fits = part-fits (lists held at shape edition) q (sliceRows c m) (put-clear z);
+          whole = slice-whole (sliceOf c m d)
+              (none-clear (sliceRows c m) (clear-left (sliceRows c m) (partyRows q) (clear-right (listsRows (lists held at shape edition)) (sliceRows c m ++ partyRows q) (put-clear z))));
+        }
 
-      put-sized : Sized places (lists held at shape edition)
-      put-sized = clear-lists (lists held at shape edition) (clear-left (listsRows (lists held at shape edition)) (sliceRows c m) put-clear)
-
-      pub put-fits : PutFits (lists held at shape edition) (sliceOf c m d)
-      put-fits =
-          record {
-            fit = sized-fit (lists held at shape edition) put-sized;
-            whole = slice-whole (sliceOf c m d) (none-clear (sliceRows c m) (clear-right (listsRows (lists held at shape edition)) (sliceRows c m) put-clear));
-          }
-
-      pub put-given : (h : Handle) (r : HandleAnswer) (left : Lists) → Turned handleAs (listStep (length held) (lists held at shape edition) (put (sliceOf c m d))) h left → r ≡ handleFrom h
-          → StoreLeft handleAnswer (lists held at shape edition) (toPut (sliceOf c m d)) r left
-      put-given h r left t q = left-given handleAnswer (lists held at shape edition) (toPut (sliceOf c m d)) n r left put-number z (q ∙ said) left-is
-        where
-          n₁ : length held ≡ places
-          n₁ = put-sized .marks
-
-          said : handleFrom h ≡ handleAnswer (listStep places (lists held at shape edition) (callOf (toPut (sliceOf c m d))) .answer)
-          said = ap handleFrom (t .says) ∙ same
-            where
-              same : handleFrom (handleAs (listStep (length held) (lists held at shape edition) (put (sliceOf c m d)) .answer)) ≡ handleAnswer (listStep places (lists held at shape edition) (callOf (toPut (sliceOf c m d))) .answer)
-              same = unfold callOf listStep in rw n₁ (by-test (eqb (length (livesIn places (lists held at shape edition))) places) (λ g. rw g) (λ g. rw g))
-
-          left-is : left ≡ listStep places (lists held at shape edition) (callOf (toPut (sliceOf c m d))) .left
-          left-is = unfold callOf in t .leaves ∙ rw n₁
-
-  -- ---- release
-  module _ (k n : ℕ) (e : n ≡ firstFrom 0 (listsRows (lists held at shape edition))) where
-    pub release-refused : (r : DoneAnswer) → (n ≡ 0 → ⊥) → r ≡ doneRefused n → StoreLeft doneAnswer (lists held at shape edition) (toRelease k) r (lists held at shape edition)
-    release-refused r h q = left-refused doneAnswer (lists held at shape edition) (toRelease k) n r (number-release (lists held at shape edition) k n e) h q
-
-    pub release-fits : n ≡ 0 → ReleaseFits held
-    release-fits z = let a = only-lists n e z .marks in record { most = omega arith }
-
-    pub release-given : (found : Bool) (r : DoneAnswer) (held′ : List ℕ) → n ≡ 0 → Released held k found held′ → r ≡ doneFrom found
-        → StoreLeft doneAnswer (lists held at shape edition) (toRelease k) r (lists held′ at shape edition)
-    release-given found r held′ z t q = left-given doneAnswer (lists held at shape edition) (toRelease k) n r (lists held′ at shape edition) (number-release (lists held at shape edition) k n e) z (q ∙ said) left-is
+    pub put-given : (h : Handle) (r : HandleAnswer) (left : Lists) → n ≡ 0 → Turned handleAs (partyStep share q (lists held at shape edition) (put (sliceOf c m d))) h left → r ≡ handleFrom h
+        → StoreLeft handleAnswer (lists held at shape edition) (called q (toPut (sliceOf c m d))) r left
+    put-given h r left z t k = left-given handleAnswer (lists held at shape edition) (called q (toPut (sliceOf c m d))) n r left put-number z (k ∙ said) left-is
       where
-        n₁ : length held ≡ places
-        n₁ = only-lists n e z .marks
+        same : handleFrom (handleAs (partyStep share q (lists held at shape edition) (put (sliceOf c m d)) .answer))
+            ≡ handleAnswer (partyStep share q (lists held at shape edition) (callOf (toPut (sliceOf c m d))) .answer)
+        same =
+            unfold callOf partyStep listStep in
+            by-test (eqb (length (livesIn share (partOf share q (lists held at shape edition)))) share) (λ x. rw x) (λ x. rw x)
 
-        f₁ : found ≡ keyed handleOf (livesIn places (lists held at shape edition)) k
-        f₁ = t .found ∙ rw n₁
+        said : handleFrom h ≡ handleAnswer (partyStep share q (lists held at shape edition) (callOf (toPut (sliceOf c m d))) .answer)
+        said = ap handleFrom (t .says) ∙ same
 
-        said : doneFrom found ≡ doneAnswer (listStep places (lists held at shape edition) (callOf (toRelease k)) .answer)
-        said = ap doneFrom f₁ ∙ same
-          where
-            same : doneFrom (keyed handleOf (livesIn places (lists held at shape edition)) k) ≡ doneAnswer (listStep places (lists held at shape edition) (callOf (toRelease k)) .answer)
-            same = unfold callOf listStep in by-test (keyed handleOf (livesIn places (lists held at shape edition)) k) (λ g. rw g) (λ g. rw g)
+        left-is : left ≡ partyStep share q (lists held at shape edition) (callOf (toPut (sliceOf c m d))) .left
+        left-is = unfold callOf in t .leaves
 
-        m₁ : held′ ≡ cond (keyed handleOf (livesIn places (lists held at shape edition)) k) (filled 0 places (without handleOf (livesIn places (lists held at shape edition)) k)) held
-        m₁ = t .marks ∙ rw n₁
+  -- ---- release and compaction: no rows of their own
+  module _ (q p n : ℕ) (e : p ≡ firstFrom 0 (listsRows (lists held at shape edition))) (g : n ≡ firstFrom p (partyRows q)) where
+    release-number : (k : ℕ) → n ≡ callRefusal (lists held at shape edition) (called q (toRelease k))
+    unfolding ownRows firstFrom
+    release-number k = number-of (lists held at shape edition) (called q (toRelease k)) [] refl tt p p n e refl g
 
-        left-is : lists held′ at shape edition ≡ listStep places (lists held at shape edition) (callOf (toRelease k)) .left
-        left-is =
-            unfold callOf listStep releasedIn in
-            by-test (keyed handleOf (livesIn places (lists held at shape edition)) k) (λ g. rw g (rw (m₁, g))) (λ g. rw g (rw (m₁, g)))
+    compact-number : n ≡ callRefusal (lists held at shape edition) (called q toCompact)
+    unfolding ownRows firstFrom
+    compact-number = number-of (lists held at shape edition) (called q toCompact) [] refl tt p p n e refl g
 
-  -- ---- compaction
-  module _ (n : ℕ) (e : n ≡ firstFrom 0 (listsRows (lists held at shape edition))) where
-    pub compact-refused : (r : DoneAnswer) → (n ≡ 0 → ⊥) → r ≡ doneRefused n → StoreLeft doneAnswer (lists held at shape edition) toCompact r (lists held at shape edition)
-    compact-refused r h q = left-refused doneAnswer (lists held at shape edition) toCompact n r (number-compact (lists held at shape edition) n e) h q
+    fits-both : n ≡ 0 → PartFits (lists held at shape edition) q
+    unfolding ownRows
+    fits-both z = part-fits (lists held at shape edition) q [] (number-clear (lists held at shape edition) (called q toCompact) [] refl tt n compact-number z)
 
-    pub compact-fits : n ≡ 0 → Fit (lists held at shape edition)
-    compact-fits z = sized-fit (lists held at shape edition) (only-lists n e z)
+    pub release-refused : (k : ℕ) (r : DoneAnswer) → (n ≡ 0 → ⊥) → r ≡ doneRefused n → StoreLeft doneAnswer (lists held at shape edition) (called q (toRelease k)) r (lists held at shape edition)
+    release-refused k r h x = left-refused doneAnswer (lists held at shape edition) (called q (toRelease k)) n r (release-number k) h x
 
-    pub compact-given : (r : DoneAnswer) (left : Lists) → n ≡ 0 → left ≡ listStep (length held) (lists held at shape edition) compact .left → r ≡ doneFrom true
-        → StoreLeft doneAnswer (lists held at shape edition) toCompact r left
-    compact-given r left z t q = left-given doneAnswer (lists held at shape edition) toCompact n r left (number-compact (lists held at shape edition) n e) z said left-is
+    pub release-fits : n ≡ 0 → PartMarksFit held q
+    release-fits z = let f = fits-both z in record { whole = f .sized .marks; known = f .known }
+
+    pub release-given : (k : ℕ) (found : Bool) (r : DoneAnswer) (held′ : List ℕ) → n ≡ 0 → PartReleased held q k found held′ → r ≡ doneFrom found
+        → StoreLeft doneAnswer (lists held at shape edition) (called q (toRelease k)) r (lists held′ at shape edition)
+    release-given k found r held′ z t x =
+        left-given doneAnswer (lists held at shape edition) (called q (toRelease k)) n r (lists held′ at shape edition) (release-number k) z (x ∙ said) left-is
       where
-        n₁ : length held ≡ places
-        n₁ = only-lists n e z .marks
+        f : PartFits (lists held at shape edition) q
+        f = fits-both z
 
-        said : r ≡ doneAnswer (listStep places (lists held at shape edition) (callOf toCompact) .answer)
-        said = unfold callOf listStep in q
+        same : doneFrom (keyed handleOf (livesOf share (block share held q)) k) ≡ doneAnswer (partyStep share q (lists held at shape edition) (callOf (toRelease k)) .answer)
+        same = unfold callOf partyStep partOf listStep in by-test (keyed handleOf (livesOf share (block share held q)) k) (λ y. rw y) (λ y. rw y)
 
-        left-is : left ≡ listStep places (lists held at shape edition) (callOf toCompact) .left
-        left-is = unfold callOf in t ∙ rw n₁
+        said : doneFrom found ≡ doneAnswer (partyStep share q (lists held at shape edition) (callOf (toRelease k)) .answer)
+        said = ap doneFrom (t .found) ∙ same
+
+        left-is : lists held′ at shape edition ≡ partyStep share q (lists held at shape edition) (callOf (toRelease k)) .left
+        left-is = unfold callOf in released-left (lists held at shape edition) q k held′ f t
+
+    pub compact-refused : (r : DoneAnswer) → (n ≡ 0 → ⊥) → r ≡ doneRefused n → StoreLeft doneAnswer (lists held at shape edition) (called q toCompact) r (lists held at shape edition)
+    compact-refused r h x = left-refused doneAnswer (lists held at shape edition) (called q toCompact) n r compact-number h x
+
+    pub compact-fits : n ≡ 0 → PartFits (lists held at shape edition) q
+    compact-fits z = fits-both z
+
+    pub compact-given : (r : DoneAnswer) (left : Lists) → n ≡ 0 → left ≡ partyStep share q (lists held at shape edition) compact .left → r ≡ doneFrom true
+        → StoreLeft doneAnswer (lists held at shape edition) (called q toCompact) r left
+    compact-given r left z t x = left-given doneAnswer (lists held at shape edition) (called q toCompact) n r left compact-number z said left-is
+      where
+        said : r ≡ doneAnswer (partyStep share q (lists held at shape edition) (callOf toCompact) .answer)
+        said = unfold callOf partyStep listStep in x
+
+        left-is : left ≡ partyStep share q (lists held at shape edition) (callOf toCompact) .left
+        left-is = unfold callOf in t
 
   -- ---- the list
-  module _ (rh ra : List ℕ) (rs : List Float) (rd : List ℕ) (p n : ℕ) (e : p ≡ firstFrom 0 (listsRows (lists held at shape edition)))
-      (f : n ≡ firstFrom p (roomRows places (length rh) (length ra) (length rs) (length rd))) where
-    list-number : n ≡ callRefusal (lists held at shape edition) (toList (length rh) (length ra) (length rs) (length rd))
-    list-number = number-list (lists held at shape edition) (length rh) (length ra) (length rs) (length rd) p n e f
+  module _ (rh ra : List ℕ) (rs : List Float) (rd : List ℕ) (q p₁ p₂ n : ℕ) (e : p₁ ≡ firstFrom 0 (listsRows (lists held at shape edition)))
+      (f : p₂ ≡ firstFrom p₁ (roomRows share (length rh) (length ra) (length rs) (length rd))) (g : n ≡ firstFrom p₂ (partyRows q)) where
+    list-number : n ≡ callRefusal (lists held at shape edition) (called q (toList (length rh) (length ra) (length rs) (length rd)))
+    unfolding ownRows
+    list-number =
+        number-of (lists held at shape edition) (called q (toList (length rh) (length ra) (length rs) (length rd))) (roomRows share (length rh) (length ra) (length rs) (length rd)) refl tt p₁ p₂ n e f g
 
-    pub list-refused : (r : CountAnswer) → (n ≡ 0 → ⊥) → r ≡ countRefused n → ListLeft (lists held at shape edition) (rooms rh ra rs rd) r (rooms rh ra rs rd)
+    pub list-refused : (r : CountAnswer) → (n ≡ 0 → ⊥) → r ≡ countRefused n → ListLeft (lists held at shape edition) q (rooms rh ra rs rd) r (rooms rh ra rs rd)
     unfolding shownBy
-    list-refused r h q =
-        let t = refused-turn (lists held at shape edition) (toList (length rh) (length ra) (length rs) (length rd)) n list-number h in
-        record { answers = rw t q; room = rw t }
+    list-refused r h x =
+        let t = refused-turn (lists held at shape edition) (called q (toList (length rh) (length ra) (length rs) (length rd))) n list-number h in
+        record { answers = rw t x; room = rw t }
 
-    module _ (z : n ≡ 0) where
-      list-clear : Clear (listsRows (lists held at shape edition) ++ roomRows places (length rh) (length ra) (length rs) (length rd))
-      list-clear = clear (listsRows (lists held at shape edition) ++ roomRows places (length rh) (length ra) (length rs) (length rd)) tt (whole ∙ z)
-        where
-          whole : firstOf (listsRows (lists held at shape edition) ++ roomRows places (length rh) (length ra) (length rs) (length rd)) ≡ n
-          whole = unfold callRefusal callRows ownRows in sym list-number
+    list-clear : n ≡ 0 → Clear (listsRows (lists held at shape edition) ++ (roomRows share (length rh) (length ra) (length rs) (length rd) ++ partyRows q))
+    unfolding ownRows
+    list-clear z =
+        number-clear (lists held at shape edition) (called q (toList (length rh) (length ra) (length rs) (length rd))) (roomRows share (length rh) (length ra) (length rs) (length rd)) refl tt n list-number z
 
-      list-sized : Sized places (lists held at shape edition)
-      list-sized = clear-lists (lists held at shape edition) (clear-left (listsRows (lists held at shape edition)) (roomRows places (length rh) (length ra) (length rs) (length rd)) list-clear)
+    pub list-fits : n ≡ 0 → PartListFits (lists held at shape edition) q (rooms rh ra rs rd)
+    list-fits z =
+        let rows : List Row = roomRows share (length rh) (length ra) (length rs) (length rd) in
+        let ok = clear-left (roomRows share (length rh) (length ra) (length rs) (length rd)) (partyRows q)
+        (clear-right (listsRows (lists held at shape edition)) (roomRows share (length rh) (length ra) (length rs) (length rd) ++ partyRows q) (list-clear z)) in
+        let a = ltb-false (length rh) 896 (ok .0) in
+        let b = ltb-false (length ra) 3584 (ok .1 .0) in
+        let c = ltb-false (length rs) 5376 (ok .1 .1 .0) in
+        let d = ltb-false (length rd) 896 (ok .1 .1 .1 .0) in
+        record {
+          fits = part-fits (lists held at shape edition) q (roomRows share (length rh) (length ra) (length rs) (length rd)) (list-clear z);
+          room = record { ones = a; fours = b; sixes = c; editions = d };
+        }
 
-      pub list-fits : ListFits (lists held at shape edition) (rooms rh ra rs rd)
-      list-fits =
-          let ok = clear-right (listsRows (lists held at shape edition)) (roomRows places (length rh) (length ra) (length rs) (length rd)) list-clear in
-          let a = ltb-false (length rh) 1792 (ok .0) in
-          let b = ltb-false (length ra) 7168 (ok .1 .0) in
-          let c = ltb-false (length rs) 10752 (ok .1 .1 .0) in
-          let d = ltb-false (length rd) 1792 (ok .1 .1 .1 .0) in
-          let m : length held ≡ places = list-sized .marks in
-          record {
-            fit = sized-fit (lists held at shape edition) list-sized;
-            room = record { ones = omega arith; fours = omega arith; sixes = omega arith; editions = omega arith };
-          }
+    pub list-given : (k : ℕ) (r : CountAnswer) (left : Rooms) → n ≡ 0 → PartListed (lists held at shape edition) q (rooms rh ra rs rd) k left → r ≡ counted k
+        → ListLeft (lists held at shape edition) q (rooms rh ra rs rd) r left
+    list-given k r left z t x = record { answers = rw whole (x ∙ ap (λ (j : ℕ). counted j) (t .count)); room = rw whole shows }
+      where
+        whole : listTurn (lists held at shape edition) q (rooms rh ra rs rd) .answer ≡ listed (plainOf share (partOf share q (lists held at shape edition)))
+        whole =
+            ap (λ (u : Turn Lists (Answer Slice)). u .answer) (given-turn (lists held at shape edition) (called q (toList (length rh) (length ra) (length rs) (length rd))) n list-number z)
+            ∙ (unfold callOf partyStep listStep in refl)
 
-      pub list-given : (k : ℕ) (r : CountAnswer) (left : Rooms) → Listed (lists held at shape edition) (rooms rh ra rs rd) k left → r ≡ counted k
-          → ListLeft (lists held at shape edition) (rooms rh ra rs rd) r left
-      list-given k r left t q = record { answers = rw whole (q ∙ ap (λ (j : ℕ). counted j) many); room = rw whole shows }
-        where
-          m : length held ≡ places
-          m = list-sized .marks
-
-          whole : listTurn (lists held at shape edition) (rooms rh ra rs rd) ≡ turn (listed (plainOf places (lists held at shape edition))) (lists held at shape edition)
-          whole = given-turn (lists held at shape edition) (toList (length rh) (length ra) (length rs) (length rd)) n list-number z ∙ (unfold callOf listStep in refl)
-
-          many : k ≡ length (plainOf places (lists held at shape edition))
-          many = t .count ∙ rw m
-
-          shows : left ≡ shownBy (listed (plainOf places (lists held at shape edition))) (rooms rh ra rs rd)
-          shows = unfold shownBy in t .shows ∙ rw m
+        shows : left ≡ shownBy (listed (plainOf share (partOf share q (lists held at shape edition)))) (rooms rh ra rs rd)
+        shows = unfold shownBy in t .shows

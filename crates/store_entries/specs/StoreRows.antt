@@ -10,7 +10,7 @@ use Rattle.basis.specs.Refuse.{Row, row, lengthFault}
 use Rattle.basis.specs.Sizes.{mostSlices}
 use Rattle.slice.specs.Faults.{listRows, codeRows}
 
--- "a store of 1,792 slices"
+-- "a store of 1,792 slices", half of it for each party
 abbrev pub places : ℕ
 places = mostSlices
 
@@ -27,7 +27,11 @@ numberRows shape = row (not (allWithin shape)) 5 ∷ []
 abbrev pub sliceRows : List ℕ → List Float → List Row
 sliceRows at shape = listRows (length at) (length shape) 1 ++ (codeRows at ++ numberRows shape)
 
--- 9: room for a slice of every place, so that the need does not tell how many are live: a handle, four codes, six numbers and an edition of each
+-- 9: room for a slice of every place that a party has, so that the need does not tell how many are live: a handle, four codes, six numbers and an edition of each
 abbrev pub roomRows : ℕ → ℕ → ℕ → ℕ → ℕ → List Row
 roomRows cap handles at shape edition =
     row (ltb handles cap) 9 ∷ row (ltb at (4 * cap)) 9 ∷ row (ltb shape (6 * cap)) 9 ∷ row (ltb edition cap) 9 ∷ []
+
+-- 22: a party that is neither 0 nor 1
+abbrev pub partyRows : ℕ → List Row
+partyRows party = row (ltb 1 party) 22 ∷ []

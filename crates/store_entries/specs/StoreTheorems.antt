@@ -1,4 +1,5 @@
--- K9 at the entries: "Whatever the sequence of calls, it answers as a plain list would", for every content of the lists, refused calls included.
+-- K9: "Whatever the sequence of calls, it answers as a plain list would", for every content of lists of any number of places, refused calls included; and the whole table of
+-- an entry's refusals.
 use Prim.Native.Nat.{ℕ, zero, suc, _*_, _≤_, _<_}
 use mathlib.Core.Bool.{Bool, true, false, not}
 use mathlib.Core.Path.{_≡_, refl, sym, ap, _∙_}
@@ -18,8 +19,10 @@ use Rattle.store.specs.Marks.{handleOf}
 use Rattle.store.specs.Lists.{Lists, Sized, livesIn, plainOf, listStep}
 use Rattle.store.specs.ListsLaws.{plain-length, plain-has, empty-plain}
 use Rattle.store.specs.Refines.{Sound, sound-put, sound-release, sound-list, sound-compact, alike}
-use Rattle.store_entries.specs.StoreRows.{places, storeRows, sliceRows}
-use Rattle.store_entries.specs.StoreEntry.{Asked, toPut, toRelease, toList, toCompact, callOf, ownRows, listsRows, callRows, callRefusal, askedTurn, storeTurn, plainTurn, lastRows, wholeRows, refusalIn}
+use Rattle.store_party.specs.Parties.{partOf, partyStep}
+use Rattle.store_party.specs.Ready.{share}
+use Rattle.store_entries.specs.StoreRows.{places, sliceRows, partyRows}
+use Rattle.store_entries.specs.StoreEntry.{Asked, toPut, toRelease, toList, toCompact, callOf, ownRows, askedTurn, plainTurn, Called, listsRows, callRows, callRefusal, storeTurn, lastRows, wholeRows, refusalIn}
 
 -- ---- lists of the right lengths are not refused by number 1
 
@@ -73,70 +76,40 @@ module _ (cap : ℕ) (few : cap ≤ 2047) where
   pub asked-plain : (s : Lists) (calls : List Asked) → Sized cap s → answers (askedTurn cap) s calls ≡ answers (plainTurn cap) (plainOf cap s) calls
   asked-plain s calls z = all-alike (plainOf cap) (Sized cap) (askedTurn cap) (plainTurn cap) asked-alike s calls z
 
--- ---- the entries
-
--- over lists of the right lengths an entry's table is the call's own
-pub own-refusal : (w : Lists) (a : Asked) → Sized places w → callRefusal w a ≡ firstOf (ownRows places a)
-unfolding callRefusal callRows
-own-refusal w a z = first-later (listsRows w) (ownRows places a) (lists-clear w z)
-
-pub store-asked : (w : Lists) (a : Asked) → Sized places w → storeTurn w a ≡ askedTurn places w a
-unfolding storeTurn askedTurn
-store-asked w a z = rw (own-refusal w a z)
-
-small : places ≤ 2047
-small = omega arith
-
-pub entry-alike : (w : Lists) (a : Asked) → Sized places w → Alike (plainOf places) (Sized places) storeTurn (plainTurn places) w a
-entry-alike w a z =
-    let i = asked-alike places small w a z in
-    let e = store-asked w a z in
-    record { says = rw e (i .says); leaves = rw e (i .leaves); keeps = rw e (i .keeps) }
-
--- ---- THE THEOREM: any content of the lists, any calls
-pub as-a-plain-list : (w : Lists) (calls : List Asked) → Sized places w → answers storeTurn w calls ≡ answers (plainTurn places) (plainOf places w) calls
-as-a-plain-list w calls z = all-alike (plainOf places) (Sized places) storeTurn (plainTurn places) entry-alike w calls z
-
--- and what the lists mean after them is what is left of the plain list
-pub means-after : (w : Lists) (calls : List Asked) → Sized places w → plainOf places (after storeTurn w calls) ≡ after (plainTurn places) (plainOf places w) calls
-means-after w calls z = all-mean (plainOf places) (Sized places) storeTurn (plainTurn places) entry-alike w calls z
-
--- zeros are the empty store
-pub zeros-empty : (w : Lists) → ((k : ℕ) → k < places → getD (w .held) k 0 ≡ 0) → plainOf places w ≡ []
-zeros-empty w z = empty-plain places w z
-
 -- ---- the whole table: the number that is given is the first of the call's rows and, after them, of the store's own
 
-last-number : (w : Lists) (a : Asked) → refusalIn (listStep places w (callOf a) .answer) ≡ firstOf (lastRows w a)
-unfolding refusalIn listStep lastRows callOf firstOf
-last-number w (toPut x) = by-test (eqb (length (livesIn places w)) places) (λ e. rw e) (λ e. rw e)
-last-number w (toRelease h) = by-test (keyed handleOf (livesIn places w) h) (λ e. rw e) (λ e. rw e)
-last-number w (toList h a s e) = refl
-last-number w toCompact = refl
+pub numbered-own : (cap : ℕ) (a : Asked) → T (numbered (ownRows cap a))
+unfolding ownRows
+numbered-own cap (toPut x) = tt
+numbered-own cap (toRelease h) = tt
+numbered-own cap (toList h a s e) = tt
+numbered-own cap toCompact = tt
 
-numbered-rows : (w : Lists) (a : Asked) → T (numbered (callRows w a))
+numbered-call : (w : Lists) (v : Called) → T (numbered (callRows w v))
 unfolding callRows ownRows
-numbered-rows w (toPut x) = tt
-numbered-rows w (toRelease h) = tt
-numbered-rows w (toList h a s e) = tt
-numbered-rows w toCompact = tt
+numbered-call w v = go (v .asked)
+  where
+    go : (a : Asked) → T (numbered (listsRows w ++ (ownRows share a ++ partyRows (v .party))))
+    go (toPut x) = tt
+    go (toRelease h) = tt
+    go (toList h a s e) = tt
+    go toCompact = tt
 
-pub whole-table : (w : Lists) (a : Asked) → refusalIn (storeTurn w a .answer) ≡ firstOf (wholeRows w a)
+last-number : (cap : ℕ) (s : Lists) (a : Asked) → refusalIn (listStep cap s (callOf a) .answer) ≡ firstOf (lastRows cap s a)
+unfolding refusalIn listStep lastRows callOf firstOf
+last-number cap s (toPut x) = by-test (eqb (length (livesIn cap s)) cap) (λ e. rw e) (λ e. rw e)
+last-number cap s (toRelease h) = by-test (keyed handleOf (livesIn cap s) h) (λ e. rw e) (λ e. rw e)
+last-number cap s (toList h a s′ e) = refl
+last-number cap s toCompact = refl
+
+pub whole-table : (w : Lists) (v : Called) → refusalIn (storeTurn w v .answer) ≡ firstOf (wholeRows w v)
 unfolding storeTurn wholeRows callRefusal
-whole-table w a = go (firstOf (callRows w a)) refl
+whole-table w v = go (firstOf (callRows w v)) refl
   where
-    go : (n : ℕ) → firstOf (callRows w a) ≡ n → refusalIn (answer (λ n. turn (refused n) w) n (listStep places w (callOf a)) .answer) ≡ firstOf (callRows w a ++ lastRows w a)
-    go zero e = unfold answer in last-number w a ∙ sym (first-later (callRows w a) (lastRows w a) (clear (callRows w a) (numbered-rows w a) e))
-    go (suc n) e = unfold answer refusalIn in sym (first-found (callRows w a) (lastRows w a) (λ z. let q : suc n ≡ 0 = sym e ∙ z in omega arith) ∙ e)
-
--- ---- "A put that numbers 3 and 5 let through is refused exactly when 1,792 are live"
-pub full-exactly : (w : Lists) (x : Slice) → Sized places w → firstOf (sliceRows (x .code) (x .number)) ≡ 0
-    → refusalIn (storeTurn w (toPut x) .answer) ≡ firstOf (row (eqb (length (plainOf places w)) places) 20 ∷ [])
-full-exactly w x z e = whole-table w (toPut x) ∙ tableOf
-  where
-    tableOf : firstOf (wholeRows w (toPut x)) ≡ firstOf (row (eqb (length (plainOf places w)) places) 20 ∷ [])
-    tableOf =
-        unfold wholeRows callRows ownRows lastRows in
-        rw (plain-length places w)
-        (first-later (listsRows w ++ sliceRows (x .code) (x .number)) (row (eqb (length (livesIn places w)) places) 20 ∷ [])
-        (clear-both (listsRows w) (sliceRows (x .code) (x .number)) (lists-clear w z) (clear (sliceRows (x .code) (x .number)) tt e)))
+    go : (n : ℕ) → firstOf (callRows w v) ≡ n
+        → refusalIn (answer (λ k. turn (refused k) w) n (partyStep share (v .party) w (callOf (v .asked))) .answer) ≡ firstOf (callRows w v ++ lastRows share (partOf share (v .party) w) (v .asked))
+    go zero e =
+        unfold answer partyStep in
+        last-number share (partOf share (v .party) w) (v .asked)
+        ∙ sym (first-later (callRows w v) (lastRows share (partOf share (v .party) w) (v .asked)) (clear (callRows w v) (numbered-call w v) e))
+    go (suc n) e = unfold answer refusalIn in sym (first-found (callRows w v) (lastRows share (partOf share (v .party) w) (v .asked)) (λ z. let q : suc n ≡ 0 = sym e ∙ z in omega arith) ∙ e)

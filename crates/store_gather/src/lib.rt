@@ -13,9 +13,9 @@ use store::marks;
 use store::marks::MOST_PLACES;
 
 // What they take of codes and of numbers.
-const MOST_CODES: usize = 7168;
+const MOST_CODES: usize = 3584;
 
-const MOST_NUMBERS: usize = 10752;
+const MOST_NUMBERS: usize = 5376;
 
 // Sets the editions from `from` up to `to` to 0.
 fn clear_editions(room: &mut [u32], from: usize, to: usize)

@@ -4,8 +4,8 @@
 //! lists is stitched.
 
 use mask_tools::{
-    prune, stitch, Intersection, Intersections, Masks, Mode, OnSegment, Outline, Overlaps, Point,
-    Refusal, Slices, Source, Store, StraightHost, Tolerance, Verdict, Vertex,
+    prune, stitch, First, Intersection, Intersections, Masks, Mode, OnSegment, Outline, Overlaps,
+    Point, Refusal, Second, Slices, Source, Store, StraightHost, Tolerance, Verdict, Vertex,
 };
 
 const T: Tolerance = Tolerance::new(1.0 / 1024.0);
@@ -45,7 +45,12 @@ fn main() -> Result<(), Refusal> {
     let slices = cut(&a, &b, &crossings)?;
     let mut store = Store::new();
     for slice in slices.iter() {
-        store.put(slice)?;
+        store.put(First, slice)?;
+    }
+    // Another fleet shares the store. What it does changes nothing of ours.
+    if let Some(slice) = slices.iter().next() {
+        store.put(Second, slice)?;
+        store.compact(Second)?;
     }
 
     // Outline 1 comes again as it was, outline 2 with a corner moved out. Where they cross they stayed.
@@ -58,14 +63,14 @@ fn main() -> Result<(), Refusal> {
         Source::Pline2 => (&b, &late_b),
     };
     let selector = Mode::Union.selector();
-    let old = store.list()?.into_slices(slices.starts);
+    let old = store.list(First)?.into_slices(slices.starts);
     let stitched = stitch(&late_a, &late_b, &old, selector, T);
     assert_eq!(stitched, Err(Refusal::Edition));
 
     // The late ones, by their edition. Each is put again where it stood in the order, which the stitch
     // goes by: here all are late.
     let again = cut(&late_a, &late_b, &crossings)?;
-    for kept in store.list()?.iter() {
+    for kept in store.list(First)?.iter() {
         let mut slice = kept.slice;
         let (before, now) = outlines(slice.source);
         assert_ne!(slice.view.edition, now.edition());
@@ -85,12 +90,12 @@ fn main() -> Result<(), Refusal> {
             slice = new.expect("the union keeps one slice of each outline");
             println!("slice {number} is cut again");
         }
-        store.put(slice)?;
+        store.put(First, slice)?;
     }
 
     // What is listed goes straight into a stitch.
-    store.compact()?;
-    let kept = store.list()?.into_slices(slices.starts);
+    store.compact(First)?;
+    let kept = store.list(First)?.into_slices(slices.starts);
     for lp in stitch(&late_a, &late_b, &kept, selector, T)?.loops() {
         let corners: Vec<String> = lp.iter().map(|v| format!("({},{})", v.x, v.y)).collect();
         println!("{}", corners.join(" "));

@@ -136,10 +136,11 @@
 //!
 //! # Slices kept between runs
 //!
-//! [`Store`] keeps up to 1,792 slices, each with the edition of the outline that it was cut from.
-//! It gives a handle for each, lists what is live in the order put, and what it lists goes straight
-//! into a stitch. The example `kept_slices` finds those that a late outline has left behind, reopens
-//! them or cuts them again, and stitches.
+//! [`Store`] keeps up to 896 slices for each of two parties, each with the edition of the outline
+//! that it was cut from. It gives a handle for each, lists what is live in the order put, and what
+//! it lists goes straight into a stitch. The example `kept_slices` finds those that a late outline has
+//! left behind, reopens them or cuts them again, and stitches. Parties and handles are types, so that a
+//! handle of one party cannot be taken for one of the other.
 //!
 //! # Masks that do not meet
 //!
@@ -196,6 +197,6 @@ pub use settings::{Named, Setting, Settings};
 pub use slices::{prune, Answered, Mode, Slice, Slices};
 pub use start::{slice_span, Place, Span};
 pub use stitch::{area_pass, stitch, Chain, ChainEnd, Selector, Stitched};
-pub use store::{Handle, Kept, Listed, Store};
+pub use store::{First, Handle, Kept, Listed, Party, Second, Store};
 pub use straight::{straight_report, StraightReport, WholeOutline};
 pub use view::{OnSegment, Verdict, Vertices, View, Walk};

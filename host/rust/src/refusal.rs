@@ -52,10 +52,13 @@ pub enum Refusal {
     Range,
     /// 19: a report has more than 4,096 outlines.
     Loops,
-    /// 20: as many slices are live as the store has places.
+    /// 20: a party has as many live slices as places in the store.
     Full,
-    /// 21: no live slice has the handle.
+    /// 21: no live slice of the party has the handle.
     Handle,
+    /// 22: a party of a store is neither 0 nor 1. The types of this crate leave no way to name
+    /// another.
+    Party,
     /// A number that this wrapper does not know: the archive is a later one, or, with 10, an
     /// earlier one. 10 is not used any more.
     Other(u32),
@@ -83,6 +86,7 @@ impl Refusal {
             19 => Refusal::Loops,
             20 => Refusal::Full,
             21 => Refusal::Handle,
+            22 => Refusal::Party,
             other => Refusal::Other(other),
         })
     }
@@ -118,8 +122,9 @@ impl Refusal {
             Refusal::SettingsFull => (17, "the record has its 16 settings"),
             Refusal::Range => (18, "a whole coordinate is out of range"),
             Refusal::Loops => (19, "too many outlines in a report"),
-            Refusal::Full => (20, "the store is full"),
-            Refusal::Handle => (21, "no live slice has the handle"),
+            Refusal::Full => (20, "the party's part of the store is full"),
+            Refusal::Handle => (21, "no live slice of the party has the handle"),
+            Refusal::Party => (22, "a party of the store is unknown"),
             Refusal::Other(number) => (number, "a reason that this wrapper does not know"),
         }
     }
@@ -152,7 +157,7 @@ mod tests {
         for number in 1..=40 {
             let refusal = Refusal::from_number(number).unwrap();
             assert_eq!(refusal.number(), number);
-            let known = number <= 9 || (14..=21).contains(&number);
+            let known = number <= 9 || (14..=22).contains(&number);
             assert_eq!(matches!(refusal, Refusal::Other(_)), !known);
         }
     }
@@ -160,7 +165,7 @@ mod tests {
     #[test]
     fn every_refusal_has_a_sentence_of_its_own() {
         let mut sentences: Vec<String> = (1..=11)
-            .chain(14..=21)
+            .chain(14..=22)
             .map(|number| Refusal::from_number(number).unwrap().to_string())
             .collect();
         assert_eq!(
@@ -173,7 +178,7 @@ mod tests {
         );
         sentences.sort();
         sentences.dedup();
-        assert_eq!(sentences.len(), 19);
+        assert_eq!(sentences.len(), 20);
     }
 
     #[test]

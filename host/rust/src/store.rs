@@ -4,43 +4,87 @@ use crate::ffi;
 use crate::list::{Layout, List};
 use crate::{Refusal, Slice, Slices, Starts};
 
-/// How many slices a store has places for.
+/// How many slices a store has places for, and how many of them are a party's.
 const PLACES: usize = 1792;
+const SHARE: usize = 896;
 
-/// The handle of a slice in a store. The slice keeps it until it is released.
+mod sealed {
+    pub trait Coded {
+        const CODE: u32;
+    }
+}
+
+/// One of the two parties that share a store: [`First`] or [`Second`].
+pub trait Party: sealed::Coded + Copy {}
+
+/// Party 0 of a store.
+#[derive(Debug, Clone, Copy, PartialEq, Eq, PartialOrd, Ord, Hash, Default)]
+pub struct First;
+
+/// Party 1 of a store.
+#[derive(Debug, Clone, Copy, PartialEq, Eq, PartialOrd, Ord, Hash, Default)]
+pub struct Second;
+
+impl sealed::Coded for First {
+    const CODE: u32 = 0;
+}
+
+impl sealed::Coded for Second {
+    const CODE: u32 = 1;
+}
+
+impl Party for First {}
+impl Party for Second {}
+
+/// The handle of a slice of party `P` in a store. The slice keeps it until it is released.
+///
+/// A handle of one party is of another type than a handle of the other:
+///
+/// ```compile_fail
+/// use mask_tools::{First, Handle, Second};
+///
+/// fn release_ours(handle: Handle<First>) {}
+///
+/// release_ours(Handle::of_number(Second, 3));
+/// ```
 #[derive(Debug, Clone, Copy, PartialEq, Eq, PartialOrd, Ord, Hash)]
-pub struct Handle(usize);
+pub struct Handle<P> {
+    number: usize,
+    party: P,
+}
 
-impl Handle {
-    /// The handle of this number. Whether a live slice has it, the store says when it is used.
-    pub const fn of_number(number: usize) -> Handle {
-        Handle(number)
+impl<P: Party> Handle<P> {
+    /// The party's handle of this number. Whether a live slice has it, the store says when it is
+    /// used.
+    pub const fn of_number(party: P, number: usize) -> Handle<P> {
+        Handle { number, party }
     }
 
-    /// Its number: the lowest from 0 on that no live slice had when it was given.
+    /// Its number: the lowest from 0 on that no live slice of the party had when it was given.
     pub const fn number(self) -> usize {
-        self.0
+        self.number
     }
 }
 
 /// A live slice as a store lists it.
 #[derive(Debug, Clone, Copy, PartialEq)]
-pub struct Kept {
+pub struct Kept<P> {
     /// Its handle.
-    pub handle: Handle,
+    pub handle: Handle<P>,
     /// The slice, with the edition of the outline that it was cut from.
     pub slice: Slice,
 }
 
-/// Up to 1,792 slices, kept between runs.
+/// Slices of two parties, kept between runs: up to 896 of each.
 ///
-/// Whatever is called in whatever order, it answers as a plain list of the live slices would. This
-/// is proved of the library, for every content of the store's memory. [`to_bytes`](Store::to_bytes)
-/// and [`from_bytes`](Store::from_bytes) write a store to a file and read it back; no content is
+/// Whatever is called in whatever order, a party's part answers as a plain list of its live slices
+/// would, and what the other party does changes no answer. This is proved of the library, for every
+/// content of the store's memory. [`to_bytes`](Store::to_bytes) and
+/// [`from_bytes`](Store::from_bytes) write a store to a file and read it back; no content is
 /// refused but one of another length.
 ///
 /// ```
-/// use mask_tools::{Refusal, Slice, Source, Store, View};
+/// use mask_tools::{First, Refusal, Second, Slice, Source, Store, View};
 ///
 /// # fn main() -> Result<(), Refusal> {
 /// let slice = |edition| Slice {
@@ -48,15 +92,19 @@ pub struct Kept {
 ///     view: View { edition, ..View::default() },
 /// };
 /// let mut store = Store::new();
-/// let first = store.put(slice(7))?;
-/// store.put(slice(8))?;
+/// let first = store.put(First, slice(7))?;
+/// store.put(First, slice(8))?;
+/// let theirs = store.put(Second, slice(1))?;
+/// assert_eq!((first.number(), theirs.number()), (0, 0)); // handles count within a party
+///
 /// store.release(first)?;
 /// assert_eq!(store.release(first), Err(Refusal::Handle));
-///
-/// let third = store.put(slice(9))?;
+/// let third = store.put(First, slice(9))?;
 /// assert_eq!(third, first); // the lowest that is free
-/// store.compact()?;
-/// assert_eq!(store.list()?.editions(), [8, 9]); // in the order put
+///
+/// store.compact(First)?;
+/// assert_eq!(store.list(First)?.editions(), [8, 9]); // in the order put
+/// assert_eq!(store.list(Second)?.editions(), [1]);
 /// # Ok(())
 /// # }
 /// ```
@@ -69,8 +117,8 @@ pub struct Store {
 }
 
 impl Store {
-    /// How many slices it has places for.
-    pub const PLACES: usize = PLACES;
+    /// How many slices a party may hold.
+    pub const SHARE: usize = SHARE;
 
     /// The empty store.
     pub fn new() -> Store {
@@ -82,55 +130,58 @@ impl Store {
         }
     }
 
-    /// Puts a slice. It gets the lowest handle that no live slice has.
+    /// Puts a slice of a party. It gets the lowest handle that no live slice of the party has.
     ///
     /// # Errors
     ///
-    /// [`Refusal::Number`], and [`Refusal::Full`] where 1,792 slices are live.
-    pub fn put(&mut self, slice: Slice) -> Result<Handle, Refusal> {
+    /// [`Refusal::Number`], and [`Refusal::Full`] where 896 slices of the party are live.
+    pub fn put<P: Party>(&mut self, party: P, slice: Slice) -> Result<Handle<P>, Refusal> {
         let put = List::from([slice]);
         let answer = ffi::store_put(
             &mut self.held,
             &mut self.slice_at,
             &mut self.slice,
             &mut self.slice_edition,
+            P::CODE,
             put.indexes(),
             put.numbers(),
             slice.view.edition,
         );
-        Refusal::check(answer.refusal, Handle(answer.handle))
+        Refusal::check(answer.refusal, Handle::of_number(party, answer.handle))
     }
 
-    /// Lets a slice go.
+    /// Lets a slice go. Whose it is, the handle says.
     ///
     /// # Errors
     ///
-    /// [`Refusal::Handle`] where no live slice has the handle; then nothing changes.
-    pub fn release(&mut self, handle: Handle) -> Result<(), Refusal> {
+    /// [`Refusal::Handle`] where no live slice of the party has the handle; then nothing changes.
+    pub fn release<P: Party>(&mut self, handle: Handle<P>) -> Result<(), Refusal> {
         let answer = ffi::store_release(
             &mut self.held,
             &self.slice_at,
             &self.slice,
             &self.slice_edition,
-            handle.0,
+            P::CODE,
+            handle.number,
         );
         Refusal::check(answer.refusal, ())
     }
 
-    /// The live slices, in the order put.
+    /// The live slices of a party, in the order put.
     ///
     /// # Errors
     ///
     /// None: the room lent is what the library needs.
-    pub fn list(&self) -> Result<Listed, Refusal> {
-        let mut handles = vec![0; PLACES];
-        let mut list = List::with_room(PLACES);
+    pub fn list<P: Party>(&self, party: P) -> Result<Listed<P>, Refusal> {
+        let mut handles = vec![0; SHARE];
+        let mut list = List::with_room(SHARE);
         let room = list.room();
         let answer = ffi::store_list(
             &self.held,
             &self.slice_at,
             &self.slice,
             &self.slice_edition,
+            P::CODE,
             &mut handles,
             &mut room.indexes,
             &mut room.numbers,
@@ -139,21 +190,26 @@ impl Store {
         let count = Refusal::check(answer.refusal, answer.count)?;
         handles.truncate(count);
         list.truncate(count);
-        Ok(Listed { handles, list })
+        Ok(Listed {
+            party,
+            handles,
+            list,
+        })
     }
 
-    /// Moves the live slices to the front of the store's memory, in the order put, and clears the
-    /// rest. Neither the list nor a handle changes, and stores that answer the same are then equal.
+    /// Moves the live slices of a party to the front of its half of the store's memory, in the
+    /// order put, and clears the rest of that half. Neither the list nor a handle changes.
     ///
     /// # Errors
     ///
     /// None.
-    pub fn compact(&mut self) -> Result<(), Refusal> {
+    pub fn compact<P: Party>(&mut self, _party: P) -> Result<(), Refusal> {
         let answer = ffi::store_compact(
             &mut self.held,
             &mut self.slice_at,
             &mut self.slice,
             &mut self.slice_edition,
+            P::CODE,
         );
         Refusal::check(answer.refusal, ())
     }
@@ -198,14 +254,15 @@ impl Default for Store {
     }
 }
 
-/// The live slices of a store, in the order put.
+/// The live slices of a party in a store, in the order put.
 #[derive(Debug, Clone, PartialEq)]
-pub struct Listed {
+pub struct Listed<P> {
+    party: P,
     handles: Vec<usize>,
     list: List<Slice>,
 }
 
-impl Listed {
+impl<P: Party> Listed<P> {
     /// How many slices are live.
     pub fn len(&self) -> usize {
         self.handles.len()
@@ -217,10 +274,10 @@ impl Listed {
     }
 
     /// The live slices, in the order put.
-    pub fn iter(&self) -> impl Iterator<Item = Kept> + '_ {
+    pub fn iter(&self) -> impl Iterator<Item = Kept<P>> + '_ {
         let slices = self.handles.iter().zip(&self.list);
-        slices.map(|(&handle, slice)| Kept {
-            handle: Handle(handle),
+        slices.map(|(&number, slice)| Kept {
+            handle: Handle::of_number(self.party, number),
             slice,
         })
     }
@@ -265,14 +322,15 @@ mod tests {
             handle: 11,
         };
         let mut store = Store::new();
-        let (handle, calls) = told([Reply::of(answer)], || store.put(slice()));
-        assert_eq!(handle.map(Handle::number), Ok(11));
+        let (handle, calls) = told([Reply::of(answer)], || store.put(Second, slice()));
+        assert_eq!(handle.map(|h| h.number()), Ok(11));
         let call = &calls[0];
         assert_eq!(call.entry, "store_put");
         assert_eq!(call.lent("put_at"), Lent::Counts(vec![2, 1, 3, 4]));
         let numbers = vec![1.0, 2.0, 3.0, 4.0, 5.0, 6.0];
         assert_eq!(call.lent("put"), Lent::Numbers(numbers));
         assert_eq!(call.lent("put_edition"), Lent::Code(77));
+        assert_eq!(call.lent("party"), Lent::Code(1));
         assert_eq!(call.lent("held"), Lent::Room(1792));
         assert_eq!(call.lent("slice_at"), Lent::Room(7168));
         assert_eq!(call.lent("slice"), Lent::Room(10752));
@@ -291,22 +349,23 @@ mod tests {
             vec![vec![1.0; 12]],
         )
         .with_editions(&[3, 4]);
-        let (listed, calls) = told([reply], || Store::new().list());
+        let (listed, calls) = told([reply], || Store::new().list(First));
         let listed = listed.unwrap();
         assert_eq!((listed.len(), listed.is_empty()), (2, false));
-        let kept: Vec<Kept> = listed.iter().collect();
-        assert_eq!(kept[0].handle, Handle::of_number(5));
+        let kept: Vec<Kept<First>> = listed.iter().collect();
+        assert_eq!(kept[0].handle, Handle::of_number(First, 5));
         assert_eq!(kept[1].slice.view.start_index, 8);
         assert_eq!(listed.editions(), [3, 4]);
         assert_eq!(kept[1].slice.view.edition, 4);
         let call = &calls[0];
         assert_eq!(call.lent("held"), Lent::Counts(vec![0; 1792]));
         assert_eq!(call.lent("slice_edition"), Lent::Editions(vec![0; 1792]));
+        assert_eq!(call.lent("party"), Lent::Code(0));
         for (room, len) in [
-            ("handles", 1792),
-            ("list_at", 7168),
-            ("list", 10752),
-            ("list_edition", 1792),
+            ("handles", 896),
+            ("list_at", 3584),
+            ("list", 5376),
+            ("list_edition", 896),
         ] {
             assert_eq!(call.lent(room), Lent::Room(len));
         }
@@ -326,10 +385,15 @@ mod tests {
         let dead = Reply::of(DoneAnswer { refusal: 21 });
         let done = Reply::of(DoneAnswer { refusal: 0 });
         let ((released, compacted), calls) = told([dead, done], || {
-            (store.release(Handle::of_number(9)), store.compact())
+            (
+                store.release(Handle::of_number(Second, 9)),
+                store.compact(First),
+            )
         });
         assert_eq!((released, compacted), (Err(Refusal::Handle), Ok(())));
         assert_eq!(calls[0].lent("handle"), Lent::Count(9));
+        let parties = [calls[0].lent("party"), calls[1].lent("party")];
+        assert_eq!(parties, [Lent::Code(1), Lent::Code(0)]);
         assert_eq!(
             calls[0].lent("slice_edition"),
             Lent::Editions(vec![0; 1792])

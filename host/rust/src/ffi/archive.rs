@@ -544,6 +544,7 @@ mod entries {
             slice_len: usize,
             slice_edition: *mut u32,
             slice_edition_len: usize,
+            party: u32,
             put_at: *const usize,
             put_at_len: usize,
             put: *const f64,
@@ -560,6 +561,7 @@ mod entries {
             slice_len: usize,
             slice_edition: *const u32,
             slice_edition_len: usize,
+            party: u32,
             handle: usize,
         ) -> DoneAnswer;
 
@@ -572,6 +574,7 @@ mod entries {
             slice_len: usize,
             slice_edition: *const u32,
             slice_edition_len: usize,
+            party: u32,
             handles: *mut usize,
             handles_len: usize,
             list_at: *mut usize,
@@ -591,6 +594,7 @@ mod entries {
             slice_len: usize,
             slice_edition: *mut u32,
             slice_edition_len: usize,
+            party: u32,
         ) -> DoneAnswer;
     }
 
@@ -1185,6 +1189,7 @@ mod entries {
         slice_at: &mut [usize],
         slice: &mut [f64],
         slice_edition: &mut [u32],
+        party: u32,
         put_at: &[usize],
         put: &[f64],
         put_edition: u32,
@@ -1200,6 +1205,7 @@ mod entries {
                 slice.len(),
                 slice_edition.as_mut_ptr(),
                 slice_edition.len(),
+                party,
                 put_at.as_ptr(),
                 put_at.len(),
                 put.as_ptr(),
@@ -1215,6 +1221,7 @@ mod entries {
         slice_at: &[usize],
         slice: &[f64],
         slice_edition: &[u32],
+        party: u32,
         handle: usize,
     ) -> DoneAnswer {
         // SAFETY: each pointer and length are those of one slice. Only `held`, a `&mut`, is written.
@@ -1228,6 +1235,7 @@ mod entries {
                 slice.len(),
                 slice_edition.as_ptr(),
                 slice_edition.len(),
+                party,
                 handle,
             )
         }
@@ -1240,6 +1248,7 @@ mod entries {
         slice_at: &[usize],
         slice: &[f64],
         slice_edition: &[u32],
+        party: u32,
         handles: &mut [usize],
         list_at: &mut [usize],
         list: &mut [f64],
@@ -1257,6 +1266,7 @@ mod entries {
                 slice.len(),
                 slice_edition.as_ptr(),
                 slice_edition.len(),
+                party,
                 handles.as_mut_ptr(),
                 handles.len(),
                 list_at.as_mut_ptr(),
@@ -1275,6 +1285,7 @@ mod entries {
         slice_at: &mut [usize],
         slice: &mut [f64],
         slice_edition: &mut [u32],
+        party: u32,
     ) -> DoneAnswer {
         // SAFETY: each pointer and length are those of one slice, which is `&mut`.
         unsafe {
@@ -1287,6 +1298,7 @@ mod entries {
                 slice.len(),
                 slice_edition.as_mut_ptr(),
                 slice_edition.len(),
+                party,
             )
         }
     }

@@ -321,7 +321,7 @@ fn assert_codes(name: &str, prefix: &str, here: impl IntoIterator<Item = (String
 #[test]
 fn codes_are_those_of_the_header() {
     let refusals = (1..=9)
-        .chain(14..=21)
+        .chain(14..=22)
         .map(|n| (header_name(Refusal::from_number(n).unwrap()), n));
     assert_codes("mask_refusal", "MASK_REFUSED_", refusals);
     let modes = Mode::ALL.map(|mode| (header_name(mode), mode.code()));

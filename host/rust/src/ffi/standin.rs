@@ -388,32 +388,34 @@ pub(crate) mod entries {
 
     pub(crate) fn store_put(
         held: &mut [usize], slice_at: &mut [usize], slice: &mut [f64], slice_edition: &mut [u32],
-        put_at: &[usize], put: &[f64], put_edition: u32,
+        party: u32, put_at: &[usize], put: &[f64], put_edition: u32,
     ) -> HandleAnswer {
-        let call = call!(store_put: put_at, put, put_edition; held, slice_at, slice, slice_edition);
+        let call = call!(store_put: party, put_at, put, put_edition; held, slice_at, slice, slice_edition);
         play_all(call, &mut [held, slice_at], &mut [slice], slice_edition).into()
     }
 
     pub(crate) fn store_release(
-        held: &mut [usize], slice_at: &[usize], slice: &[f64], slice_edition: &[u32], handle: usize,
+        held: &mut [usize], slice_at: &[usize], slice: &[f64], slice_edition: &[u32], party: u32,
+        handle: usize,
     ) -> DoneAnswer {
-        let call = call!(store_release: slice_at, slice, slice_edition, handle; held);
+        let call = call!(store_release: slice_at, slice, slice_edition, party, handle; held);
         play(call, &mut [held], &mut []).into()
     }
 
     pub(crate) fn store_list(
-        held: &[usize], slice_at: &[usize], slice: &[f64], slice_edition: &[u32],
+        held: &[usize], slice_at: &[usize], slice: &[f64], slice_edition: &[u32], party: u32,
         handles: &mut [usize], list_at: &mut [usize], list: &mut [f64], list_edition: &mut [u32],
     ) -> CountAnswer {
-        let call = call!(store_list: held, slice_at, slice, slice_edition;
+        let call = call!(store_list: held, slice_at, slice, slice_edition, party;
             handles, list_at, list, list_edition);
         play_all(call, &mut [handles, list_at], &mut [list], list_edition).into()
     }
 
     pub(crate) fn store_compact(
         held: &mut [usize], slice_at: &mut [usize], slice: &mut [f64], slice_edition: &mut [u32],
+        party: u32,
     ) -> DoneAnswer {
-        let call = call!(store_compact: ; held, slice_at, slice, slice_edition);
+        let call = call!(store_compact: party; held, slice_at, slice, slice_edition);
         play_all(call, &mut [held, slice_at], &mut [slice], slice_edition).into()
     }
 }

@@ -2,7 +2,8 @@
 
 use crate::shapes::{a, b, hits, masks, Draw, T};
 use mask_tools::{
-    stitch, Handle, Mode, Overlaps, Refusal, Slice, Source, Store, StraightHost, View,
+    stitch, First, Handle, Mode, Overlaps, Party, Refusal, Second, Slice, Source, Store,
+    StraightHost, View,
 };
 
 fn drawn_slice(draw: &mut Draw, edition: u32) -> Slice {
@@ -44,50 +45,67 @@ impl Plain {
     }
 }
 
-fn listed(store: &Store) -> Vec<(usize, Slice)> {
-    let list = store.list().unwrap();
+fn listed<P: Party>(store: &Store, party: P) -> Vec<(usize, Slice)> {
+    let list = store.list(party).unwrap();
     list.iter()
         .map(|kept| (kept.handle.number(), kept.slice))
         .collect()
 }
 
-#[test]
-fn drawn_calls_answer_as_a_plain_list() {
-    let mut draw = Draw(20260210);
-    let (mut store, mut plain) = (Store::new(), Plain::default());
-    for step in 0..4000 {
-        if draw.below(100) < 60 {
-            let slice = drawn_slice(&mut draw, step);
-            let given = store.put(slice).map(Handle::number);
-            assert_eq!(given, plain.put(slice, Store::PLACES));
-        } else {
-            let handle = draw.below(plain.live.len() + 3);
-            let given = store.release(Handle::of_number(handle));
-            assert_eq!(given, plain.release(handle));
-        }
-        if draw.below(50) == 0 {
-            store.compact().unwrap();
-        }
-        if draw.below(20) == 0 {
-            assert_eq!(listed(&store), plain.live);
-        }
+/// A drawn call of a party, beside its plain list.
+fn call<P: Party>(draw: &mut Draw, store: &mut Store, plain: &mut Plain, party: P, edition: u32) {
+    if draw.below(100) < 60 {
+        let slice = drawn_slice(draw, edition);
+        let given = store.put(party, slice).map(|h| h.number());
+        assert_eq!(given, plain.put(slice, Store::SHARE));
+    } else {
+        let handle = draw.below(plain.live.len() + 3);
+        let given = store.release(Handle::of_number(party, handle));
+        assert_eq!(given, plain.release(handle));
     }
-    assert_eq!(listed(&store), plain.live);
+    if draw.below(50) == 0 {
+        store.compact(party).unwrap();
+    }
 }
 
 #[test]
-fn a_full_store_is_20_and_a_bad_number_5() {
+fn drawn_calls_of_two_parties_answer_as_two_plain_lists() {
+    let mut draw = Draw(20260210);
+    let mut store = Store::new();
+    let (mut ours, mut theirs) = (Plain::default(), Plain::default());
+    for step in 0..5000 {
+        if draw.below(3) > 0 {
+            call(&mut draw, &mut store, &mut ours, First, step);
+        } else {
+            call(&mut draw, &mut store, &mut theirs, Second, step);
+        }
+        if draw.below(20) == 0 {
+            assert_eq!(listed(&store, First), ours.live);
+            assert_eq!(listed(&store, Second), theirs.live);
+        }
+    }
+    assert_eq!(listed(&store, First), ours.live);
+    assert_eq!(listed(&store, Second), theirs.live);
+}
+
+#[test]
+fn a_full_half_is_20_and_the_other_has_room() {
     let mut store = Store::new();
     let slice = drawn_slice(&mut Draw(7), 3);
-    for handle in 0..Store::PLACES {
-        assert_eq!(store.put(slice).map(Handle::number), Ok(handle));
+    for number in 0..Store::SHARE {
+        assert_eq!(store.put(First, slice).map(|h| h.number()), Ok(number));
     }
-    assert_eq!(store.put(slice), Err(Refusal::Full));
+    assert_eq!(store.put(First, slice), Err(Refusal::Full));
+    assert_eq!(store.put(Second, slice).map(|h| h.number()), Ok(0));
     let mut bad = slice;
     bad.view.end_point.x = f64::INFINITY;
-    assert_eq!(store.put(bad), Err(Refusal::Number));
-    store.release(Handle::of_number(5)).unwrap();
-    assert_eq!(store.put(slice).map(Handle::number), Ok(5));
+    assert_eq!(store.put(First, bad), Err(Refusal::Number));
+    store.release(Handle::of_number(First, 5)).unwrap();
+    assert_eq!(
+        store.release(Handle::of_number(Second, 5)),
+        Err(Refusal::Handle)
+    );
+    assert_eq!(store.put(First, slice).map(|h| h.number()), Ok(5));
 }
 
 #[test]
@@ -98,10 +116,10 @@ fn a_union_is_stitched_from_what_is_listed() {
         .unwrap();
     let mut store = Store::new();
     for slice in union.slices.iter() {
-        store.put(slice).unwrap();
+        store.put(Second, slice).unwrap();
     }
     let store = Store::from_bytes(&store.to_bytes()).unwrap();
-    let slices = store.list().unwrap().into_slices(union.slices.starts);
+    let slices = store.list(Second).unwrap().into_slices(union.slices.starts);
     assert_eq!(slices, union.slices);
     let stitched = stitch(&a, &b, &slices, Mode::Union.selector(), T).unwrap();
     assert_eq!(stitched, union.stitched);

@@ -6,14 +6,17 @@ use Rattle.store_entries.proofs.storing.compact.Tie as tie
 store-refusal-requires : tie.Need-store-refusal-requires
 store-refusal-requires c κs = search needs
 
+party-refusal-requires : tie.Need-party-refusal-requires
+party-refusal-requires c κs = search needs
+
 done-refused-requires : tie.Need-done-refused-requires
 done-refused-requires c κs = search needs
 
 returns : tie.Need-returns
 returns c = search compact-refused
 
-compact-slices-requires : tie.Need-compact-slices-requires
-compact-slices-requires c κs = search compact-fits
+compact-requires : tie.Need-compact-requires
+compact-requires c κs = search compact-fits
 
 done-from-requires : tie.Need-done-from-requires
 done-from-requires c κs = search needs
@@ -38,9 +41,10 @@ compact-spec =
     tie.close
     (tie.spec
     store-refusal-requires
+    party-refusal-requires
     done-refused-requires
     returns
-    compact-slices-requires
+    compact-requires
     done-from-requires
     same-length
     same-length-2

@@ -9,16 +9,19 @@ store-refusal-requires c κs = search needs
 room-refusal-requires : tie.Need-room-refusal-requires
 room-refusal-requires c κs = search needs
 
+party-refusal-requires : tie.Need-party-refusal-requires
+party-refusal-requires c κs = search needs
+
 count-refused-requires : tie.Need-count-refused-requires
 count-refused-requires c κs = search needs
 
 returns : tie.Need-returns
 returns c = search list-refused
 
-list-slices-requires : tie.Need-list-slices-requires
-list-slices-requires c κs =
+list-requires : tie.Need-list-requires
+list-requires c κs =
     let tested = c .before .before .before .before in
-    list-fits _ _ _ _ _ _ _ _ _ _ (tested .before .before .store-refusal .ensures) (tested .before .room-refusal .ensures) (tested .if1 .left)
+    list-fits _ _ _ _ _ _ _ _ _ _ _ _ (tested .before .before .before .store-refusal .ensures) (tested .before .before .room-refusal .ensures) (tested .before .party-refusal .ensures) (tested .if1 .left)
 
 counted-as-requires : tie.Need-counted-as-requires
 counted-as-requires c κs = search needs
@@ -44,9 +47,10 @@ list-spec =
     (tie.spec
     store-refusal-requires
     room-refusal-requires
+    party-refusal-requires
     count-refused-requires
     returns
-    list-slices-requires
+    list-requires
     counted-as-requires
     same-length
     same-length-2

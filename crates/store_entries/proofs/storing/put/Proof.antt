@@ -9,14 +9,19 @@ store-refusal-requires c κs = search needs
 slice-refusal-requires : tie.Need-slice-refusal-requires
 slice-refusal-requires c κs = search needs
 
+party-refusal-requires : tie.Need-party-refusal-requires
+party-refusal-requires c κs = search needs
+
 handle-refused-requires : tie.Need-handle-refused-requires
 handle-refused-requires c κs = search needs
 
 returns : tie.Need-returns
 returns c = search put-refused
 
-put-slice-requires : tie.Need-put-slice-requires
-put-slice-requires c κs = search put-fits
+put-requires : tie.Need-put-requires
+put-requires c κs =
+    let tested = c .before .before .before .before in
+    put-fits _ _ _ _ _ _ _ _ _ _ _ (tested .before .before .before .store-refusal .ensures) (tested .before .before .slice-refusal .ensures) (tested .before .party-refusal .ensures) (tested .if1 .left)
 
 handle-from-requires : tie.Need-handle-from-requires
 handle-from-requires c κs = search needs
@@ -42,9 +47,10 @@ put-spec =
     (tie.spec
     store-refusal-requires
     slice-refusal-requires
+    party-refusal-requires
     handle-refused-requires
     returns
-    put-slice-requires
+    put-requires
     handle-from-requires
     same-length
     same-length-2

@@ -6,14 +6,17 @@ use Rattle.store_entries.proofs.storing.release.Tie as tie
 store-refusal-requires : tie.Need-store-refusal-requires
 store-refusal-requires c κs = search needs
 
+party-refusal-requires : tie.Need-party-refusal-requires
+party-refusal-requires c κs = search needs
+
 done-refused-requires : tie.Need-done-refused-requires
 done-refused-requires c κs = search needs
 
 returns : tie.Need-returns
 returns c = search release-refused
 
-release-slice-requires : tie.Need-release-slice-requires
-release-slice-requires c κs = search release-fits
+release-requires : tie.Need-release-requires
+release-requires c κs = search release-fits
 
 done-from-requires : tie.Need-done-from-requires
 done-from-requires c κs = search needs
@@ -29,9 +32,10 @@ release-spec =
     tie.close
     (tie.spec
     store-refusal-requires
+    party-refusal-requires
     done-refused-requires
     returns
-    release-slice-requires
+    release-requires
     done-from-requires
     same-length
     returns-2)
