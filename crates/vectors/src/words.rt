@@ -119,7 +119,7 @@ pub(crate) fn editions(l: &[u32], n: usize) -> &[u32] {
     if n > l.len() {
         return &l[..0];
     }
-    &l[..n]
+    &l[0..n]
 }
 
 // A word's pattern is a NaN's.

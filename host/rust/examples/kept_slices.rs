@@ -4,21 +4,24 @@
 //! lists is stitched.
 
 use mask_tools::{
-    prune, stitch, First, Intersection, Intersections, Masks, Mode, OnSegment, Outline, Overlaps,
-    Point, Refusal, Second, Slices, Source, Store, StraightHost, Tolerance, Verdict, Vertex,
+    prune, stitch, First, Intersection, Intersections, Masks, Mode, Named, OnSegment, Outline,
+    Overlaps, Point, Refusal, Second, Setting, Settings, Slices, Source, Store, StraightHost,
+    Tolerance, Verdict, Vertex,
 };
 
-const T: Tolerance = Tolerance::new(1.0 / 1024.0);
-
 /// Both outlines cut, and what the union keeps of them.
-fn cut(a: &Outline, b: &Outline, crossings: &Intersections) -> Result<Slices, Refusal> {
+fn cut(
+    a: &Outline,
+    b: &Outline,
+    crossings: &Intersections,
+    setting: Named<'_>,
+) -> Result<Slices, Refusal> {
     let masks = Masks {
         pline1: a,
         pline2: b,
         intersections: crossings,
         overlaps: &Overlaps::new(),
-        tolerance: T,
-        area_limit: None,
+        setting,
     };
     let of_a = masks.answered(Source::Pline1, &mut StraightHost)?;
     let of_b = masks.answered(Source::Pline2, &mut StraightHost)?;
@@ -32,6 +35,12 @@ fn cut(a: &Outline, b: &Outline, crossings: &Intersections) -> Result<Slices, Re
 }
 
 fn main() -> Result<(), Refusal> {
+    let mut settings = Settings::new();
+    let edition = settings.enter(Setting {
+        tolerance: Tolerance::new(1.0 / 1024.0),
+        area_limit: 0.0,
+    })?;
+    let setting = settings.named(edition);
     let a = Outline::straight(&[(0.0, 0.0), (4.0, 0.0), (4.0, 4.0), (0.0, 4.0)]);
     let b = Outline::straight(&[(2.0, 2.0), (6.0, 2.0), (6.0, 6.0), (2.0, 6.0)]);
     let crossing = |start_index1, start_index2, x, y| Intersection {
@@ -42,7 +51,7 @@ fn main() -> Result<(), Refusal> {
     let crossings = Intersections::from([crossing(1, 0, 4.0, 2.0), crossing(2, 3, 2.0, 4.0)]);
 
     // The first run. The slices are put in the order of pruning.
-    let slices = cut(&a, &b, &crossings)?;
+    let slices = cut(&a, &b, &crossings, setting)?;
     let mut store = Store::new();
     for slice in slices.iter() {
         store.put(First, slice)?;
@@ -64,12 +73,12 @@ fn main() -> Result<(), Refusal> {
     };
     let selector = Mode::Union.selector();
     let old = store.list(First)?.into_slices(slices.starts);
-    let stitched = stitch(&late_a, &late_b, &old, selector, T);
+    let stitched = stitch(&late_a, &late_b, &old, selector, setting);
     assert_eq!(stitched, Err(Refusal::Edition));
 
     // The late ones, by their edition. Each is put again where it stood in the order, which the stitch
     // goes by: here all are late.
-    let again = cut(&late_a, &late_b, &crossings)?;
+    let again = cut(&late_a, &late_b, &crossings, setting)?;
     for kept in store.list(First)?.iter() {
         let mut slice = kept.slice;
         let (before, now) = outlines(slice.source);
@@ -96,7 +105,7 @@ fn main() -> Result<(), Refusal> {
     // What is listed goes straight into a stitch.
     store.compact(First)?;
     let kept = store.list(First)?.into_slices(slices.starts);
-    for lp in stitch(&late_a, &late_b, &kept, selector, T)?.loops() {
+    for lp in stitch(&late_a, &late_b, &kept, selector, setting)?.loops() {
         let corners: Vec<String> = lp.iter().map(|v| format!("({},{})", v.x, v.y)).collect();
         println!("{}", corners.join(" "));
     }

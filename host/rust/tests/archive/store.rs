@@ -1,6 +1,6 @@
 //! The store beside a plain list, and a stitch of what it lists.
 
-use crate::shapes::{a, b, hits, masks, Draw, T};
+use crate::shapes::{a, b, hits, masks, plain, Draw};
 use mask_tools::{
     stitch, First, Handle, Mode, Overlaps, Party, Refusal, Second, Slice, Source, Store,
     StraightHost, View,
@@ -121,6 +121,6 @@ fn a_union_is_stitched_from_what_is_listed() {
     let store = Store::from_bytes(&store.to_bytes()).unwrap();
     let slices = store.list(Second).unwrap().into_slices(union.slices.starts);
     assert_eq!(slices, union.slices);
-    let stitched = stitch(&a, &b, &slices, Mode::Union.selector(), T).unwrap();
+    let stitched = stitch(&a, &b, &slices, Mode::Union.selector(), plain()).unwrap();
     assert_eq!(stitched, union.stitched);
 }
