@@ -176,10 +176,12 @@ fn left_chains(
 }
 
 // The list of a record with one setting. Any numbers are some setting.
-fn set_one(settings: &mut [f64; 48], tolerance: f64, limit: f64) {
+fn one_setting(tolerance: f64, limit: f64) -> [f64; 48] {
+    let mut settings = [0.0; 48];
     settings[0] = tolerance;
     settings[1] = tolerance;
     settings[2] = limit;
+    settings
 }
 
 pub(crate) fn stitch(
@@ -206,8 +208,7 @@ pub(crate) fn stitch(
     let r = words::from(w, slices);
     let zeros = [0u32; 1792];
     let entered = [1usize];
-    let mut settings = [0.0; 48];
-    set_one(&mut settings, words::float_after(x, slices, 5), 0.0);
+    let settings = one_setting(words::float_after(x, slices, 5), 0.0);
     let answer = mask::stitching::mask_stitch(
         words::numbers(w, x, 1),
         words::at(w, vc1),
@@ -243,8 +244,7 @@ pub(crate) fn area_pass(w: &[usize], x: &[f64], c1: &mut [usize]) -> bool {
     let kept = words::after(w, loops, 2);
     let end = words::behind(w, kept);
     let entered = [1usize];
-    let mut settings = [0.0; 48];
-    set_one(&mut settings, 1.0, words::float_after(x, loops, 1));
+    let settings = one_setting(1.0, words::float_after(x, loops, 1));
     let answer = mask::stitching::mask_area_pass(
         words::numbers(w, x, 1),
         words::at(w, loops),
