@@ -184,9 +184,30 @@ fn one_setting(tolerance: f64, limit: f64) -> [f64; 48] {
     settings
 }
 
+// The place of the slice count: behind both outlines and the slices' two lists.
+fn slices_place(w: &[usize]) -> usize {
+    let outline2 = words::after(w, words::behind(w, 1), 1);
+    let slice_at = words::after(w, words::behind(w, outline2), 1);
+    words::behind(w, words::behind(w, slice_at))
+}
+
 pub(crate) fn stitch(
     w: &[usize],
     x: &[f64],
+    x1: &mut [f64],
+    c1: &mut [usize],
+    c2: &mut [usize],
+    c3: &mut [usize],
+    c4: &mut [usize],
+) -> bool {
+    let settings = one_setting(words::float_after(x, slices_place(w), 5), 0.0);
+    stitch_by(w, x, &settings, x1, c1, c2, c3, c4)
+}
+
+fn stitch_by(
+    w: &[usize],
+    x: &[f64],
+    settings: &[f64],
     x1: &mut [f64],
     c1: &mut [usize],
     c2: &mut [usize],
@@ -208,7 +229,6 @@ pub(crate) fn stitch(
     let r = words::from(w, slices);
     let zeros = [0u32; 1792];
     let entered = [1usize];
-    let settings = one_setting(words::float_after(x, slices, 5), 0.0);
     let answer = mask::stitching::mask_stitch(
         words::numbers(w, x, 1),
         words::at(w, vc1),
@@ -225,7 +245,7 @@ pub(crate) fn stitch(
         words::at(r, 3),
         words::code_at(r, 4),
         &entered,
-        &settings,
+        settings,
         1,
         words::lent_numbers(w, x1, room),
         words::lent_counts(w, c1, ends),
