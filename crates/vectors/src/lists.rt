@@ -176,15 +176,38 @@ fn left_chains(
 }
 
 // The list of a record with one setting. Any numbers are some setting.
-fn set_one(settings: &mut [f64; 48], tolerance: f64, limit: f64) {
+fn one_setting(tolerance: f64, limit: f64) -> [f64; 48] {
+    let mut settings = [0.0; 48];
     settings[0] = tolerance;
     settings[1] = tolerance;
     settings[2] = limit;
+    settings
+}
+
+// The place of the slice count: behind both outlines and the slices' two lists.
+fn slices_place(w: &[usize]) -> usize {
+    let outline2 = words::after(w, words::behind(w, 1), 1);
+    let slice_at = words::after(w, words::behind(w, outline2), 1);
+    words::behind(w, words::behind(w, slice_at))
 }
 
 pub(crate) fn stitch(
     w: &[usize],
     x: &[f64],
+    x1: &mut [f64],
+    c1: &mut [usize],
+    c2: &mut [usize],
+    c3: &mut [usize],
+    c4: &mut [usize],
+) -> bool {
+    let settings = one_setting(words::float_after(x, slices_place(w), 5), 0.0);
+    stitch_by(w, x, &settings, x1, c1, c2, c3, c4)
+}
+
+fn stitch_by(
+    w: &[usize],
+    x: &[f64],
+    settings: &[f64],
     x1: &mut [f64],
     c1: &mut [usize],
     c2: &mut [usize],
@@ -206,8 +229,6 @@ pub(crate) fn stitch(
     let r = words::from(w, slices);
     let zeros = [0u32; 1792];
     let entered = [1usize];
-    let mut settings = [0.0; 48];
-    set_one(&mut settings, words::float_after(x, slices, 5), 0.0);
     let answer = mask::stitching::mask_stitch(
         words::numbers(w, x, 1),
         words::at(w, vc1),
@@ -224,7 +245,7 @@ pub(crate) fn stitch(
         words::at(r, 3),
         words::code_at(r, 4),
         &entered,
-        &settings,
+        settings,
         1,
         words::lent_numbers(w, x1, room),
         words::lent_counts(w, c1, ends),
@@ -243,8 +264,7 @@ pub(crate) fn area_pass(w: &[usize], x: &[f64], c1: &mut [usize]) -> bool {
     let kept = words::after(w, loops, 2);
     let end = words::behind(w, kept);
     let entered = [1usize];
-    let mut settings = [0.0; 48];
-    set_one(&mut settings, 1.0, words::float_after(x, loops, 1));
+    let settings = one_setting(1.0, words::float_after(x, loops, 1));
     let answer = mask::stitching::mask_area_pass(
         words::numbers(w, x, 1),
         words::at(w, loops),
