@@ -34,6 +34,8 @@ use Rattle.area_entries.specs.AreaEntry.{areaRows, areaRefusal}
 use Rattle.straight_entries.specs.WindingEntry.{windingRows, windingRefusal}
 use Rattle.straight_entries.specs.AreaEntry as straight
 use Rattle.straight_entries.specs.ReportEntry.{reportRows, reportRefusal}
+use Rattle.straight_slices.specs.Slices.{Given}
+use Rattle.straight_slices.specs.Rows as slices
 
 pub vertex-first : (o : List Float) (vc : ℕ) (v : View) → First (viewVertexRows o vc v) (viewVertexRefusal o vc v)
 unfolding viewVertexRefusal before refusalOrder
@@ -90,3 +92,7 @@ straight-area-first o vc = first-of (straight.areaRows o vc) tt
 pub report-first : (points : List ℤ) (ends : List ℕ) (loops : ℕ) → First (reportRows points ends loops) (reportRefusal points ends loops)
 unfolding reportRefusal before refusalOrder
 report-first points ends loops = first-of (reportRows points ends loops) tt
+
+pub slices-first : (g : Given) (at slice edition : ℕ) → First (slices.slicesRows g at slice edition) (slices.slicesRefusal g at slice edition)
+unfolding slices.slicesRefusal slices.inputRows listRows before refusalOrder
+slices-first g at slice edition = first-of (slices.slicesRows g at slice edition) tt
