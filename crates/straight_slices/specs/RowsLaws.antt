@@ -15,9 +15,7 @@ use Rattle.cut.specs.Cuts.{whichOf}
 use Rattle.cut_entries.specs.CutRows as cuts
 use Rattle.cut_entries.specs.CutRowsLaws.{CutsPass, cuts-accepted, few-listed}
 use Rattle.cut_entries.specs.CutRows.{FewCuts}
-use Rattle.prune.specs.declared.call.Call.{Call}
 use Rattle.prune.specs.declared.counts.Pruned.{Pruned}
-use Rattle.prune.specs.Prune.{needOf}
 use Rattle.prune.specs.Ready.{Few}
 use Rattle.prune_write.specs.Ready.{WrittenTo}
 use Rattle.prune_entries.specs.declared.answer.PruneAnswer.{PruneAnswer}
@@ -127,14 +125,14 @@ module _ (g : Given) (found : ℕ) (e : found ≡ firstFrom 0 (inputRows g)) whe
   pub input-few : found ≡ 0 → FewCuts (g .job .hits + 2 * g .job .laps)
   input-few z = let c = first-pass g (clean z) in record { few = omega (arith, c .fewHits, c .fewLaps) }
 
-  pub call-few : (call : Call) → found ≡ 0 → call ≡ mostCall (g .job) → Few call
-  call-few call z q =
+  pub call-few : found ≡ 0 → Few (mostCall (g .job))
+  call-few z =
       let c = first-pass g (clean z) in
-      rw q (record { first = omega (arith, c .fewHits, c .fewLaps); second = omega (arith, c .fewHits, c .fewLaps); laps = c .fewLaps })
+      record { first = omega (arith, c .fewHits, c .fewLaps); second = omega (arith, c .fewHits, c .fewLaps); laps = c .fewLaps }
 
-  pub need-countable : (need : ℕ) (call : Call) → found ≡ 0 → call ≡ mostCall (g .job) → need ≡ needOf call → Countable need
-  need-countable need call z q n =
-      let f = call-few call z q in
+  pub need-countable : (need : ℕ) → found ≡ 0 → need ≡ needAll (g .job) → Countable need
+  need-countable need z n =
+      let f = call-few z in
       record { few = omega (arith, n, f .first, f .second, f .laps) }
 
   pub input-found : (at slice edition : ℕ) → (found ≡ 0 → ⊥) → found ≡ slicesRefusal g at slice edition
@@ -179,7 +177,23 @@ module _ (g : Given) (l : Rooms) (number : ℕ) (is : number ≡ slicesNumber g 
         edition = answer-yes (λ _. l .edition) number _ _ (left .edition) is z (w .edition);
       }
 
--- what is handed in was found in order, and the need was worked out
-pub is-number : (g : Given) (l : Rooms) (found need number : ℕ) (call : Call) → found ≡ firstFrom 0 (inputRows g) → found ≡ 0 → call ≡ mostCall (g .job) → need ≡ needOf call
-    → number ≡ firstFrom 0 (roomRows need (length (l .at)) (length (l .shape)) (length (l .edition))) → number ≡ slicesNumber g l
-is-number g l found need number call e z q n f = lent-found g found e (length (l .at)) (length (l .shape)) (length (l .edition)) number z (rw (n, q) at f)
+-- what is handed in is refused
+pub input-refused : (g : Given) (l : Rooms) (found : ℕ) (r : PruneAnswer) → found ≡ firstFrom 0 (inputRows g) → (found ≡ 0 → ⊥) → r ≡ pruneRefused found → SlicesLeft g l r l
+input-refused g l found r e h q = slices-refused g l found (input-found g found e (length (l .at)) (length (l .shape)) (length (l .edition)) h) r h q
+
+-- it is not, and the need was worked out
+module _ (g : Given) (l : Rooms) (found need number : ℕ) (e : found ≡ firstFrom 0 (inputRows g)) (z : found ≡ 0) (n : need ≡ needAll (g .job))
+    (f : number ≡ firstFrom 0 (roomRows need (length (l .at)) (length (l .shape)) (length (l .edition)))) where
+  is-number : number ≡ slicesNumber g l
+  is-number = lent-found g found e (length (l .at)) (length (l .shape)) (length (l .edition)) number z (rw n at f)
+
+  pub lent-refused : (r : PruneAnswer) → (number ≡ 0 → ⊥) → r ≡ pruneRefused number → SlicesLeft g l r l
+  lent-refused r h q = slices-refused g l number is-number r h q
+
+  pub accepted-ready : number ≡ 0 → Accepted g l
+  accepted-ready y = slices-accepted g l number is-number y
+
+  pub accepted-given : (p : Pruned) (r : PruneAnswer) (left : Rooms) → number ≡ 0 → WrittenTo (pruning g) (needAll (g .job)) l p left → r ≡ pruneGiven p → SlicesLeft g l r left
+  accepted-given p r left y w q = slices-given g l number is-number p r left y w q
+
+pub ruleset slicing = (input-refused, input-few, need-countable, lent-refused, accepted-ready, accepted-given)

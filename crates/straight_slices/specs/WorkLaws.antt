@@ -12,7 +12,6 @@ use Rattle.slice.specs.Slice.{Slice}
 use Rattle.slice.specs.Ready.{Rooms, Roomy}
 use Rattle.cut.specs.Cuts as cuts
 use Rattle.cut_entries.specs.CutRows.{FewCuts}
-use Rattle.prune.specs.declared.call.Call.{Call}
 use Rattle.prune.specs.declared.mode.Parts.{Parts}
 use Rattle.prune.specs.declared.counts.Ends.{Ends}
 use Rattle.prune.specs.declared.counts.Pruned.{Pruned}
@@ -91,24 +90,22 @@ pub both-made : (g : Given) (l l₁ l₂ : Rooms) (a b : ℕ) (p : Parts) → p 
 both-made g l l₁ l₂ a b p e x y = both-of (pruning g .call) (firstCands g) (secondCands g) l l₁ a p l₂ b e x y
 
 -- then the overlaps twice, and zero up to the need
-module _ (g : Given) (l l₁ : Rooms) (kept : Ends) (k : Accepted g l) (w : BothWritten (pruning g .call) (firstCands g) (secondCands g) l kept l₁) (call : Call) (e : call ≡ mostCall (g .job)) where
+module _ (g : Given) (l l₁ : Rooms) (kept : Ends) (k : Accepted g l) (w : BothWritten (pruning g .call) (firstCands g) (secondCands g) l kept l₁) where
   roomy₁ : Roomy (needAll (g .job)) l₁
   roomy₁ = let r = k .roomy in record { at = omega (arith, r .at, w .wrote .size-at); shape = omega (arith, r .shape, w .wrote .size-shape); edition = omega (arith, r .edition, w .wrote .size-edition) }
 
-  pub finish-fit : FinishFit call kept (overlaps (g .lapAt) (g .lap) (g .lapEdition)) l₁
+  pub finish-fit : FinishFit (mostCall (g .job)) kept (overlaps (g .lapAt) (g .lap) (g .lapEdition)) l₁
   finish-fit =
       let c = k .first .ready in
-      rw e
-      (record {
+      record {
         few = record { first = omega (arith, c .fewHits, c .fewLaps); second = omega (arith, c .fewHits, c .fewLaps); laps = c .fewLaps };
         laps = k .laps;
         within = omega (arith, w .wrote .few, first-few g, second-few g);
         roomy = roomy₁;
-      })
+      }
 
-  pub finish-written : (r : Pruned) (l₂ : Rooms) → Finished call kept (overlaps (g .lapAt) (g .lap) (g .lapEdition)) l₁ r l₂ → WrittenTo (pruning g) (needAll (g .job)) l r l₂
-  finish-written r l₂ f₀ =
-      let f : Finished (mostCall (g .job)) kept (overlaps (g .lapAt) (g .lap) (g .lapEdition)) l₁ r l₂ = rw e at f₀ in
+  pub finish-written : (r : Pruned) (l₂ : Rooms) → Finished (mostCall (g .job)) kept (overlaps (g .lapAt) (g .lap) (g .lapEdition)) l₁ r l₂ → WrittenTo (pruning g) (needAll (g .job)) l r l₂
+  finish-written r l₂ f =
       written-to (pruning g .call) (firstCands g) (secondCands g) (overlaps (g .lapAt) (g .lap) (g .lapEdition)) l l₁ kept (needAll (g .job)) (f .twice) (f .between) l₂ r (omega (arith, first-few g, second-few g)) roomy₁ w (f .wrote) (f .rest) (f .answer)
 
 -- ---- lists of the two sizes

@@ -2,12 +2,12 @@
 ghost use Rattle.slice.specs.Ready.{rooms};
 ghost use Rattle.straight_slices.specs.Slices.{given};
 ghost use Rattle.straight_slices.specs.Rows.{SlicesLeft};
+use crate::answer;
 use crate::faults;
 use crate::job::Job;
 use crate::slicing;
 use prune::call;
 use prune::call::Call;
-use prune_entries::answer;
 use prune_entries::answer::PruneAnswer;
 
 // The slices of a mode of two straight masks: the candidates of each outline that stay, then the overlaps for each outline.
@@ -28,7 +28,7 @@ pub fn entry(
 {
     let found = faults::input_refusal(job, outline1, outline2, hit_at, hit, lap_at, lap, lap_edition);
     if found != 0 {
-        return answer::prune_refused(found);
+        return answer::refused(found);
     }
     let count = job.hits + 2 * job.laps;
     let call = Call {
@@ -41,16 +41,16 @@ pub fn entry(
         laps: job.laps,
     };
     let need = call::need_of(call);
-    let found = prune_entries::faults::lent_refusal(
+    let found = faults::lent_refusal(
         need,
         slice_at.len(),
         slice.len(),
         slice_edition.len(),
     );
     if found != 0 {
-        return answer::prune_refused(found);
+        return answer::refused(found);
     }
-    answer::prune_given(slicing::sliced(
+    answer::given(slicing::sliced(
         job,
         outline1,
         outline2,

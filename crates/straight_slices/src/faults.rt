@@ -2,6 +2,8 @@
 ghost use mathlib.Core.Path.{_≡_};
 ghost use Prim.Native.Nat.{_+_, _*_};
 ghost use Rattle.basis.specs.Refuse.{firstFrom};
+ghost use Rattle.slice.specs.Ready.{Countable};
+ghost use Rattle.prune_entries.specs.PruneRows.{roomRows};
 ghost use Rattle.straight_slices.specs.Slices.{given};
 ghost use Rattle.straight_slices.specs.Rows.{moreListRows, listRows, codeRows, numberRows, straightRows, indexRows, inputRows};
 use crate::job::Job;
@@ -10,6 +12,7 @@ use basis::number;
 use basis::number::Tolerance;
 use basis::refuse;
 use cut::arrival::Case;
+use slice::edition as editions;
 use straight_cut::flat;
 
 const MOST_MODE: u32 = 3;
@@ -124,4 +127,13 @@ pub(crate) fn input_refusal(
     let r = number_refusal(r, job.tolerance, outline1, outline2, hit, lap);
     let r = straight_refusal(r, outline1, outline2, hit, lap);
     index_refusal(r, job, hit_at, lap_at)
+}
+
+// Number 9: the three lists are too short for so many slices.
+pub(crate) fn lent_refusal(need: usize, at: usize, slice: usize, edition: usize) -> u32
+    requires { ⌜ Countable need ⌝ }
+    ensures { λ n. ⌜ n ≡ firstFrom 0 (roomRows need at slice edition) ⌝ }
+{
+    let r = slice::faults::room_refusal(0, need, at, slice);
+    editions::room_refusal(r, need, edition)
 }
