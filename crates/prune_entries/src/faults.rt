@@ -33,13 +33,7 @@ pub(crate) fn cand_list_refusal(
 }
 
 // Number 1, of the overlaps.
-pub(crate) fn lap_list_refusal(
-    r: u32,
-    at: usize,
-    lap: usize,
-    edition: usize,
-    laps: usize,
-) -> u32
+pub(crate) fn lap_list_refusal(r: u32, at: usize, lap: usize, edition: usize, laps: usize) -> u32
     ensures { λ n. ⌜ n ≡ firstFrom r (lapListRows at lap edition laps) ⌝ }
 {
     let r = refuse::or_else(r, refuse::bad_length(at, 7, laps), 1);

@@ -4,7 +4,7 @@ use mathlib.Core.Bool.{Bool, not, _&&_}
 use mathlib.Core.List.{List, [], _∷_, _++_, map}
 use mathlib.Core.Path.{_≡_}
 use lib.Dec.{ltb, leb, eqb}
-use lib.ListN.{length, getD, take, drop}
+use lib.ListN.{length, getD, take, drop, replicate}
 use lib.Ieee.{Float}
 use Rattle.basis.specs.Number.{+0, alike}
 use Rattle.basis.specs.Refuse.{Row, row, firstOf, answer}
@@ -12,6 +12,7 @@ use Rattle.basis.specs.Room.{roomOf}
 use Rattle.fields.specs.Fields.{size, valueOf, pack, unpack, numOf, bitsOf}
 use Rattle.slice.specs.Slice.{codeWidth, shapeWidth}
 use Rattle.slice.specs.Faults as slices
+use Rattle.slice.specs.Editions.{Editions, editions}
 use Rattle.stitch_run.specs.declared.plan.Plan.{Plan}
 use Rattle.stitch_run.specs.Stitch.{Given, given, planOf}
 use Rattle.record.specs.declared.head.Seen.{Seen}
@@ -76,6 +77,10 @@ listsFrom stride p vs = lists (outline1From p vs) (outline2From p vs) (codesFrom
 -- the stitch
 unfoldable pub stitchIn : Form → List ℕ → Given
 stitchIn f b = let p = headIn f b in stitchBy (listsFrom (length (f .entry)) p (bodyIn (size (f .head)) (f .entry) p b)) p
+
+-- its editions. K3: "`PBR` version 1 records leave editions out and read as edition 0 throughout"
+abbrev pub editionsIn : ℕ → Editions
+editionsIn slices = editions 0 0 (replicate slices 0)
 
 -- ---- refusals, in the order looked at
 

@@ -17,13 +17,14 @@ use Rattle.slice.specs.Slice.{codeWidth, shapeWidth, codesAt}
 use Rattle.slice.specs.SliceLaws.{offset-at}
 use Rattle.stitch_run.specs.Stitch.{Given, sumBelow, weightAt, needFor, needOf}
 use Rattle.stitch.specs.Lent.{Lists}
-use Rattle.stitch_entries.specs.StitchEntry.{listPart, codePart, numberPart, indexPart, shapeRows, roomPart, lengthsOf, stitchRefusal, stitchNumber}
+use Rattle.stitch_entries.specs.StitchEntry.{listPart, codePart, numberPart, indexPart, shapeRows, roomPart, lengthsOf, stitchNumber}
+use Rattle.stitch_entries.specs.Matching.{Matched, baseRefusal, base-number, one-matched}
 use Rattle.fields.specs.Fields.{size}
 use Rattle.record.specs.Form.{form1, takenVertices, takenSlices}
 use Rattle.record.specs.Record.{planIn, headIn, stitchIn, frameRows, lengthIn, takenRows, countRows, roomRows, takenLengths, readRows}
 use Rattle.record.specs.RecordLaws.{Long, read-long, counts-small}
 use Rattle.record_replay.specs.declared.replay.ReplayAnswer.{ReplayAnswer}
-use Rattle.record_replay.specs.Replayed.{heldIn, formNumber, replayNumber, ReplayLeft}
+use Rattle.record_replay.specs.Replayed.{heldIn, datesIn, formNumber, replayNumber, ReplayLeft}
 
 -- two answers that the contract permits, with what they leave in the lists, are equal
 pub replay-one : (b : List ℕ) (l : Lists) (r s : ReplayAnswer) (x y : Lists) → ReplayLeft b l r x → ReplayLeft b l s y
@@ -67,6 +68,10 @@ module _ (b : List ℕ) where
   -- the lists that are read are as long as the counts say
   long : Long g
   long = read-long form1 b (omega arith)
+
+  -- edition 0 throughout matches: a replay never gives 14
+  dated : Matched g (datesIn b)
+  dated = one-matched g 0 (long .codes)
 
   -- the plan is that of the head
   same-plan : headIn form1 b ≡ planIn g
@@ -124,12 +129,12 @@ module _ (b : List ℕ) where
     unfolding replayNumber
     found-number h =
         let n : formNumber b ≡ firstOf (framed ++ counted) = read-number ∙ first-found (framed ++ counted) lent h in
-        sym (answer-no (λ (k : ℕ). k) (formNumber b) (formNumber b) (stitchNumber g x) (formNumber b) refl (λ z. h (sym n ∙ z)) refl)
+        sym (answer-no (λ (k : ℕ). k) (formNumber b) (formNumber b) (stitchNumber g (datesIn b) x) (formNumber b) refl (λ z. h (sym n ∙ z)) refl)
         ∙ n ∙ sym (first-found (framed ++ counted) rest h) ∙ sym table-number
 
     -- they do not: the stitch's own rows decide
     stitch-number : Clear (framed ++ counted) → replayNumber b x ≡ firstOf (replayRows b x)
-    unfolding replayNumber stitchRefusal
+    unfolding replayNumber baseRefusal
     stitch-number c =
         let d : Clear counted = clear-right framed counted c in
         let few : g .slices ≤ takenSlices = rw same-plan at (ltb-false takenSlices (headIn form1 b .slices) (d .1 .0)) in
@@ -144,8 +149,8 @@ module _ (b : List ℕ) where
             ),
           ),
         ) in
-        sym (answer-yes (λ (k : ℕ). k) (formNumber b) (formNumber b) (stitchNumber g x) (stitchNumber g x) refl n refl)
-        ∙ first-later (listPart g) rest lists ∙ sym (first-later (framed ++ counted) rest c) ∙ sym table-number
+        sym (answer-yes (λ (k : ℕ). k) (formNumber b) (formNumber b) (stitchNumber g (datesIn b) x) (stitchNumber g (datesIn b) x) refl n refl)
+        ∙ base-number g (datesIn b) (lengthsOf x) dated ∙ first-later (listPart g) rest lists ∙ sym (first-later (framed ++ counted) rest c) ∙ sym table-number
 
     replay-number : replayNumber b x ≡ firstOf (replayRows b x)
     replay-number =
@@ -225,24 +230,24 @@ module _ (b : List ℕ) (z : formNumber b ≡ 0) where
         ),
       )
 
-      clear-number : stitchNumber (g b) x ≡ firstOf (shapeRows (g b))
-      unfolding stitchRefusal
-      clear-number = first-later (shapeRows (g b)) rooms ok ∙ none-clear rooms rooms-clear ∙ sym (none-clear (shapeRows (g b)) ok)
+      clear-number : stitchNumber (g b) (datesIn b) x ≡ firstOf (shapeRows (g b))
+      unfolding baseRefusal
+      clear-number = base-number (g b) (datesIn b) (lengthsOf x) (dated b) ∙ first-later (shapeRows (g b)) rooms ok ∙ none-clear rooms rooms-clear ∙ sym (none-clear (shapeRows (g b)) ok)
 
     -- then the stitch's number is one of 1 to 8, or none
-    shape-number : stitchNumber (g b) x ≡ firstOf (shapeRows (g b))
+    shape-number : stitchNumber (g b) (datesIn b) x ≡ firstOf (shapeRows (g b))
     shape-number =
         by-test (eqb (firstOf (shapeRows (g b))) 0) (λ t. clear-number (clear (shapeRows (g b)) tt (eqb-true (firstOf (shapeRows (g b))) 0 t)))
         (λ f. found (eqb-false (firstOf (shapeRows (g b))) 0 f))
       where
-        found : (firstOf (shapeRows (g b)) ≡ 0 → ⊥) → stitchNumber (g b) x ≡ firstOf (shapeRows (g b))
-        found h = unfold stitchRefusal in first-found (shapeRows (g b)) rooms h
+        found : (firstOf (shapeRows (g b)) ≡ 0 → ⊥) → stitchNumber (g b) (datesIn b) x ≡ firstOf (shapeRows (g b))
+        found h = base-number (g b) (datesIn b) (lengthsOf x) (dated b) ∙ unfold baseRefusal in first-found (shapeRows (g b)) rooms h
 
 -- with the program's lists a replay's number is 11, 12, 13, 1 or 2 of the reader, or one of 1 to 8 of the stitch that the bytes hold
 pub never-9 : (b : List ℕ) (x : Lists) → ProgramLists x → replayNumber b x ≡ answer (λ (n : ℕ). n) (formNumber b) (firstOf (shapeRows (heldIn b)))
 unfolding replayNumber
 never-9 b x roomy = go (formNumber b) refl
   where
-    go : (n : ℕ) → formNumber b ≡ n → answer (λ (k : ℕ). k) n (stitchNumber (heldIn b) x) ≡ answer (λ (k : ℕ). k) n (firstOf (shapeRows (heldIn b)))
+    go : (n : ℕ) → formNumber b ≡ n → answer (λ (k : ℕ). k) n (stitchNumber (heldIn b) (datesIn b) x) ≡ answer (λ (k : ℕ). k) n (firstOf (shapeRows (heldIn b)))
     go zero e = unfold answer in shape-number b e x roomy
     go (suc n) e = unfold answer in refl

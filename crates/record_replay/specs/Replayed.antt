@@ -5,17 +5,22 @@ use mathlib.Core.List.{List}
 use Rattle.basis.specs.Number.{+0}
 use Rattle.basis.specs.Refuse.{answer}
 use Rattle.basis.specs.Room.{roomOf}
+use Rattle.slice.specs.Editions.{Editions}
 use Rattle.stitch_run.specs.Stitch.{Given, needOf, roundCount, loopCount, chainCount, roomItems, endItems, chainItems, chainEndItems, howItems}
 use Rattle.stitch.specs.Lent.{Lists}
 use Rattle.stitch_entries.specs.declared.answer.StitchAnswer.{StitchAnswer}
 use Rattle.stitch_entries.specs.StitchEntry.{stitchNumber}
 use Rattle.record.specs.Form.{form1}
-use Rattle.record.specs.Record.{stitchIn, takenLengths, readRefusal}
+use Rattle.record.specs.Record.{stitchIn, editionsIn, takenLengths, readRefusal}
 use Rattle.record_replay.specs.declared.replay.ReplayAnswer.{ReplayAnswer}
 
 -- the stitch that the bytes hold
 abbrev pub heldIn : List ℕ → Given
 heldIn b = stitchIn form1 b
+
+-- K3: it "read[s] as edition 0 throughout"
+abbrev pub datesIn : List ℕ → Editions
+datesIn b = editionsIn (heldIn b .slices)
 
 -- "11 .., 12 .., 13 .., looked at in that order, before all others"; then 1 and 2 by what the program takes. The lists that the record is read to have room for
 -- all that it takes
@@ -24,7 +29,7 @@ formNumber b = readRefusal form1 b takenLengths
 
 -- and then the numbers of the stitch itself
 unfoldable pub replayNumber : List ℕ → Lists → ℕ
-replayNumber b x = answer (λ (n : ℕ). n) (formNumber b) (stitchNumber (heldIn b) x)
+replayNumber b x = answer (λ (n : ℕ). n) (formNumber b) (stitchNumber (heldIn b) (datesIn b) x)
 
 abbrev pub replayRefused : ℕ → ReplayAnswer
 replayRefused n = record { refusal = n; slices = 0; rounds = 0; loops = 0; chains = 0 }

@@ -1,10 +1,9 @@
 ghost use mathlib.Core.Path.{_≡_};
 ghost use Rattle.stitch.specs.Lent.{lists};
 ghost use Rattle.stitch_entries.specs.StitchEntry.{StitchLeft};
-ghost use Rattle.record.specs.Record.{stitchBy, lengthsOf};
-ghost use Rattle.record_read.specs.Ready.{Roomy};
+ghost use Rattle.record.specs.Record.{stitchBy, editionsIn};
 ghost use Rattle.record_replay.specs.Replayed.{replayRefused, replayOf, ReplayLeft};
-ghost use Rattle.record_replay.specs.Ready.{reading, fronts};
+ghost use Rattle.record_replay.specs.Ready.{reading, fronts, Held};
 use record::form;
 use record_read::read;
 use slice::data::CODE_WIDTH;
@@ -50,31 +49,36 @@ fn replay_of(slices: usize, a: StitchAnswer) -> ReplayAnswer
     }
 }
 
-// Stitches what was read to the front of the lists.
+// Stitches what was read to the front of the lists, in edition 0 throughout.
 fn stitch_held(
     p: Plan,
     o1: &[f64],
     o2: &[f64],
     at: &[usize],
     s: &[f64],
+    dates: &[u32],
     room: &mut [f64],
     ends: &mut [usize],
     chain: &mut [usize],
     chain_ends: &mut [usize],
     chain_how: &mut [usize],
 ) -> StitchAnswer
-    requires { ⌜ Roomy p (lengthsOf (reading (now o1) (now o2) (now at) (now s))) ⌝ }
-    ensures { λ r. ⌜ StitchLeft (stitchBy (fronts p (reading (now (o1 .entry)) (now (o2 .entry)) (now (at .entry)) (now (s .entry)))) p) (lists (now (room .entry)) (now (ends .entry)) (now (chain .entry)) (now («chain_ends» .entry)) (now («chain_how» .entry))) r (lists (now (room .exit)) (now (ends .exit)) (now (chain .exit)) (now («chain_ends» .exit)) (now («chain_how» .exit))) ⌝ }
+    requires { ⌜ Held p (reading (now o1) (now o2) (now at) (now s)) (now dates) ⌝ }
+    ensures { λ r. ⌜ StitchLeft (stitchBy (fronts p (reading (now (o1 .entry)) (now (o2 .entry)) (now (at .entry)) (now (s .entry)))) p) (editionsIn (p .slices)) (lists (now (room .entry)) (now (ends .entry)) (now (chain .entry)) (now («chain_ends» .entry)) (now («chain_how» .entry))) r (lists (now (room .exit)) (now (ends .exit)) (now (chain .exit)) (now («chain_ends» .exit)) (now («chain_how» .exit))) ⌝ }
 {
     let n1 = 3 * p.vc1;
     let n2 = 3 * p.vc2;
     let n3 = CODE_WIDTH * p.slices;
     let n4 = SHAPE_WIDTH * p.slices;
+    let n5 = p.slices;
     stitching::stitched(
         &o1[0..n1],
+        0,
         &o2[0..n2],
+        0,
         &at[0..n3],
         &s[0..n4],
+        &dates[0..n5],
         p,
         room,
         ends,
@@ -104,12 +108,14 @@ pub fn replay(
         return replay_refused(seen.refusal);
     }
     let p = seen.plan;
+    let dates = [0u32; form::TAKEN_SLICES];
     let a = stitch_held(
         p,
         &o1,
         &o2,
         &at,
         &s,
+        &dates,
         room,
         ends,
         chain,

@@ -14,9 +14,12 @@ use Rattle.basis.specs.Choice.{and-left, and-right}
 use Rattle.basis.specs.Number.{tolerableOn, tolerable}
 use Rattle.basis.specs.StoreLaws.{sets-front}
 use Rattle.basis.specs.Refuse.{Row, row, firstOf, firstFrom}
-use Rattle.basis.specs.RefuseLaws.{Clear, clear, first-from, answer-no, answer-yes, first-found, first-later}
+use Rattle.basis.specs.RefuseLaws.{Clear, clear, clear-right, clear-from, stop-rows, go-rows, length-ok, answer-no, answer-yes, first-found, first-later}
 use Rattle.fields.specs.Fields.{size, bitsOf}
 use Rattle.fields.specs.Ready.{Number}
+use Rattle.slice.specs.Slice.{codeWidth}
+use Rattle.slice.specs.Ready.{EditionsThere}
+use Rattle.slice.specs.Editions.{Editions, editions, editionListRows, editionRows}
 use Rattle.stitch_run.specs.declared.plan.Plan.{Plan}
 use Rattle.stitch_run.specs.Stitch.{Given, given}
 use Rattle.record.specs.declared.form.Version.{Version}
@@ -25,9 +28,9 @@ use Rattle.record.specs.Ready.{versionOf, Sized}
 use Rattle.record.specs.Record.{listsIn, planIn, lengthOf, lengthIn, headOf, valuesOf, packed, recordOf}
 use Rattle.record.specs.RecordLaws.{sets-room}
 use Rattle.record_write.specs.declared.write.Written.{Written}
-use Rattle.record_write.specs.Writer.{axesFault, keepRows, lengthGiven, writeRefusal, writtenRefused, writtenGiven, WriteLeft}
+use Rattle.record_write.specs.Writer.{axesFault, keepRows, handedRows, heldRows, lengthGiven, writeRefusal, writtenRefused, writtenGiven, WriteLeft}
 use Rattle.record_write.specs.Ready.{PackFit, Packs, Keeps}
-use Rattle.record_write.specs.KeepLaws.{tolerable-no-nan, keeps-in, keeps, values-long, record-long}
+use Rattle.record_write.specs.KeepLaws.{held-kept, lists-clear, tolerable-no-nan, keeps-in, keeps, values-long, record-long}
 
 module _ (g : Given) {m : ℕ} (k : Keeps g m) where
   abbrev values : List ℕ
@@ -96,21 +99,44 @@ module _ (t : Tolerance) where
 
 pub ruleset axes = (out-of-range, x-number, y-number, patterns)
 
+-- ---- 1 to 8, then 14
+module _ (o1 o2 : List Float) (at : List ℕ) (s : List Float) (p : Plan) (l : List ℕ) (first second r : ℕ) (found : r ≡ firstFrom 0 (handedRows (given o1 o2 at s p) (editions 0 0 l))) where
+  abbrev stitch : Given
+  stitch = given o1 o2 at s p
+
+  pub handed-found : (r ≡ 0 → ⊥) → r ≡ firstOf (heldRows stitch (editions first second l))
+  unfolding heldRows
+  handed-found h = stop-rows (handedRows stitch (editions 0 0 l)) (editionRows (editions first second l) at) r tt found h
+
+  pub edition-found : (n : ℕ) → r ≡ 0 → n ≡ firstFrom 0 (editionRows (editions first second l) at) → n ≡ firstOf (heldRows stitch (editions first second l))
+  unfolding heldRows
+  edition-found n z q = go-rows (handedRows stitch (editions 0 0 l)) (editionRows (editions first second l) at) r n tt tt found z q
+
+  -- there is an edition for each slice
+  pub each-there : r ≡ 0 → EditionsThere at l
+  each-there z =
+      let ok = clear-from (handedRows stitch (editions 0 0 l)) r tt found z in
+      let lists = lists-clear stitch (clear-right (editionListRows (length l) (p .slices)) (keepRows stitch) ok) in
+      record { each = omega (arith, length-ok codeWidth (length at) (p .slices) (lists .1 .1 .0), length-ok 1 (length l) (p .slices) (ok .0)) }
+
+pub ruleset holding = (handed-found, edition-found, each-there)
+
 -- ---- the refusal
-module _ (g : Given) (m : ℕ) {r : ℕ} (e : r ≡ firstFrom 0 (keepRows g)) where
+module _ (g : Given) (e : Editions) (m : ℕ) {r : ℕ} (told : r ≡ firstOf (heldRows g e)) where
   abbrev last : List Row
   last = row (ltb m (lengthGiven form1 g)) 9 ∷ []
 
-  told : r ≡ firstOf (keepRows g)
-  told = first-from (keepRows g) r tt e
-
-  pub keep-fault : (r ≡ 0 → ⊥) → r ≡ writeRefusal form1 g m
+  pub keep-fault : (r ≡ 0 → ⊥) → r ≡ writeRefusal form1 g e m
   unfolding writeRefusal
-  keep-fault h = told ∙ sym (first-found (keepRows g) last (λ z. h (told ∙ z)))
+  keep-fault h = told ∙ sym (first-found (heldRows g e) last (λ z. h (told ∙ z)))
 
   module _ (z : r ≡ 0) where
+    held : Clear (heldRows g e)
+    unfolding heldRows
+    held = clear (heldRows g e) tt (sym told ∙ z)
+
     pub kept : Clear (keepRows g)
-    kept = clear (keepRows g) tt (sym told ∙ z)
+    kept = held-kept g e held
 
     -- so the length can be worked out
     kept-sized : {v : Version} → v ≡ versionOf form1 → Sized v (planIn g)
@@ -125,30 +151,31 @@ module _ (g : Given) (m : ℕ) {r : ℕ} (e : r ≡ firstFrom 0 (keepRows g)) wh
         })
 
     module _ {n : ℕ} (q : n ≡ lengthGiven form1 g) where
-      pub room-fault : m < n → 9 ≡ writeRefusal form1 g m
+      pub room-fault : m < n → 9 ≡ writeRefusal form1 g e m
       unfolding writeRefusal firstOf
-      room-fault h = sym (first-later (keepRows g) last kept ∙ rw (lt-ltb m (lengthGiven form1 g) (omega arith)))
+      room-fault h = sym (first-later (heldRows g e) last held ∙ rw (lt-ltb m (lengthGiven form1 g) (omega arith)))
 
-      pub no-fault : n ≤ m → 0 ≡ writeRefusal form1 g m
+      pub no-fault : n ≤ m → 0 ≡ writeRefusal form1 g e m
       unfolding writeRefusal firstOf
-      no-fault h = sym (first-later (keepRows g) last kept ∙ rw (le-ltb m (lengthGiven form1 g) (omega arith)))
+      no-fault h = sym (first-later (heldRows g e) last held ∙ rw (le-ltb m (lengthGiven form1 g) (omega arith)))
 
       pub kept-all : n ≤ m → Keeps g m
       kept-all h = keeps g kept m (omega arith)
 
 -- ---- the two ways out
-pub write-refused : (g : Given) (b : List ℕ) (n : ℕ) (r : Written) → n ≡ writeRefusal form1 g (length b) → (n ≡ 0 → ⊥) → r ≡ writtenRefused n → WriteLeft form1 g b r b
-write-refused g b n r e h q = record { answers = answer-no writtenRefused n _ _ r e h q; written = answer-no (λ _. b) n _ _ b e h refl }
+pub write-refused : (g : Given) (e : Editions) (b : List ℕ) (n : ℕ) (r : Written) → n ≡ writeRefusal form1 g e (length b) → (n ≡ 0 → ⊥) → r ≡ writtenRefused n → WriteLeft form1 g e b r b
+write-refused g e b n r is h q = record { answers = answer-no writtenRefused n _ _ r is h q; written = answer-no (λ _. b) n _ _ b is h refl }
 
-pub write-given : (g : Given) (b b′ : List ℕ) (n : ℕ) (r : Written) → 0 ≡ writeRefusal form1 g (length b) → Keeps g (length b) → n ≡ lengthGiven form1 g → b′ ≡ sets b 0 (recordOf form1 g)
-    → r ≡ writtenGiven n → WriteLeft form1 g b r b′
-write-given g b b′ n r e k l q f =
+pub write-given : (g : Given) (e : Editions) (b b′ : List ℕ) (n : ℕ) (r : Written) → 0 ≡ writeRefusal form1 g e (length b) → Keeps g (length b) → n ≡ lengthGiven form1 g → b′ ≡ sets b 0 (recordOf form1 g)
+    → r ≡ writtenGiven n → WriteLeft form1 g e b r b′
+write-given g e b b′ n r is k l q f =
     let one : length (recordOf form1 g) ≡ 1 * lengthGiven form1 g = omega (arith, record-long g k) in
     record {
-      answers = answer-yes writtenRefused 0 _ _ r e refl (f ∙ ap writtenGiven l);
-      written = answer-yes (λ _. b) 0 _ _ b′ e refl (q ∙ sets-room 0 1 (lengthGiven form1 g) b (recordOf form1 g) one (omega (arith, k .room)));
+      answers = answer-yes writtenRefused 0 _ _ r is refl (f ∙ ap writtenGiven l);
+      written = answer-yes (λ _. b) 0 _ _ b′ is refl (q ∙ sets-room 0 1 (lengthGiven form1 g) b (recordOf form1 g) one (omega (arith, k .room)));
     }
 
 -- the same of the parameters of a function
-pub sized-given : (o1 o2 : List Float) (at : List ℕ) (s : List Float) (p : Plan) (r : ℕ) (v : Version) → r ≡ firstFrom 0 (keepRows (given o1 o2 at s p)) → r ≡ 0 → v ≡ versionOf form1 → Sized v p
-sized-given o1 o2 at s p r v e z q = kept-sized (given o1 o2 at s p) 0 e z q
+pub sized-given : (o1 o2 : List Float) (at : List ℕ) (s : List Float) (p : Plan) (e : Editions) (r : ℕ) (v : Version) → r ≡ firstOf (heldRows (given o1 o2 at s p) e) → r ≡ 0
+    → v ≡ versionOf form1 → Sized v p
+sized-given o1 o2 at s p e r v h z q = kept-sized (given o1 o2 at s p) e 0 h z q

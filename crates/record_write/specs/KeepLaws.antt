@@ -17,12 +17,14 @@ use Rattle.fields.specs.Fields.{size, pack, bitsOf}
 use Rattle.fields.specs.FieldLaws.{length-pack}
 use Rattle.fields.specs.Ready.{NoNan}
 use Rattle.slice.specs.Slice.{codeWidth, shapeWidth}
+use Rattle.slice.specs.Editions.{Editions, editionListRows, editionRows}
 use Rattle.stitch_run.specs.Stitch.{Given}
 use Rattle.stitch_entries.specs.StitchEntry.{listPart, codePart, numberPart, indexPart}
+use Rattle.stitch_entries.specs.Matching.{Matched}
 use Rattle.record.specs.Form.{form1, takenVertices, takenSlices, commonWidth, bodyOf, mix}
 use Rattle.record.specs.Record.{listsIn, planIn, lengthOf, takenRows, headOf, valuesOf, recordOf}
 use Rattle.record.specs.RecordLaws.{length-body, size-body}
-use Rattle.record_write.specs.Writer.{axesFault, axesRows, keepRows, lengthGiven}
+use Rattle.record_write.specs.Writer.{axesFault, axesRows, keepRows, handedRows, heldRows, lengthGiven}
 use Rattle.record_write.specs.Ready.{KeepsIn, Keeps}
 use Rattle.record_write.specs.ValueLaws.{length-mix}
 
@@ -41,6 +43,23 @@ tolerable-no-nan (fin s m k) e = tt
 
 pub no-nans : (s : List Float) → allWithin s ≡ true → NoNan s
 no-nans s e i h = within-no-nan (getD s i nan) (all-at within s i nan e h)
+
+-- what the writer did not refuse: 1 to 8 do not apply, and the editions match
+module _ (g : Given) (e : Editions) (ok : Clear (heldRows g e)) where
+  handed-clear : Clear (handedRows g e)
+  unfolding heldRows
+  handed-clear = clear-left (handedRows g e) (editionRows e (g .sliceAt)) ok
+
+  pub held-kept : Clear (keepRows g)
+  held-kept = clear-right (editionListRows (length (e .slices)) (g .slices)) (keepRows g) handed-clear
+
+  pub held-matched : Matched g e
+  unfolding heldRows
+  held-matched =
+      record {
+        each = let h = length-ok 1 (length (e .slices)) (g .slices) (handed-clear .0) in omega (arith, h);
+        same = clear-right (handedRows g e) (editionRows e (g .sliceAt)) ok .0;
+      }
 
 -- the parts of the table
 module _ (g : Given) (ok : Clear (keepRows g)) where

@@ -3,6 +3,7 @@ use Prim.Native.Nat.{ℕ}
 use mathlib.Core.Path.{_≡_}
 use mathlib.Core.List.{List}
 use Rattle.basis.specs.RefuseLaws.{one-answer}
+use Rattle.slice.specs.Editions.{Editions}
 use Rattle.stitch_run.specs.Stitch.{Given}
 use Rattle.record.specs.declared.head.Seen.{Seen}
 use Rattle.record.specs.Form.{form1}
@@ -20,5 +21,6 @@ read-one b l r s x y p q = (
   one-answer (x .slice) (y .slice) _ (p .shapes) (q .shapes),
 )
 
-pub write-one : (g : Given) (bytes : List ℕ) (r : Written) (p : List ℕ) (s : Written) (q : List ℕ) → WriteLeft form1 g bytes r p → WriteLeft form1 g bytes s q → (r ≡ s) × (p ≡ q)
-write-one g bytes r p s q x y = (one-answer r s _ (x .answers) (y .answers), one-answer p q _ (x .written) (y .written))
+pub write-one : (g : Given) (e : Editions) (bytes : List ℕ) (r : Written) (p : List ℕ) (s : Written) (q : List ℕ) → WriteLeft form1 g e bytes r p → WriteLeft form1 g e bytes s q
+    → (r ≡ s) × (p ≡ q)
+write-one g e bytes r p s q x y = (one-answer r s _ (x .answers) (y .answers), one-answer p q _ (x .written) (y .written))

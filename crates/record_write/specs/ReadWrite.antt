@@ -11,18 +11,20 @@ use lib.Seq.{getD-drop, drop-drop, take-all}
 use Rattle.basis.specs.Choice.{and-left, and-right}
 use Rattle.basis.specs.Number.{tolerableOn, tolerable}
 use Rattle.basis.specs.Refuse.{Row, row, firstOf}
-use Rattle.basis.specs.RefuseLaws.{Clear, clear, clear-left, clear-right, clear-both, none-clear}
+use Rattle.basis.specs.RefuseLaws.{Clear, clear, clear-left, clear-right, clear-both, none-clear, length-ok, ok-length}
 use Rattle.slice.specs.Slice.{codeWidth, shapeWidth}
+use Rattle.slice.specs.Editions.{editionListRows, editionRows}
 use Rattle.stitch_run.specs.declared.plan.Plan.{Plan}
 use Rattle.stitch_run.specs.Stitch.{Given}
 use Rattle.stitch_entries.specs.StitchEntry.{listPart, codePart, numberPart, indexPart, shapeRows}
+use Rattle.stitch_entries.specs.Matching.{one-matched}
 use Rattle.fields.specs.Fields.{size, valueOf, pack, unpack, bitsOf}
 use Rattle.fields.specs.FieldLaws.{Octets, octets-drop, length-unpack, unpack-fitted, pack-unpack}
 use Rattle.record.specs.declared.head.Lengths.{Lengths}
 use Rattle.record.specs.Form.{form1, commonWidth, bodyOf, column, mix}
-use Rattle.record.specs.Record.{listsIn, planIn, headIn, bodyIn, slicesFrom, outline1From, outline2From, codesFrom, shapesFrom, stitchIn, markOk, frameRows, lengthOf, lengthIn, takenRows, countRows, roomRows, readRows, readRefusal, headOf, valuesOf, recordOf}
+use Rattle.record.specs.Record.{listsIn, planIn, headIn, bodyIn, slicesFrom, outline1From, outline2From, codesFrom, shapesFrom, stitchIn, editionsIn, markOk, frameRows, lengthOf, lengthIn, takenRows, countRows, roomRows, readRows, readRefusal, headOf, valuesOf, recordOf}
 use Rattle.record.specs.RecordLaws.{length-body, size-body}
-use Rattle.record_write.specs.Writer.{axesFault, axesRows, keepRows, lengthGiven, writeRows, writeRefusal}
+use Rattle.record_write.specs.Writer.{axesFault, axesRows, keepRows, handedRows, heldRows, lengthGiven, writeRows, writeRefusal}
 use Rattle.record_write.specs.Columns.{rows-back}
 use Rattle.record_write.specs.Fits.{Below, fitted-below, below-at, below-take, below-drop, below-column, head-narrow, body-narrow, tolerance-back, numbers-kept}
 
@@ -182,8 +184,8 @@ module _ (b : List ℕ) (octets : Octets b) (l : Lengths) (z : readRefusal form1
   unfolding axesFault
   axes = (rw in-range (ap not (eq-eqb (bitsOf (g .tolerance .x)) (bitsOf (g .tolerance .y)) (unfold stitchIn headIn in refl))), tt)
 
-  pub written-again : (room : ℕ) → length b ≤ room → writeRefusal form1 g room ≡ 0
-  unfolding writeRefusal
+  pub written-again : (room : ℕ) → length b ≤ room → writeRefusal form1 g (editionsIn (g .slices)) room ≡ 0
+  unfolding writeRefusal heldRows
   written-again room h =
       let shapes = codePart g ++ (numberPart g ++ indexPart g) in
       let after = codePart g ++ (axesRows (g .tolerance) ++ (numberPart g ++ indexPart g)) in
@@ -191,15 +193,20 @@ module _ (b : List ℕ) (octets : Octets b) (l : Lengths) (z : readRefusal form1
       let after-kept : Clear after =
       clear-both (codePart g) (axesRows (g .tolerance) ++ (numberPart g ++ indexPart g)) (clear-left (codePart g) (numberPart g ++ indexPart g) after-lists)
       (clear-both (axesRows (g .tolerance)) (numberPart g ++ indexPart g) axes rest) in
-      let all : Clear (keepRows g) =
+      let kept : Clear (keepRows g) =
       clear-both (listPart g) (takenRows (planIn g) ++ after) (clear-left (listPart g) shapes ok) (clear-both (takenRows (planIn g)) after taken after-kept) in
       let last : Clear (row (ltb room (lengthGiven form1 g)) 9 ∷ []) = (le-ltb room (lengthGiven form1 g) (omega (arith, long, same-length, h)), tt) in
-      none-clear (writeRows form1 g room) (clear-both (keepRows g) (row (ltb room (lengthGiven form1 g)) 9 ∷ []) all last)
+      let e = editionsIn (g .slices) in
+      let matched = one-matched g 0 (length-ok codeWidth (length (g .sliceAt)) (g .slices) (clear-left (listPart g) shapes ok .1 .1 .0)) in
+      let counts : Clear (editionListRows (length (e .slices)) (g .slices)) = (ok-length 1 (length (e .slices)) (g .slices) (let h = matched .each in omega (arith, h)), tt) in
+      let handed : Clear (handedRows g e) = clear-both (editionListRows (length (e .slices)) (g .slices)) (keepRows g) counts kept in
+      let all : Clear (heldRows g e) = clear-both (handedRows g e) (editionRows e (g .sliceAt)) handed (matched .same, tt) in
+      none-clear (writeRows form1 g e room) (clear-both (heldRows g e) (row (ltb room (lengthGiven form1 g)) 9 ∷ []) all last)
 
--- the theorem, over the reader's and the stitch's own numbers: of a record that is accepted, the writer gives back each byte
+-- the theorem, over the reader's and the stitch's own numbers: of a record that is accepted, and in the edition that it reads as, the writer gives back each byte
 pub record WritesBack (b : List ℕ) : Type 0 where
   pub same : recordOf form1 (stitchIn form1 b) ≡ b
-  pub accepted : (room : ℕ) → length b ≤ room → writeRefusal form1 (stitchIn form1 b) room ≡ 0
+  pub accepted : (room : ℕ) → length b ≤ room → writeRefusal form1 (stitchIn form1 b) (editionsIn (stitchIn form1 b .slices)) room ≡ 0
 
 pub read-then-write : (b : List ℕ) → Octets b → (l : Lengths) → readRefusal form1 b l ≡ 0 → firstOf (shapeRows (stitchIn form1 b)) ≡ 0 → WritesBack b
 read-then-write b octets l z y =

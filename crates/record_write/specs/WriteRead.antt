@@ -1,4 +1,4 @@
--- "Writing then reading a record gives the same stitch": of everything that the writer does not refuse, number for number, bit for bit.
+-- "Writing then reading a record gives the same stitch": of everything that the writer does not refuse, number for number, bit for bit. K3: "the same but for editions".
 use Prim.Native.Nat.{ℕ, _+_, _*_, _≤_, _<_}
 use mathlib.Core.Bool.{true, false, not}
 use mathlib.Core.Path.{_≡_, refl, sym, ap, _∙_}
@@ -17,18 +17,22 @@ use Rattle.slice.specs.Slice.{codeWidth, shapeWidth, codesAt}
 use Rattle.slice.specs.Faults.{sourceKnown}
 use Rattle.slice.specs.SliceLaws.{slice-at, turned-at, start-at, offset-at}
 use Rattle.stitch_run.specs.Stitch.{Given, planOf}
+use Rattle.slice.specs.Editions.{Editions}
 use Rattle.stitch_entries.specs.StitchRows.{startsFault}
+use Rattle.stitch_entries.specs.declared.faults.Lengths as lent
+use Rattle.stitch_entries.specs.StitchEntry.{stitchRefusal}
+use Rattle.stitch_entries.specs.Matching.{base-number, one-matched}
 use Rattle.fields.specs.Fields.{size, bytesOf, valueOf, pack, unpack, numOf, bitsOf}
 use Rattle.fields.specs.FieldLaws.{unpack-pack, fitted-append, length-pack}
 use Rattle.fields.specs.NumberLaws.{Plain, AllPlain, num-bits, bits-below, nums-bits}
 use Rattle.fields.specs.Ready.{Fitted, fit-none, fit-one}
 use Rattle.record.specs.declared.head.Lengths.{Lengths}
 use Rattle.record.specs.Form.{form1, commonWidth, bodyOf, column, mix}
-use Rattle.record.specs.Record.{listsIn, planIn, planAt, headIn, bodyIn, outline1From, outline2From, codesFrom, shapesFrom, stitchIn, markOk, frameRows, lengthOf, lengthIn, countRows, roomRows, readRows, readRefusal, headOf, valuesOf, recordOf}
+use Rattle.record.specs.Record.{listsIn, planIn, planAt, headIn, bodyIn, outline1From, outline2From, codesFrom, shapesFrom, stitchIn, editionsIn, markOk, frameRows, lengthOf, lengthIn, countRows, roomRows, readRows, readRefusal, headOf, valuesOf, recordOf}
 use Rattle.record.specs.RecordLaws.{counts-small}
-use Rattle.record_write.specs.Writer.{keepRows, lengthGiven, writeRows, writeRefusal}
+use Rattle.record_write.specs.Writer.{keepRows, heldRows, lengthGiven, writeRows, writeRefusal}
 use Rattle.record_write.specs.Ready.{Keeps}
-use Rattle.record_write.specs.KeepLaws.{tolerable-no-nan, taken-clear, codes-clear, numbers-clear, indexes-clear, y-tolerable, one-pattern, keeps, record-long}
+use Rattle.record_write.specs.KeepLaws.{held-kept, held-matched, tolerable-no-nan, taken-clear, codes-clear, numbers-clear, indexes-clear, y-tolerable, one-pattern, keeps, record-long}
 use Rattle.record_write.specs.Columns.{codes-back, numbers-back}
 use Rattle.record_write.specs.Fits.{Held, all-plain, bits-all-below, below-append, CodesFit, vertices-fitted, slices-fitted}
 
@@ -254,13 +258,20 @@ module _ (g : Given) (ok : Clear (keepRows g)) (held : HeldGiven g) where
           (clear-both (frameRows 1 (size (form1 .head)) (form1 .most) b) (countRows (length b) (lengthIn form1 p) p ++ roomRows p l) framed
           (clear-both (countRows (length b) (lengthIn form1 p) p) (roomRows p l) counted rooms)))
 
--- the theorem, over the writer's own number: what it did not refuse is read back as it was
-pub record ReadsBack (g : Given) : Type 0 where
+-- the theorem, over the writer's own number: what it did not refuse is read back as it was, and in edition 0 throughout it stitches as it did in its own editions: by
+-- `StitchLeft` editions stand in the number alone
+pub record ReadsBack (g : Given) (e : Editions) : Type 0 where
   pub same : stitchIn form1 (recordOf form1 g) ≡ g
   pub accepted : (l : Lengths) → RoomFor g l → readRefusal form1 (recordOf form1 g) l ≡ 0
+  pub stitched : (l : lent.Lengths) → stitchRefusal g (editionsIn (g .slices)) l ≡ stitchRefusal g e l
 
-pub write-then-read : (g : Given) (room : ℕ) → writeRefusal form1 g room ≡ 0 → HeldGiven g → ReadsBack g
-unfolding writeRefusal
-write-then-read g room z held =
-    let ok = clear-left (keepRows g) (row (ltb room (lengthGiven form1 g)) 9 ∷ []) (clear (writeRows form1 g room) tt z) in
-    record { same = same-stitch g ok held; accepted = not-refused g ok held }
+pub write-then-read : (g : Given) (e : Editions) (room : ℕ) → writeRefusal form1 g e room ≡ 0 → HeldGiven g → ReadsBack g e
+unfolding writeRefusal heldRows
+write-then-read g e room z held =
+    let all = clear-left (heldRows g e) (row (ltb room (lengthGiven form1 g)) 9 ∷ []) (clear (writeRows form1 g e room) tt z) in
+    let ok = held-kept g e all in
+    record {
+      same = same-stitch g ok held;
+      accepted = not-refused g ok held;
+      stitched = λ l. base-number g (editionsIn (g .slices)) l (one-matched g 0 (keeps g ok (lengthGiven form1 g) (omega arith) .long3)) ∙ sym (base-number g e l (held-matched g e all));
+    }

@@ -1,4 +1,4 @@
--- Document 02, K1: what the writer refuses, and what it writes.
+-- Document 02, K1 and K3: what the writer refuses, and what it writes.
 use Prim.Native.Nat.{ℕ}
 use mathlib.Core.Bool.{Bool, not, _&&_}
 use mathlib.Core.Path.{_≡_}
@@ -10,6 +10,7 @@ use Rattle.basis.specs.Number.{tolerable}
 use Rattle.basis.specs.Refuse.{Row, row, firstOf, answer}
 use Rattle.basis.specs.Room.{roomOf}
 use Rattle.fields.specs.Fields.{bitsOf}
+use Rattle.slice.specs.Editions.{Editions, editionListRows, editionRows}
 use Rattle.stitch_run.specs.Stitch.{Given}
 use Rattle.stitch_entries.specs.StitchEntry.{listPart, codePart, numberPart, indexPart}
 use Rattle.record.specs.Form.{Form}
@@ -32,12 +33,20 @@ keepRows g = listPart g ++ (takenRows (planIn g) ++ (codePart g ++ (axesRows (g 
 abbrev pub lengthGiven : Form → Given → ℕ
 lengthGiven f g = lengthIn f (planIn g)
 
--- 9: fewer bytes are lent
-abbrev pub writeRows : Form → Given → ℕ → List Row
-writeRows f g room = keepRows g ++ (row (ltb room (lengthGiven f g)) 9 ∷ [])
+-- 1 to 8 of what is handed in, with its list of editions
+abbrev pub handedRows : Given → Editions → List Row
+handedRows g e = editionListRows (length (e .slices)) (g .slices) ++ keepRows g
 
-unfoldable pub writeRefusal : Form → Given → ℕ → ℕ
-writeRefusal f g room = firstOf (writeRows f g room)
+-- 1 to 8, and 14: version 1 leaves the editions out, so a slice of another edition would be read as a good one
+unfoldable pub heldRows : Given → Editions → List Row
+heldRows g e = handedRows g e ++ editionRows e (g .sliceAt)
+
+-- 9: fewer bytes are lent
+abbrev pub writeRows : Form → Given → Editions → ℕ → List Row
+writeRows f g e room = heldRows g e ++ (row (ltb room (lengthGiven f g)) 9 ∷ [])
+
+unfoldable pub writeRefusal : Form → Given → Editions → ℕ → ℕ
+writeRefusal f g e room = firstOf (writeRows f g e room)
 
 abbrev pub writtenRefused : ℕ → Written
 writtenRefused n = record { refusal = n; length = 0 }
@@ -46,6 +55,6 @@ abbrev pub writtenGiven : ℕ → Written
 writtenGiven n = record { refusal = 0; length = n }
 
 -- the answer, and the lent bytes at exit: the record, and beyond it what was there
-pub record WriteLeft (f : Form) (g : Given) (bytes : List ℕ) (r : Written) (left : List ℕ) : Type 0 where
-  pub answers : r ≡ answer writtenRefused (writeRefusal f g (length bytes)) (writtenGiven (lengthGiven f g))
-  pub written : left ≡ answer (λ _. bytes) (writeRefusal f g (length bytes)) (roomOf 0 1 (lengthGiven f g) (recordOf f g) bytes)
+pub record WriteLeft (f : Form) (g : Given) (e : Editions) (bytes : List ℕ) (r : Written) (left : List ℕ) : Type 0 where
+  pub answers : r ≡ answer writtenRefused (writeRefusal f g e (length bytes)) (writtenGiven (lengthGiven f g))
+  pub written : left ≡ answer (λ _. bytes) (writeRefusal f g e (length bytes)) (roomOf 0 1 (lengthGiven f g) (recordOf f g) bytes)

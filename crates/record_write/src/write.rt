@@ -3,11 +3,12 @@ ghost use mathlib.Core.Path.{_≡_};
 ghost use Prim.Native.Nat.{_+_};
 ghost use lib.ListN.{length};
 ghost use lib.Seq.{sets};
-ghost use Rattle.basis.specs.Refuse.{firstFrom};
+ghost use Rattle.basis.specs.Refuse.{firstOf, firstFrom};
+ghost use Rattle.slice.specs.Editions.{editions};
 ghost use Rattle.stitch_run.specs.Stitch.{given};
 ghost use Rattle.record.specs.Form.{form1};
 ghost use Rattle.record.specs.Record.{headOf, packed, recordOf};
-ghost use Rattle.record_write.specs.Writer.{axesFault, axesRows, keepRows, writtenRefused, writtenGiven, WriteLeft};
+ghost use Rattle.record_write.specs.Writer.{axesFault, axesRows, handedRows, heldRows, writtenRefused, writtenGiven, WriteLeft};
 ghost use Rattle.record_write.specs.Ready.{Packs, Keeps};
 use crate::pack;
 use crate::values;
@@ -17,6 +18,7 @@ use basis::refuse;
 use fields::copy;
 use record::form;
 use record::head;
+use slice::edition;
 use stitch_entries::faults;
 use stitch_run::plan::Plan;
 
@@ -59,21 +61,43 @@ fn axes_refusal(r: u32, t: Tolerance) -> u32
 }
 
 // Numbers 1 to 8: what the stitch refuses, and with it what the program does not take.
-fn keep_refusal(
+fn handed_refusal(
     outline1: &[f64],
     outline2: &[f64],
     slice_at: &[usize],
     slice: &[f64],
+    slice_edition: &[u32],
     p: Plan,
 ) -> u32
-    ensures { λ n. ⌜ n ≡ firstFrom 0 (keepRows (given (now (outline1 .entry)) (now (outline2 .entry)) (now («slice_at» .entry)) (now (slice .entry)) p)) ⌝ }
+    ensures { λ n. ⌜ n ≡ firstFrom 0 (handedRows (given (now (outline1 .entry)) (now (outline2 .entry)) (now («slice_at» .entry)) (now (slice .entry)) p) (editions 0 0 (now («slice_edition» .entry)))) ⌝ }
 {
-    let r = faults::list_refusal(outline1, outline2, slice_at, slice, p);
+    let r = edition::list_refusal(0, slice_edition.len(), p.slices);
+    let r = faults::list_refusal(r, outline1, outline2, slice_at, slice, p);
     let r = head::taken_refusal(r, p);
     let r = faults::code_refusal(r, slice_at, p);
     let r = axes_refusal(r, p.tolerance);
     let r = faults::number_refusal(r, p.tolerance, outline1, outline2, slice);
     faults::index_refusal(r, slice_at, p)
+}
+
+// And 14: version 1 leaves the editions out.
+fn held_refusal(
+    outline1: &[f64],
+    edition1: u32,
+    outline2: &[f64],
+    edition2: u32,
+    slice_at: &[usize],
+    slice: &[f64],
+    slice_edition: &[u32],
+    p: Plan,
+) -> u32
+    ensures { λ n. ⌜ n ≡ firstOf (heldRows (given (now (outline1 .entry)) (now (outline2 .entry)) (now («slice_at» .entry)) (now (slice .entry)) p) (editions edition1 edition2 (now («slice_edition» .entry)))) ⌝ }
+{
+    let r = handed_refusal(outline1, outline2, slice_at, slice, slice_edition, p);
+    if r != 0 {
+        return r;
+    }
+    edition::edition_refusal(0, edition1, edition2, slice_at, slice_edition)
 }
 
 // Packs the values of a stitch, of version 1, from the front on.
@@ -118,15 +142,27 @@ fn write_kept(
 // Writes the record of a stitch, of version 1, at the front of the lent bytes.
 pub fn write(
     outline1: &[f64],
+    edition1: u32,
     outline2: &[f64],
+    edition2: u32,
     slice_at: &[usize],
     slice: &[f64],
+    slice_edition: &[u32],
     p: Plan,
     bytes: &mut [u8],
 ) -> Written
-    ensures { λ r. ⌜ WriteLeft form1 (given (now (outline1 .entry)) (now (outline2 .entry)) (now («slice_at» .entry)) (now (slice .entry)) p) (now (bytes .entry)) r (now (bytes .exit)) ⌝ }
+    ensures { λ r. ⌜ WriteLeft form1 (given (now (outline1 .entry)) (now (outline2 .entry)) (now («slice_at» .entry)) (now (slice .entry)) p) (editions edition1 edition2 (now («slice_edition» .entry))) (now (bytes .entry)) r (now (bytes .exit)) ⌝ }
 {
-    let r = keep_refusal(outline1, outline2, slice_at, slice, p);
+    let r = held_refusal(
+        outline1,
+        edition1,
+        outline2,
+        edition2,
+        slice_at,
+        slice,
+        slice_edition,
+        p,
+    );
     if r != 0 {
         return written_refused(r);
     }

@@ -18,13 +18,13 @@ use Rattle.view_entries.specs.ViewVertex.{viewVertexRefusal, viewVertexAnswer}
 use Rattle.view_entries.specs.SingleEntry.{singleRefusal, singleAnswer}
 use Rattle.cut.specs.Cuts as cuts
 use Rattle.candidate.specs.Candidates.{candNumbers}
-use Rattle.candidate.specs.Ready as slices
 use Rattle.basis.specs.declared.answer.CountAnswer.{CountAnswer}
-use Rattle.candidate_entries.specs.Candidates.{alongCuts, candidatesRefusal, Sliced}
+use Rattle.candidate_entries.specs.Candidates.{alongCuts, candidatesRefusal, Lent, Sliced}
 use Rattle.select.specs.declared.class.Starts.{Starts}
 use Rattle.prune.specs.declared.counts.Pruned.{Pruned}
 use Rattle.slice.specs.Slice.{codeWidth, shapeWidth}
 use Rattle.slice.specs.Ready as slice
+use Rattle.slice.specs.Editions.{Editions}
 use Rattle.prune.specs.Prune.{Given, callOf, cands, overlaps, given, needOf, prunedOf, sliceCodes, sliceShapes}
 use Rattle.prune_entries.specs.declared.answer.PruneAnswer.{PruneAnswer}
 use Rattle.prune_entries.specs.Answers.{pruneGiven}
@@ -35,7 +35,8 @@ use Rattle.stitch.specs.Lent.{Lists}
 use Rattle.stitch_entries.specs.declared.answer.StitchAnswer.{StitchAnswer}
 use Rattle.stitch_entries.specs.Answers.{stitchRefused}
 use Rattle.stitch_entries.specs.StitchRows.{lengths}
-use Rattle.stitch_entries.specs.StitchEntry.{stitchRefusal, StitchLeft}
+use Rattle.stitch_entries.specs.StitchEntry.{StitchLeft}
+use Rattle.stitch_entries.specs.Matching.{Matched, baseRefusal}
 
 -- ---- what a case says
 
@@ -66,30 +67,32 @@ t# n says = record { number = n; says = says }
 abbrev pub Holds : Said → Type 0
 Holds (candidatesAre g splits numbers) =
     (candNumbers (alongCuts g splits) ≡ numbers)
-    × (candidatesRefusal g splits (record { at = 2 * cuts.cutCount g; cand = 6 * cuts.cutCount g; probe = 6 * cuts.cutCount g }) ≡ 0)
+    × (candidatesRefusal g splits (record { at = 2 * cuts.cutCount g; cand = 6 * cuts.cutCount g; probe = 6 * cuts.cutCount g; edition = cuts.cutCount g }) ≡ 0)
 Holds (verticesAre o vc v n) = (vertexCount (viewData v) ≡ n) × (viewVertexRefusal o vc v ≡ 0)
-Holds (slicesAre c p) = (prunedOf c ≡ p) × (pruneRefusal c (codeWidth * needOf (c .call)) (shapeWidth * needOf (c .call)) ≡ 0)
+Holds (slicesAre c p) = (prunedOf c ≡ p) × (pruneRefusal c (codeWidth * needOf (c .call)) (shapeWidth * needOf (c .call)) (needOf (c .call)) ≡ 0)
 Holds (loopsAre g rounds ends loops room) =
     (roundCount g ≡ rounds)
     × ((stitch.loopCount g ≡ length ends) × (endItems g ≡ ends))
     × (roomItems g ≡ loops)
     × (stitch.needOf (g .sliceAt) (g .slices) ≡ room)
-    × (stitchRefusal g (lengths (3 * room) (g .slices) (g .slices) (g .slices) (g .slices)) ≡ 0)
-Holds (refusedWith g room number) = (stitchRefusal g (lengths (3 * room) (g .slices) (g .slices) (g .slices) (g .slices)) ≡ number) × (0 < number)
+    × (baseRefusal g (lengths (3 * room) (g .slices) (g .slices) (g .slices) (g .slices)) ≡ 0)
+Holds (refusedWith g room number) = (baseRefusal g (lengths (3 * room) (g .slices) (g .slices) (g .slices) (g .slices)) ≡ number) × (0 < number)
 Holds (apartInBox o vc i a b t) =
     (pointsAgree t (posOf a) (posOf b) ≡ false) × (pointsAgree t (posOf b) (posOf a) ≡ false) × (inBox t (posOf a) (posOf b) ≡ true) × (inBox t (posOf b) (posOf a) ≡ true)
     × (singleRefusal o vc i a (posOf b) t ≡ 0)
 
--- ---- of the entries, through their contracts: whatever they answer, with lists lent that are as long as the need
+-- ---- of the entries, through their contracts: whatever they answer, with lists lent that are as long as the need, and with any editions that match
 
-pub record CandRooms (g : cuts.Given) (l : slices.Rooms) : Type 0 where
+pub record CandRooms (g : cuts.Given) (l : Lent) : Type 0 where
   pub at : length (l .at) ≡ 2 * cuts.cutCount g
   pub cand : length (l .cand) ≡ 6 * cuts.cutCount g
   pub probe : length (l .probe) ≡ 6 * cuts.cutCount g
+  pub edition : length (l .edition) ≡ cuts.cutCount g
 
 pub record SliceRooms (c : Given) (l : slice.Rooms) : Type 0 where
   pub at : length (l .at) ≡ codeWidth * needOf (c .call)
   pub shape : length (l .shape) ≡ shapeWidth * needOf (c .call)
+  pub edition : length (l .edition) ≡ needOf (c .call)
 
 -- room for so many vertices, and one entry per slice in the other lists
 pub record LoopRooms (g : stitch.Given) (vertices : ℕ) (x : Lists) : Type 0 where
@@ -109,7 +112,7 @@ pub record Untouched (x left : Lists) : Type 0 where
 abbrev pub Answers : Said → Type 0
 -- `mask_candidates`
 Answers (candidatesAre g splits numbers) =
-    (l : slices.Rooms) (r : CountAnswer) (left : slices.Rooms) → CandRooms g l → Sliced g splits l r left
+    (edition : ℕ) (l : Lent) (r : CountAnswer) (left : Lent) → CandRooms g l → Sliced g splits edition l r left
     → (r .refusal ≡ 0) × (take (2 * r .count) (left .at) ≡ numbers)
 -- `mask_view_vertex`: the last vertex is found, and none after it
 Answers (verticesAre o vc v n) = (viewVertexAnswer o vc v (n - 1) .found ≡ 1) × (viewVertexAnswer o vc v n .found ≡ 0)
@@ -117,10 +120,10 @@ Answers (verticesAre o vc v n) = (viewVertexAnswer o vc v (n - 1) .found ≡ 1) 
 Answers (slicesAre c p) = (l : slice.Rooms) (r : PruneAnswer) (left : slice.Rooms) → SliceRooms c l → PruneLeft c l r left → r ≡ pruneGiven p
 -- `mask_stitch`
 Answers (loopsAre g rounds ends loops room) =
-    (x : Lists) (r : StitchAnswer) (left : Lists) → LoopRooms g room x → StitchLeft g x r left
+    (e : Editions) (x : Lists) (r : StitchAnswer) (left : Lists) → Matched g e → LoopRooms g room x → StitchLeft g e x r left
     → (r .refusal ≡ 0) × (r .rounds ≡ rounds) × (r .loops ≡ length ends) × (take (length ends) (left .ends) ≡ ends) × (take (length loops) (left .room) ≡ loops)
 Answers (refusedWith g room number) =
-    (x : Lists) (r : StitchAnswer) (left : Lists) → LoopRooms g room x → StitchLeft g x r left → (r ≡ stitchRefused number) × Untouched x left
+    (e : Editions) (x : Lists) (r : StitchAnswer) (left : Lists) → Matched g e → LoopRooms g room x → StitchLeft g e x r left → (r ≡ stitchRefused number) × Untouched x left
 -- `mask_create_on_single_segment`: there is a view between the two
 Answers (apartInBox o vc i a b t) = singleAnswer o vc i a (posOf b) t .found ≡ 1
 
@@ -154,8 +157,8 @@ fromTo x y u v = floats (x ∷ y ∷ 0 ∷ 0 ∷ u ∷ v ∷ [])
 
 abbrev pub prunedBy : ℕ → Given
 prunedBy mode =
-    given (callOf mode 0 4 4 2 2 0) (cands (1 ∷ 1 ∷ 2 ∷ 3 ∷ []) (fromTo 4 2 2 4 ++ fromTo 2 4 4 2) (1 ∷ 0 ∷ [])) (cands (0 ∷ 3 ∷ 3 ∷ 1 ∷ []) (fromTo 4 2 2 4 ++ fromTo 2 4 4 2) (0 ∷ 1 ∷ []))
-    (overlaps [] [])
+    given (callOf mode 0 4 4 2 2 0) (cands (1 ∷ 1 ∷ 2 ∷ 3 ∷ []) (fromTo 4 2 2 4 ++ fromTo 2 4 4 2) (0 ∷ 0 ∷ []) (1 ∷ 0 ∷ []))
+    (cands (0 ∷ 3 ∷ 3 ∷ 1 ∷ []) (fromTo 4 2 2 4 ++ fromTo 2 4 4 2) (0 ∷ 0 ∷ []) (0 ∷ 1 ∷ [])) (overlaps [] [] [])
 
 abbrev starts : ℕ → ℕ → ℕ → Starts
 starts i j k = record { pline2 = i; «pline1_overlapping» = j; «pline2_overlapping» = k }

@@ -58,7 +58,9 @@ use Rattle.stitch.specs.Lent.{Lists}
 use Rattle.stitch_entries.specs.StitchRows.{startsFault, lengths}
 use Rattle.stitch_entries.specs.declared.answer.StitchAnswer.{StitchAnswer}
 use Rattle.stitch_entries.specs.Answers.{stitchRefused, stitchGiven}
-use Rattle.stitch_entries.specs.StitchEntry.{stitchRefusal, stitchNumber}
+use Rattle.slice.specs.Editions.{Editions}
+use Rattle.stitch_entries.specs.StitchEntry.{lengthsOf, stitchNumber}
+use Rattle.stitch_entries.specs.Matching.{Matched, baseRefusal, base-number}
 use Rattle.sheet.specs.Sheet.{Said, candidatesAre, verticesAre, slicesAre, loopsAre, refusedWith, apartInBox, LoopRooms, Case, Holds, Answers, sheet}
 
 -- ---- what the computation opens, under one name each
@@ -92,7 +94,7 @@ unfolding views pruning rounds addVertex addFirst addView dropLast codesAt shape
 stitching = tt
 
 refusals : Unit {0}
-unfolding firstOf lengthFault sizeFault sourceFault listRows valueRows viewStartFault viewOffsetFault indexRows laterRows candidatesRefusal inputRows pruneRefusal eachSlice sourceKnown startInside offsetInside startsFault stitchRefusal viewVertexRefusal singleRefusal
+unfolding firstOf lengthFault sizeFault sourceFault listRows valueRows viewStartFault viewOffsetFault indexRows laterRows candidatesRefusal inputRows pruneRefusal eachSlice sourceKnown startInside offsetInside startsFault baseRefusal viewVertexRefusal singleRefusal
 refusals = tt
 
 -- ---- the theorem of the definitions
@@ -138,9 +140,9 @@ in-front {A = A} z w need items wanted entry l e h = subst (λ (k : List A). tak
 
 candidates-answer : (g : cuts.Given) (splits : List Float) (wanted : List ℕ) → Holds (candidatesAre g splits wanted) → Answers (candidatesAre g splits wanted)
 unfolding slices.candidatesOf
-candidates-answer g splits wanted h l r left rooms holds =
+candidates-answer g splits wanted h edition l r left rooms holds =
     let along = alongCuts g splits in
-    let none : candNumber g splits l ≡ 0 = rw (rooms .at, rooms .cand, rooms .probe) (h .1) in
+    let none : candNumber g splits l ≡ 0 = rw (rooms .at, rooms .cand, rooms .probe, rooms .edition) (h .1) in
     let told : r ≡ counted (slices.candCount along) = answer-accepted countRefused (candNumber g splits l) _ r (holds .answers) none in
     let at = answer-accepted (λ _. l .at) (candNumber g splits l) _ (left .at) (holds .at) none in
     let n : slices.candCount along ≡ r .count = ap (λ (x : CountAnswer). x .count) (sym told) in
@@ -162,17 +164,17 @@ vertices-answer o vc v n h =
 
 slices-answer : (c : prune.Given) (p : Pruned) → Holds (slicesAre c p) → Answers (slicesAre c p)
 slices-answer c p h l r left rooms holds =
-    let none : pruneNumber c l ≡ 0 = rw (rooms .at, rooms .shape) (h .1) in
+    let none : pruneNumber c l ≡ 0 = rw (rooms .at, rooms .shape, rooms .edition) (h .1) in
     answer-accepted pruneRefused (pruneNumber c l) _ r (holds .answers) none ∙ ap pruneGiven (h .0)
 
-module _ (g : stitch.Given) (room : ℕ) (x : Lists) (rooms : LoopRooms g room x) where
-  number-is : (n : ℕ) → stitchRefusal g (lengths (3 * room) (g .slices) (g .slices) (g .slices) (g .slices)) ≡ n → stitchNumber g x ≡ n
-  number-is n h = rw (rooms .room, rooms .ends, rooms .chain, rooms .chainEnds, rooms .chainHow) h
+module _ (g : stitch.Given) (room : ℕ) (e : Editions) (matched : Matched g e) (x : Lists) (rooms : LoopRooms g room x) where
+  number-is : (n : ℕ) → baseRefusal g (lengths (3 * room) (g .slices) (g .slices) (g .slices) (g .slices)) ≡ n → stitchNumber g e x ≡ n
+  number-is n h = base-number g e (lengthsOf x) matched ∙ rw (rooms .room, rooms .ends, rooms .chain, rooms .chainEnds, rooms .chainHow) h
 
 loops-answer : (g : stitch.Given) (n : ℕ) (ends : List ℕ) (loops : List Float) (room : ℕ) → Holds (loopsAre g n ends loops room) → Answers (loopsAre g n ends loops room)
-loops-answer g n ends loops room h x r left rooms holds =
-    let k = stitchNumber g x in
-    let none : stitchNumber g x ≡ 0 = number-is g room x rooms 0 (h .4) in
+loops-answer g n ends loops room h e x r left matched rooms holds =
+    let k = stitchNumber g e x in
+    let none : stitchNumber g e x ≡ 0 = number-is g room e matched x rooms 0 (h .4) in
     let told : r ≡ stitchGiven (roundCount g) (stitch.loopCount g) (stitch.chainCount g) = answer-accepted stitchRefused k _ r (holds .answers) none in (
       ap (λ (a : StitchAnswer). a .refusal) told,
       ap (λ (a : StitchAnswer). a .rounds) told ∙ h .0,
@@ -188,16 +190,16 @@ refuses f n zero a r e h some = absurd (omega arith)
 refuses f n (suc m) a r e h some = e ∙ ap (λ (k : ℕ). answer f k a) h
 
 refused-answer : (g : stitch.Given) (room number : ℕ) → Holds (refusedWith g room number) → Answers (refusedWith g room number)
-refused-answer g room number h x r left rooms holds =
-    let k = stitchNumber g x in
-    let e : stitchNumber g x ≡ number = number-is g room x rooms number (h .0) in (
-      refuses stitchRefused k number _ r (holds .answers) e (h .1),
+refused-answer g room number h e x r left matched rooms holds =
+    let k = stitchNumber g e x in
+    let is : stitchNumber g e x ≡ number = number-is g room e matched x rooms number (h .0) in (
+      refuses stitchRefused k number _ r (holds .answers) is (h .1),
       record {
-        room = refuses (λ _. x .room) k number _ (left .room) (holds .room) e (h .1);
-        ends = refuses (λ _. x .ends) k number _ (left .ends) (holds .ends) e (h .1);
-        chain = refuses (λ _. x .chain) k number _ (left .chain) (holds .chain) e (h .1);
-        chainEnds = refuses (λ _. x .chainEnds) k number _ (left .chainEnds) (holds .chainEnds) e (h .1);
-        chainHow = refuses (λ _. x .chainHow) k number _ (left .chainHow) (holds .chainHow) e (h .1);
+        room = refuses (λ _. x .room) k number _ (left .room) (holds .room) is (h .1);
+        ends = refuses (λ _. x .ends) k number _ (left .ends) (holds .ends) is (h .1);
+        chain = refuses (λ _. x .chain) k number _ (left .chain) (holds .chain) is (h .1);
+        chainEnds = refuses (λ _. x .chainEnds) k number _ (left .chainEnds) (holds .chainEnds) is (h .1);
+        chainHow = refuses (λ _. x .chainHow) k number _ (left .chainHow) (holds .chainHow) is (h .1);
       },
     )
 

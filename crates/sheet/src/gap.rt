@@ -26,6 +26,7 @@ pub(crate) fn apart(a: &[f64]) {
 pub(crate) fn joined() {
     let slice_at = [1usize, 0, 0, 4];
     let slice = [1.5, 0.0, 0.0, 0.0, 1.0, 0.0];
+    let slice_edition = [0u32; 1];
     let mut room = [0.0; 18];
     let starts = Starts {
         pline2: 1,
@@ -33,5 +34,14 @@ pub(crate) fn joined() {
         pline2_overlapping: 1,
     };
     print::word(b"A from 1.5 round to 1");
-    stitches::stitch(&slice_at, &slice, 1, starts, 0, 0.5, &mut room);
+    stitches::stitch(
+        &slice_at,
+        &slice,
+        &slice_edition,
+        1,
+        starts,
+        0,
+        0.5,
+        &mut room,
+    );
 }

@@ -35,9 +35,11 @@ fn candidates(
     let lap_at = [0usize; 0];
     let lap = [0.0; 0];
     let mut probe = [0.0; 12];
+    let mut edition = [0u32; 2];
     let answer = mask::cutting::mask_candidates(
         outline,
         4,
+        0,
         source,
         &hit_at,
         &hit,
@@ -51,6 +53,7 @@ fn candidates(
         at,
         shape,
         &mut probe,
+        &mut edition,
     );
     print::whole(answer.count);
     print::word(b",");

@@ -15,11 +15,14 @@ fn prune(
     count_b: usize,
     at: &mut [usize],
     shape: &mut [f64],
+    edition: &mut [u32],
 ) -> Starts {
     let inside_a = [1u8, 0];
     let inside_b = [0u8, 1];
     let lap_at = [0usize; 0];
     let lap = [0.0; 0];
+    let lap_edition = [0u32; 0];
+    let cut = [0u32; 2];
     let answer = mask::pruning::mask_prune(
         mode,
         0,
@@ -27,17 +30,21 @@ fn prune(
         4,
         at_a,
         shape_a,
+        &cut,
         &inside_a,
         count_a,
         at_b,
         shape_b,
+        &cut,
         &inside_b,
         count_b,
         &lap_at,
         &lap,
+        &lap_edition,
         0,
         at,
         shape,
+        edition,
     );
     print::whole(answer.slices);
     print::word(b" slices, starts");
@@ -53,6 +60,7 @@ fn prune(
 pub(crate) fn stitch(
     slice_at: &[usize],
     slice: &[f64],
+    slice_edition: &[u32],
     slices: usize,
     starts: Starts,
     selector: u32,
@@ -71,10 +79,13 @@ pub(crate) fn stitch(
     let answer = mask::stitching::mask_stitch(
         &a,
         4,
+        0,
         &b,
         4,
+        0,
         slice_at,
         slice,
+        slice_edition,
         slices,
         starts.pline2,
         starts.pline1_overlapping,
@@ -109,6 +120,7 @@ pub(crate) fn stitch(
 fn stitch_two(
     at: &[usize],
     shape: &[f64],
+    edition: &[u32],
     starts: Starts,
     selector: u32,
     numbers: usize,
@@ -120,12 +132,16 @@ fn stitch_two(
     if shape.len() < 12 {
         return;
     }
+    if edition.len() < 2 {
+        return;
+    }
     if numbers > room.len() {
         return;
     }
     stitch(
         &at[..8],
         &shape[..12],
+        &edition[..2],
         2,
         starts,
         selector,
@@ -148,6 +164,7 @@ fn of_mode(
 ) {
     let mut at = [0usize; 16];
     let mut shape = [0.0; 24];
+    let mut edition = [0u32; 4];
     let starts = prune(
         mode,
         at_a,
@@ -158,9 +175,10 @@ fn of_mode(
         count_b,
         &mut at,
         &mut shape,
+        &mut edition,
     );
     let mut room = [0.0; 27];
-    stitch_two(&at, &shape, starts, selector, numbers, &mut room);
+    stitch_two(&at, &shape, &edition, starts, selector, numbers, &mut room);
 }
 
 // T3, T4 and T5, each with the room that it needs.
@@ -198,6 +216,7 @@ pub(crate) fn nothing() {
     print::word(b"T8 no slices");
     let slice_at = [0usize; 0];
     let slice = [0.0; 0];
+    let slice_edition = [0u32; 0];
     let mut room = [0.0; 0];
     let starts = Starts {
         pline2: 0,
@@ -207,6 +226,7 @@ pub(crate) fn nothing() {
     stitch(
         &slice_at,
         &slice,
+        &slice_edition,
         0,
         starts,
         0,

@@ -40,9 +40,11 @@ fn cut_at(x: f64) {
     let mut at = [0usize; 2];
     let mut shape = [0.0; 6];
     let mut probe = [0.0; 6];
+    let mut edition = [0u32; 1];
     let answer = mask::cutting::mask_candidates(
         &outline,
         3,
+        0,
         1,
         &hit_at,
         &hit,
@@ -56,6 +58,7 @@ fn cut_at(x: f64) {
         &mut at,
         &mut shape,
         &mut probe,
+        &mut edition,
     );
     if answer.refusal != 0 {
         print::refused(answer.refusal);

@@ -81,9 +81,9 @@ pub editions-match : (first second : ℕ) (l : List Slice) → All (λ s. s .edi
     → editionFault (editions first second (editionsOf l)) (flatMap codesOf l) ≡ false
 editions-match first second l h =
     at-edition (editions first second (editionsOf l)) (flatMap codesOf l) (length l) (codes-length l) λ i b.
-        let s = stands l i b in
-        s .edition ∙ all-mem (λ s. s .edition ≡ editionOf first second (s .codes .source)) l (s .slice) h (s .among)
-        ∙ ap (λ (c : Codes). editionOf first second (c .source)) (sym (codes-stand l i s))
+    let s = stands l i b in
+    s .edition ∙ all-mem (λ s. s .edition ≡ editionOf first second (s .codes .source)) l (s .slice) h (s .among)
+    ∙ ap (λ (c : Codes). editionOf first second (c .source)) (sym (codes-stand l i s))
 
 -- the shape of item k, of a list of numbers within the limit
 pub shape-within : (l : List Float) (n k : ℕ) → allWithin l ≡ true → length l ≡ shapeWidth * n → k < n → allWithin (shapeList (shapeAt l k)) ≡ true

@@ -29,12 +29,7 @@ fn edition_of(edition1: u32, edition2: u32, source: usize) -> u32
 }
 
 // Some slice has another edition than its own outline.
-fn editions_differ(
-    edition1: u32,
-    edition2: u32,
-    slice_at: &[usize],
-    slice_edition: &[u32],
-) -> bool
+fn editions_differ(edition1: u32, edition2: u32, slice_at: &[usize], slice_edition: &[u32]) -> bool
     requires { ⌜ EditionsThere (now «slice_at») (now «slice_edition») ⌝ }
     ensures { λ r. ⌜ r ≡ editionFault (editions edition1 edition2 (now («slice_edition» .entry))) (now («slice_at» .entry)) ⌝ }
 {

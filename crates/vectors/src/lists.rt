@@ -60,9 +60,11 @@ pub(crate) fn candidates(
     let cand = words::behind(w, at);
     let probe = words::behind(w, cand);
     let end = words::behind(w, probe);
+    let mut edition = [0u32; 768];
     let answer = mask::cutting::mask_candidates(
         words::numbers(w, x, 1),
         words::at(w, p),
+        0,
         words::code_after(w, p, 1),
         words::counts(w, w, hit_at),
         words::numbers(w, x, hit),
@@ -76,6 +78,7 @@ pub(crate) fn candidates(
         words::lent_counts(w, c1, at),
         words::lent_numbers(w, x1, cand),
         words::lent_numbers(w, x2, probe),
+        &mut edition,
     );
     let left = words::after(w, end, 2);
     let left_cand = words::left_behind(w, at, left);
@@ -107,6 +110,8 @@ pub(crate) fn prune(w: &[usize], x: &[f64], b: &[u8], c1: &mut [usize], x1: &mut
     let at = words::after(w, laps, 1);
     let slice = words::behind(w, at);
     let end = words::behind(w, slice);
+    let zeros = [0u32; 1792];
+    let mut edition = [0u32; 1792];
     let answer = mask::pruning::mask_prune(
         words::code_at(w, 1),
         words::code_at(w, 2),
@@ -114,17 +119,21 @@ pub(crate) fn prune(w: &[usize], x: &[f64], b: &[u8], c1: &mut [usize], x1: &mut
         words::at(w, 4),
         words::counts(w, w, 5),
         words::numbers(w, x, cand1),
+        words::editions(&zeros, words::at(w, count1)),
         words::flags(w, b, inside1),
         words::at(w, count1),
         words::counts(w, w, at2),
         words::numbers(w, x, cand2),
+        words::editions(&zeros, words::at(w, count2)),
         words::flags(w, b, inside2),
         words::at(w, count2),
         words::counts(w, w, lap_at),
         words::numbers(w, x, lap),
+        words::editions(&zeros, words::at(w, laps)),
         words::at(w, laps),
         words::lent_counts(w, c1, at),
         words::lent_numbers(w, x1, slice),
+        &mut edition,
     );
     let left = words::after(w, end, 5);
     is_prune_answer(
@@ -188,13 +197,17 @@ pub(crate) fn stitch(
     let chain_how = words::behind(w, chain_ends);
     let end = words::behind(w, chain_how);
     let r = words::from(w, slices);
+    let zeros = [0u32; 1792];
     let answer = mask::stitching::mask_stitch(
         words::numbers(w, x, 1),
         words::at(w, vc1),
+        0,
         words::numbers(w, x, outline2),
         words::at(w, vc2),
+        0,
         words::counts(w, w, slice_at),
         words::numbers(w, x, slice),
+        words::editions(&zeros, words::at(w, slices)),
         words::at(w, slices),
         words::at(r, 1),
         words::at(r, 2),

@@ -114,6 +114,14 @@ pub(crate) fn lent_numbers<'a>(w: &[usize], l: &'a mut [f64], p: usize) -> &'a m
     &mut l[p + 1..e]
 }
 
+// So many editions, all 0: the calls were recorded without. A count that is too large for any list has none, and is refused.
+pub(crate) fn editions(l: &[u32], n: usize) -> &[u32] {
+    if n > l.len() {
+        return &l[..0];
+    }
+    &l[..n]
+}
+
 // A word's pattern is a NaN's.
 fn is_nan(word: usize) -> bool {
     word % 9223372036854775808 > 9218868437227405312

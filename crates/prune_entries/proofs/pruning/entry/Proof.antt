@@ -27,7 +27,7 @@ returns-2 c = search (needs, pruning)
 
 write-both-requires : tie.Need-write-both-requires
 write-both-requires c κs =
-    let second = c .before .before in
+    let second = c .before .before .before in
     let lent = second .before in
     let need = lent .before in
     let first = need .before in
@@ -36,9 +36,8 @@ write-both-requires c κs =
 
 finish-requires : tie.Need-finish-requires
 finish-requires c κs =
-    let lists = c .before .before .before in
-    let kept = lists .before .before .before in
-    let second = kept .before .before .before in
+    let kept = c .before .before .before .before .before .before .before .before .before in
+    let second = kept .before .before .before .before in
     let lent = second .before in
     let need = lent .before in
     let first = need .before in
@@ -59,11 +58,9 @@ same-length-3 c = search needs
 
 returns-3 : tie.Need-returns-3
 returns-3 c =
-    let out = c .before .before in
-    let done = out .before .before .before in
-    let lists = done .before .before .before .before in
-    let kept = lists .before .before .before in
-    let second = kept .before .before .before in
+    let done = c .before .before .before .before .before .before .before in
+    let kept = done .before .before .before .before .before .before .before .before .before .before in
+    let second = kept .before .before .before .before in
     let lent = second .before in
     let need = lent .before in
     let first = need .before in

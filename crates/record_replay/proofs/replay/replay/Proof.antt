@@ -41,10 +41,13 @@ slice-aggregate-stitch-held-3 c = search needs
 slice-aggregate-stitch-held-4 : tie.Need-slice-aggregate-stitch-held-4
 slice-aggregate-stitch-held-4 c = search needs
 
+slice-aggregate-stitch-held-5 : tie.Need-slice-aggregate-stitch-held-5
+slice-aggregate-stitch-held-5 c = search needs
+
 stitch-held-requires : tie.Need-stitch-held-requires
 stitch-held-requires c κs =
     let lent = c .before .before .before .before .before in
-    let test = lent .before .before .before .before .before in
+    let test = lent .before .before .before .before .before .before in
     let seen = test .before .before .before .before .before .before in
     held-fits _ _ _ _ (seen .read .ensures) refl (test .if1 .left)
 
@@ -72,7 +75,7 @@ returns-2 c =
     let lent = told .before .before .before .before .before in
     let stitched = lent .before .before .before .before .before .before in
     let lent2 = stitched .before .before .before .before .before in
-    let test = lent2 .before .before .before .before .before .before in
+    let test = lent2 .before .before .before .before .before .before .before in
     let seen = test .before .before .before .before .before .before in
     replay-stitched _ _ _ _ (seen .read .ensures) refl (test .if1 .left) _ _ _ _ (stitched .stitch-held .ensures) (told .replay-of .ensures)
 
@@ -91,6 +94,7 @@ replay-spec =
     slice-aggregate-stitch-held-2
     slice-aggregate-stitch-held-3
     slice-aggregate-stitch-held-4
+    slice-aggregate-stitch-held-5
     stitch-held-requires
     replay-of-requires
     same-length

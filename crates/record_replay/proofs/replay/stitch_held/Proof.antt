@@ -16,7 +16,7 @@ mul-n3 c = search needs
 mul-n4 : tie.Need-mul-n4
 mul-n4 c =
     let lent = c .before .before .before .before .before .before in
-    let entry = lent .before .before .before .before .before .before .before in
+    let entry = lent .before .before .before .before .before .before .before .before in
     omega (arith, entry .pre .shapes, entry .good)
 
 sub-stitched : tie.Need-sub-stitched
@@ -53,7 +53,19 @@ part-stitched-start-4 : tie.Need-part-stitched-start-4
 part-stitched-start-4 c = search needs
 
 part-stitched-end-4 : tie.Need-part-stitched-end-4
-part-stitched-end-4 c = search needs
+part-stitched-end-4 c =
+    let lent = c .before .before in
+    let entry = lent .before .before .before .before .before .before .before .before .before .before .before .before .before .before .before in
+    omega (arith, entry .pre .shapes)
+
+sub-stitched-5 : tie.Need-sub-stitched-5
+sub-stitched-5 c = search needs
+
+part-stitched-start-5 : tie.Need-part-stitched-start-5
+part-stitched-start-5 c = search needs
+
+part-stitched-end-5 : tie.Need-part-stitched-end-5
+part-stitched-end-5 c = search needs
 
 stitched-requires : tie.Need-stitched-requires
 stitched-requires c κs = search needs
@@ -74,7 +86,11 @@ same-length-5 : tie.Need-same-length-5
 same-length-5 c = search needs
 
 returns : tie.Need-returns
-returns c = search (fronts-of)
+returns c =
+    let stitched = c .before .before .before .before .before .before .before .before .before .before in
+    let lent = stitched .before .before .before .before .before .before .before .before .before .before in
+    let entry = lent .before .before .before .before .before .before .before .before .before .before .before .before .before .before .before in
+    fronts-of _ _ _ (entry .pre .none) _ _ _ (stitched .stitched .ensures)
 
 pub stitch-held-spec : {M : Type 1} → statement M
 stitch-held-spec =
@@ -96,6 +112,9 @@ stitch-held-spec =
     sub-stitched-4
     part-stitched-start-4
     part-stitched-end-4
+    sub-stitched-5
+    part-stitched-start-5
+    part-stitched-end-5
     stitched-requires
     same-length
     same-length-2

@@ -4,8 +4,8 @@ use Rattle.record_write.proofs.Keeping.{keep-fault, sized-given, length
 use Rattle.record_write.proofs.write.write.Statement.{statement}
 use Rattle.record_write.proofs.write.write.Tie as tie
 
-keep-refusal-requires : tie.Need-keep-refusal-requires
-keep-refusal-requires c κs = search needs
+held-refusal-requires : tie.Need-held-refusal-requires
+held-refusal-requires c κs = search needs
 
 written-refused-requires : tie.Need-written-refused-requires
 written-refused-requires c κs = search needs
@@ -15,7 +15,7 @@ returns c =
     let refused = c in
     let test = refused .before in
     let kept = test .before in
-    write-refused _ _ _ _ (keep-fault _ _ (kept .keep-refusal .ensures) (test .if1 .taken)) (test .if1 .taken) (refused .written-refused .ensures)
+    write-refused _ _ _ _ _ (keep-fault _ _ _ (kept .held-refusal .ensures) (test .if1 .taken)) (test .if1 .taken) (refused .written-refused .ensures)
 
 version1-requires : tie.Need-version1-requires
 version1-requires c κs = search needs
@@ -34,7 +34,7 @@ returns-2 c =
     let version = long .before in
     let test = version .before in
     let kept = test .before in
-    write-refused _ _ 9 _ (room-fault _ _ (kept .keep-refusal .ensures) (test .if1 .left) (length-told _ (version .version1 .ensures) (long .length-of .ensures)) (second .if2 .taken)) (λ z. omega arith) (refused .written-refused2 .ensures)
+    write-refused _ _ _ 9 _ (room-fault _ _ _ (kept .held-refusal .ensures) (test .if1 .left) (length-told _ (version .version1 .ensures) (long .length-of .ensures)) (second .if2 .taken)) (λ z. omega arith) (refused .written-refused2 .ensures)
 
 write-kept-requires : tie.Need-write-kept-requires
 write-kept-requires c κs =
@@ -43,7 +43,7 @@ write-kept-requires c κs =
     let version = long .before in
     let test = version .before in
     let kept = test .before in
-    kept-all _ _ (kept .keep-refusal .ensures) (test .if1 .left) (length-told _ (version .version1 .ensures) (long .length-of .ensures)) (second .if2 .left)
+    kept-all _ _ _ (kept .held-refusal .ensures) (test .if1 .left) (length-told _ (version .version1 .ensures) (long .length-of .ensures)) (second .if2 .left)
 
 written-given-requires : tie.Need-written-given-requires
 written-given-requires c κs = search needs
@@ -60,13 +60,13 @@ returns-3 c =
     let version = long .before in
     let test = version .before in
     let kept = test .before in
-    write-given _ _ _ _ _ (no-fault _ _ (kept .keep-refusal .ensures) (test .if1 .left) (length-told _ (version .version1 .ensures) (long .length-of .ensures)) (second .if2 .left)) (kept-all _ _ (kept .keep-refusal .ensures) (test .if1 .left) (length-told _ (version .version1 .ensures) (long .length-of .ensures)) (second .if2 .left)) (length-told _ (version .version1 .ensures) (long .length-of .ensures)) (written .write-kept .ensures) (given .written-given .ensures)
+    write-given _ _ _ _ _ _ (no-fault _ _ _ (kept .held-refusal .ensures) (test .if1 .left) (length-told _ (version .version1 .ensures) (long .length-of .ensures)) (second .if2 .left)) (kept-all _ _ _ (kept .held-refusal .ensures) (test .if1 .left) (length-told _ (version .version1 .ensures) (long .length-of .ensures)) (second .if2 .left)) (length-told _ (version .version1 .ensures) (long .length-of .ensures)) (written .write-kept .ensures) (given .written-given .ensures)
 
 pub write-spec : {M : Type 1} → statement M
 write-spec =
     tie.close
     (tie.spec
-    keep-refusal-requires
+    held-refusal-requires
     written-refused-requires
     returns
     version1-requires

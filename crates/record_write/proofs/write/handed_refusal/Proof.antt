@@ -1,10 +1,13 @@
 use borrow.Author.Needs.{needs}
 use Rattle.basis.specs.RefuseLaws.{then-rows}
-use Rattle.record_write.proofs.write.keep_refusal.Statement.{statement}
-use Rattle.record_write.proofs.write.keep_refusal.Tie as tie
+use Rattle.record_write.proofs.write.handed_refusal.Statement.{statement}
+use Rattle.record_write.proofs.write.handed_refusal.Tie as tie
 
 list-refusal-requires : tie.Need-list-refusal-requires
 list-refusal-requires c κs = search needs
+
+list-refusal-requires-2 : tie.Need-list-refusal-requires-2
+list-refusal-requires-2 c κs = search needs
 
 taken-refusal-requires : tie.Need-taken-refusal-requires
 taken-refusal-requires c κs = search needs
@@ -22,13 +25,14 @@ index-refusal-requires : tie.Need-index-refusal-requires
 index-refusal-requires c κs = search needs
 
 returns : tie.Need-returns
-returns c = search (then-rows) depth 14
+returns c = search (then-rows) depth 16
 
-pub keep-refusal-spec : {M : Type 1} → statement M
-keep-refusal-spec =
+pub handed-refusal-spec : {M : Type 1} → statement M
+handed-refusal-spec =
     tie.close
     (tie.spec
     list-refusal-requires
+    list-refusal-requires-2
     taken-refusal-requires
     code-refusal-requires
     axes-refusal-requires
