@@ -17,7 +17,7 @@ use Rattle.basis.specs.Number.{tolerableOn, tolerable}
 use Rattle.basis.specs.StoreLaws.{sets-front}
 use Rattle.basis.specs.Refuse.{Row, row, firstOf, firstFrom}
 use Rattle.basis.specs.RefuseLaws.{Clear, clear, clear-right, clear-from, stop-rows, go-rows, length-ok, answer-no, answer-yes, first-found, first-later}
-use Rattle.fields.specs.Fields.{bitsOf}
+use Rattle.fields.specs.Fields.{size, pack, rows, bitsOf}
 use Rattle.fields.specs.Ready.{Number}
 use Rattle.slice.specs.Slice.{codeWidth}
 use Rattle.slice.specs.Ready.{EditionsThere}
@@ -26,7 +26,7 @@ use Rattle.stitch_run.specs.declared.plan.Plan.{Plan}
 use Rattle.stitch_run.specs.Stitch.{Given, given}
 use Rattle.record.specs.declared.form.Version.{Version}
 use Rattle.record.specs.declared.head.Head.{Head}
-use Rattle.record.specs.Form.{formFor, entryWidth, bodyOf}
+use Rattle.record.specs.Form.{formFor, headShape, sliceShape, vertexShape, entryWidth, bodyOf}
 use Rattle.record.specs.Ready.{FormOk, Sized}
 use Rattle.record.specs.Record.{listsIn, planIn, headGiven, headValues, lengthOf, valuesOf, packed, recordOf}
 use Rattle.record.specs.RecordLaws.{form-ok, sets-room}
@@ -63,11 +63,17 @@ module _ (v : Version) (g : Given) (e : Editions) {m : ℕ} (k : Keeps v g e m) 
     unfolding recordOf
     kept-written b b′ q = q ∙ ap (λ (x : List ℕ). sets b 0 (packed v (headGiven g e) x)) (values-part vs vs′ l f)
 
--- ---- the values of a head, as the code has them
-pub pack-fits : {v : Version} {h : Head} {head : List ℕ} (values m : ℕ) → head ≡ headValues (v .number) h → Packs v h values m
-    → PackFit v (length head) values (h .plan .vc1 + h .plan .vc2) (h .plan .slices) m
-unfolding lengthOf
-pack-fits values m f k = record { form = k .form; heads = ap length f; all = k .all; room = omega (arith, k .room) }
+-- ---- the tables of a version, as the code has them
+module _ {v : Version} {h : Head} {vs m : ℕ} (k : Packs v h vs m) {head hs es : List ℕ} (p : hs ≡ headShape v) (q : es ≡ sliceShape v) (f : head ≡ headValues (v .number) h) where
+  pub pack-fits : {start stride : ℕ} → start ≡ size (headShape v) → stride ≡ size (sliceShape v)
+      → PackFit start stride hs (length head) es vs (h .plan .vc1 + h .plan .vc2) (h .plan .slices) m
+  unfolding lengthOf
+  pack-fits a b = rw (p, q, a, b) (record { heads = ap length f; bytes = refl; strides = refl; all = k .all; room = omega (arith, k .room) })
+
+  pub packed-as : (values b b′ : List ℕ)
+      → b′ ≡ sets b 0 (pack hs head ++ pack (rows (h .plan .vc1 + h .plan .vc2) vertexShape ++ rows (h .plan .slices) es) values) → b′ ≡ sets b 0 (packed v h values)
+  unfolding bodyOf
+  packed-as values b b′ e = rw (p, q, f) at e
 
 -- ---- two tolerances that differ
 module _ (v : Version) (t : Tolerance) where
@@ -173,8 +179,8 @@ write-given n v g e b b′ k r is h l q f =
     }
 
 -- the table of the version that is asked for
-pub table-ok : {n : ℕ} {v : Version} → v ≡ formFor n → FormOk v
-table-ok {n} e = rw e (form-ok n)
+pub table-ok : (n : ℕ) (v : Version) → v ≡ formFor n → FormOk v
+table-ok n v e = rw e (form-ok n)
 
 pub write-asked : {n : ℕ} {v : Version} {g : Given} {e : Editions} {b b′ : List ℕ} {r : CountAnswer} → v ≡ formFor n → WriteForm n v g e b r b′ → WriteLeft n g e b r b′
 write-asked f w = rw f at w

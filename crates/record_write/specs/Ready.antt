@@ -13,7 +13,7 @@ use Rattle.stitch_run.specs.declared.plan.Plan.{Plan}
 use Rattle.stitch_run.specs.Stitch.{Given}
 use Rattle.record.specs.declared.form.Version.{Version}
 use Rattle.record.specs.declared.head.Head.{Head}
-use Rattle.record.specs.Form.{headShape, sliceShape, takenVertices, takenSlices, entryWidth}
+use Rattle.record.specs.Form.{takenVertices, takenSlices, entryWidth}
 use Rattle.record.specs.Ready.{FormOk}
 use Rattle.record.specs.Record.{planIn, lengthOf}
 use Rattle.record_write.specs.Writer.{lengthGiven}
@@ -36,12 +36,13 @@ pub record ValuesFit (o1 o2 : List Float) (codes : ℕ) (numbers : List Float) (
   pub plain2 : NoNan o2
   pub plain3 : NoNan numbers
 
--- values for every field of a version, and room for its bytes
-pub record PackFit (v : Version) (head values vertices slices m : ℕ) : Type 0 where
-  pub form : FormOk v
-  pub heads : head ≡ length (headShape v)
-  pub all : values ≡ vertices * 3 + slices * entryWidth
-  pub room : size (headShape v) + (vertices * 24 + slices * size (sliceShape v)) ≤ m
+-- values for every field of a table, and room for its bytes
+pub record PackFit (start stride : ℕ) (hs : List ℕ) (head : ℕ) (es : List ℕ) (values vertices slices m : ℕ) : Type 0 where
+  pub heads : head ≡ length hs
+  pub bytes : start ≡ size hs
+  pub strides : stride ≡ size es
+  pub all : values ≡ vertices * 3 + slices * length es
+  pub room : start + (vertices * 24 + slices * stride) ≤ m
 
 -- tolerances that are numbers
 pub record Numbers (t : Tolerance) : Type 0 where

@@ -43,6 +43,12 @@ pub fn head_values(number: usize, h: Head) -> [usize; 15]
     ]
 }
 
+fn wide(edition: u32) -> usize
+    ensures { λ r. ⌜ r ≡ edition ⌝ }
+{
+    edition as usize
+}
+
 // Lists of each slice its codes, the patterns of its shape and its edition, from `to` on.
 fn mix_slices(
     slice_at: &[usize],
@@ -63,7 +69,7 @@ fn mix_slices(
         copy::copy(slice_at, i, CODE_WIDTH, values, q);
         copy::copy_bits(slice, j, SHAPE_WIDTH, values, q + CODE_WIDTH);
         let at = q + form::COMMON_WIDTH;
-        values[at] = slice_edition[k] as usize;
+        values[at] = wide(slice_edition[k]);
         q += form::ENTRY_WIDTH;
         i += CODE_WIDTH;
         j += SHAPE_WIDTH;

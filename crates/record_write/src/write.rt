@@ -112,8 +112,22 @@ fn pack_kept(v: Version, h: Head, values: &[usize], bytes: &mut [u8])
     ensures { λ _. ⌜ now (bytes .exit) ≡ sets (now (bytes .entry)) 0 (packed v h (now (values .entry))) ⌝ }
 {
     let p = h.plan;
+    let widths = form::head_widths(v);
+    let entry = form::slice_widths(v);
+    let start = form::head_bytes(v);
+    let stride = form::slice_bytes(v);
     let head = values::head_values(v.number, h);
-    pack::pack_form(v, &head, values, p.vc1 + p.vc2, p.slices, bytes);
+    pack::pack_form(
+        start,
+        stride,
+        &widths,
+        &head,
+        &entry,
+        values,
+        p.vc1 + p.vc2,
+        p.slices,
+        bytes,
+    );
 }
 
 // Writes the record of a stitch that is not refused, where there is room.
@@ -143,7 +157,11 @@ fn write_kept(
         p.slices,
         &mut held,
     );
-    let h = Head { plan: p, edition1, edition2 };
+    let h = Head {
+        plan: p,
+        edition1,
+        edition2,
+    };
     pack_kept(v, h, &held[0..n], bytes);
 }
 

@@ -12,13 +12,15 @@ use Rattle.basis.specs.Choice.{by-test, clash, and-left, and-right}
 use Rattle.basis.specs.Number.{absF, within, allWithin, tolerableOn}
 use Rattle.stitch_run.specs.Doubles.{AllDouble}
 use Rattle.fields.specs.Fields.{rows, infinity, numOf, bitsOf}
-use Rattle.fields.specs.FieldLaws.{thin-narrow, narrow-append, narrow-rows}
+use Rattle.fields.specs.FieldLaws.{Cut, cut-none, cut-one, cut-fit}
 use Rattle.fields.specs.NumberLaws.{AllPlain, plain-none, plain-one, bits-below, bits-num, nan-read}
 use Rattle.fields.specs.Ready.{Narrow, narrow-one, Fitted, fit-none, fit-one}
 use Rattle.slice.specs.declared.data.Codes.{Codes}
 use Rattle.slice.specs.Slice.{codeWidth, shapeWidth, codesAt}
-use Rattle.record.specs.Form.{form1, vertexShape, bodyOf, column, mix}
+use Rattle.record.specs.declared.form.Version.{Version}
+use Rattle.record.specs.Form.{sliceShape, vertexShape, column, mix}
 use Rattle.record_write.specs.KeepLaws.{within-no-nan}
+use Rattle.record_trip.specs.Kept.{keptIn}
 
 pub all-plain : (l : List Float) → AllDouble l → allWithin l ≡ true → AllPlain l
 unfolding allOf
@@ -65,29 +67,34 @@ next a b c d at i f =
     let e3 : codeWidth * suc i + 3 ≡ suc (suc (suc (suc (codeWidth * i + 3)))) = omega arith in
     record { source = rw e at (f .source); inverted = rw e1 at (f .inverted); start = rw e2 at (f .start); offset = rw e3 at (f .offset) }
 
-pub slices-fitted : (n : ℕ) (at vs : List ℕ) → length at ≡ codeWidth * n → length vs ≡ shapeWidth * n → ((i : ℕ) → i < n → CodesFit (codesAt at i)) → Below vs
-    → Fitted (rows n (form1 .entry)) (mix codeWidth shapeWidth n at vs)
+-- the slices: codes and shapes as they are, editions as the version keeps them
+pub slices-cut : (v : Version) (n : ℕ) (at vs dates : List ℕ) → length at ≡ codeWidth * n → length vs ≡ shapeWidth * n → length dates ≡ n
+    → ((i : ℕ) → i < n → CodesFit (codesAt at i)) → Below vs
+    → Cut (rows n (sliceShape v)) (mix codeWidth shapeWidth n at vs dates) (mix codeWidth shapeWidth n at vs (map (keptIn v) dates))
 unfolding rows mix codesAt
-slices-fitted zero at vs h k f b = fit-none
-slices-fitted (suc n) [] vs h k f b = absurd (omega arith)
-slices-fitted (suc n) (a1 ∷ []) vs h k f b = absurd (omega arith)
-slices-fitted (suc n) (a1 ∷ a2 ∷ []) vs h k f b = absurd (omega arith)
-slices-fitted (suc n) (a1 ∷ a2 ∷ a3 ∷ []) vs h k f b = absurd (omega arith)
-slices-fitted (suc n) (a1 ∷ a2 ∷ a3 ∷ a4 ∷ at) [] h k f b = absurd (omega arith)
-slices-fitted (suc n) (a1 ∷ a2 ∷ a3 ∷ a4 ∷ at) (x1 ∷ []) h k f b = absurd (omega arith)
-slices-fitted (suc n) (a1 ∷ a2 ∷ a3 ∷ a4 ∷ at) (x1 ∷ x2 ∷ []) h k f b = absurd (omega arith)
-slices-fitted (suc n) (a1 ∷ a2 ∷ a3 ∷ a4 ∷ at) (x1 ∷ x2 ∷ x3 ∷ []) h k f b = absurd (omega arith)
-slices-fitted (suc n) (a1 ∷ a2 ∷ a3 ∷ a4 ∷ at) (x1 ∷ x2 ∷ x3 ∷ x4 ∷ []) h k f b = absurd (omega arith)
-slices-fitted (suc n) (a1 ∷ a2 ∷ a3 ∷ a4 ∷ at) (x1 ∷ x2 ∷ x3 ∷ x4 ∷ x5 ∷ []) h k f b = absurd (omega arith)
-slices-fitted (suc n) (a1 ∷ a2 ∷ a3 ∷ a4 ∷ at) (x1 ∷ x2 ∷ x3 ∷ x4 ∷ x5 ∷ x6 ∷ vs) h k f
+slices-cut v zero at vs dates h k l f b = cut-none
+slices-cut v (suc n) [] vs dates h k l f b = absurd (omega arith)
+slices-cut v (suc n) (a1 ∷ []) vs dates h k l f b = absurd (omega arith)
+slices-cut v (suc n) (a1 ∷ a2 ∷ []) vs dates h k l f b = absurd (omega arith)
+slices-cut v (suc n) (a1 ∷ a2 ∷ a3 ∷ []) vs dates h k l f b = absurd (omega arith)
+slices-cut v (suc n) (a1 ∷ a2 ∷ a3 ∷ a4 ∷ at) [] dates h k l f b = absurd (omega arith)
+slices-cut v (suc n) (a1 ∷ a2 ∷ a3 ∷ a4 ∷ at) (x1 ∷ []) dates h k l f b = absurd (omega arith)
+slices-cut v (suc n) (a1 ∷ a2 ∷ a3 ∷ a4 ∷ at) (x1 ∷ x2 ∷ []) dates h k l f b = absurd (omega arith)
+slices-cut v (suc n) (a1 ∷ a2 ∷ a3 ∷ a4 ∷ at) (x1 ∷ x2 ∷ x3 ∷ []) dates h k l f b = absurd (omega arith)
+slices-cut v (suc n) (a1 ∷ a2 ∷ a3 ∷ a4 ∷ at) (x1 ∷ x2 ∷ x3 ∷ x4 ∷ []) dates h k l f b = absurd (omega arith)
+slices-cut v (suc n) (a1 ∷ a2 ∷ a3 ∷ a4 ∷ at) (x1 ∷ x2 ∷ x3 ∷ x4 ∷ x5 ∷ []) dates h k l f b = absurd (omega arith)
+slices-cut v (suc n) (a1 ∷ a2 ∷ a3 ∷ a4 ∷ at) (x1 ∷ x2 ∷ x3 ∷ x4 ∷ x5 ∷ x6 ∷ vs) [] h k l f b = absurd (omega arith)
+slices-cut v (suc n) (a1 ∷ a2 ∷ a3 ∷ a4 ∷ at) (x1 ∷ x2 ∷ x3 ∷ x4 ∷ x5 ∷ x6 ∷ vs) (d ∷ dates) h k l f
     (below-one b1 (below-one b2 (below-one b3 (below-one b4 (below-one b5 (below-one b6 b)))))) =
     let g = f 0 (omega arith) in
     let rest : (i : ℕ) → i < n → CodesFit (codesAt at i) = λ i l. next a1 a2 a3 a4 at i (f (suc i) (omega arith)) in
-    fit-one (g .source)
-    (fit-one (g .inverted)
-    (fit-one (g .start)
-    (fit-one (g .offset)
-    (fit-one b1 (fit-one b2 (fit-one b3 (fit-one b4 (fit-one b5 (fit-one b6 (slices-fitted n at vs (omega arith) (omega arith) rest b))))))))))
+    cut-fit (g .source)
+    (cut-fit (g .inverted)
+    (cut-fit (g .start)
+    (cut-fit (g .offset)
+    (cut-fit b1
+    (cut-fit b2
+    (cut-fit b3 (cut-fit b4 (cut-fit b5 (cut-fit b6 (cut-one refl (slices-cut v n at vs dates (omega arith) (omega arith) (omega arith) rest b)))))))))))
 
 -- ---- the other way: values that were read from fields of at most 8 bytes
 pub fitted-below : {ws vs : List ℕ} → Fitted ws vs → Narrow ws → Below vs
@@ -116,13 +123,6 @@ pub below-column : (stride offset per n : ℕ) {vs : List ℕ} → Below vs → 
 unfolding column
 below-column stride offset per zero b = below-none
 below-column stride offset per (suc n) b = below-append (below-take per (below-drop offset b)) (below-column stride offset per n (below-drop stride b))
-
-pub head-narrow : Narrow (form1 .head)
-head-narrow = thin-narrow (form1 .head) refl
-
-pub body-narrow : (v n : ℕ) → Narrow (bodyOf (form1 .entry) v n)
-unfolding bodyOf
-body-narrow v n = narrow-append (narrow-rows v (thin-narrow vertexShape refl)) (narrow-rows n (thin-narrow (form1 .entry) refl))
 
 -- ---- a pattern that is read as a number in range, or as a tolerance, is no NaN's
 infinity-out : within infinity ≡ false

@@ -41,12 +41,13 @@ module _ {A : Type 0} (w n : ℕ) (l : List A) (h : length l ≡ suc n * w) wher
   other-items : length (drop w l) ≡ n * w
   other-items = length-drop w l ∙ omega (arith, h, suc-mul n w)
 
-module _ {A : Type 0} (c m : ℕ) where
-  abbrev stride : ℕ
-  stride = c + m + 1
+-- the values of a row
+abbrev stride : ℕ → ℕ → ℕ
+stride c m = c + m + 1
 
+module _ {A : Type 0} (c m : ℕ) where
   pub codes-back : (n : ℕ) (codes numbers dates : List A) → length codes ≡ n * c → length numbers ≡ n * m → length dates ≡ n * 1
-      → column stride 0 c n (mix c m n codes numbers dates) ≡ codes
+      → column (stride c m) 0 c n (mix c m n codes numbers dates) ≡ codes
   unfolding column mix
   codes-back zero codes numbers dates h k l = sym (nothing codes (omega arith))
   codes-back (suc n) codes numbers dates h k l =
@@ -57,12 +58,12 @@ module _ {A : Type 0} (c m : ℕ) where
       let lx = first-item c n codes h in
       let ly = first-item m n numbers k in
       let lz = first-item 1 n dates l in
-      let i : column stride 0 c n r ≡ drop c codes =
+      let i : column (stride c m) 0 c n r ≡ drop c codes =
       codes-back n (drop c codes) (drop m numbers) (drop 1 dates) (other-items c n codes h) (other-items m n numbers k) (other-items 1 n dates l) in
       rw (past-row c m x y z r lx ly lz, row-codes c m x y z r lx ly lz, i) (take-append-drop c codes)
 
   pub numbers-back : (n : ℕ) (codes numbers dates : List A) → length codes ≡ n * c → length numbers ≡ n * m → length dates ≡ n * 1
-      → column stride c m n (mix c m n codes numbers dates) ≡ numbers
+      → column (stride c m) c m n (mix c m n codes numbers dates) ≡ numbers
   unfolding column mix
   numbers-back zero codes numbers dates h k l = sym (nothing numbers (omega arith))
   numbers-back (suc n) codes numbers dates h k l =
@@ -73,12 +74,12 @@ module _ {A : Type 0} (c m : ℕ) where
       let lx = first-item c n codes h in
       let ly = first-item m n numbers k in
       let lz = first-item 1 n dates l in
-      let i : column stride c m n r ≡ drop m numbers =
+      let i : column (stride c m) c m n r ≡ drop m numbers =
       numbers-back n (drop c codes) (drop m numbers) (drop 1 dates) (other-items c n codes h) (other-items m n numbers k) (other-items 1 n dates l) in
       rw (past-row c m x y z r lx ly lz, row-numbers c m x y z r lx ly lz, i) (take-append-drop m numbers)
 
   pub dates-back : (n : ℕ) (codes numbers dates : List A) → length codes ≡ n * c → length numbers ≡ n * m → length dates ≡ n * 1
-      → column stride (c + m) 1 n (mix c m n codes numbers dates) ≡ dates
+      → column (stride c m) (c + m) 1 n (mix c m n codes numbers dates) ≡ dates
   unfolding column mix
   dates-back zero codes numbers dates h k l = sym (nothing dates (omega arith))
   dates-back (suc n) codes numbers dates h k l =
@@ -89,27 +90,27 @@ module _ {A : Type 0} (c m : ℕ) where
       let lx = first-item c n codes h in
       let ly = first-item m n numbers k in
       let lz = first-item 1 n dates l in
-      let i : column stride (c + m) 1 n r ≡ drop 1 dates =
+      let i : column (stride c m) (c + m) 1 n r ≡ drop 1 dates =
       dates-back n (drop c codes) (drop m numbers) (drop 1 dates) (other-items c n codes h) (other-items m n numbers k) (other-items 1 n dates l) in
       rw (past-row c m x y z r lx ly lz, row-date c m x y z r lx ly lz, i) (take-append-drop 1 dates)
 
-  pub rows-back : (n : ℕ) (vs : List A) → length vs ≡ n * stride
-      → mix c m n (column stride 0 c n vs) (column stride c m n vs) (column stride (c + m) 1 n vs) ≡ vs
+  pub rows-back : (n : ℕ) (vs : List A) → length vs ≡ n * stride c m
+      → mix c m n (column (stride c m) 0 c n vs) (column (stride c m) c m n vs) (column (stride c m) (c + m) 1 n vs) ≡ vs
   unfolding column mix
   rows-back zero vs h = sym (nothing vs (omega arith))
   rows-back (suc n) vs h =
-      let l : stride ≤ length vs = omega (arith, h, suc-mul n stride) in
+      let l : stride c m ≤ length vs = omega (arith, h, suc-mul n (stride c m)) in
       let x = take c vs in
       let y = take m (drop c vs) in
       let z = take 1 (drop (c + m) vs) in
-      let rest = drop stride vs in
-      let p = column stride 0 c n rest in
-      let q = column stride c m n rest in
-      let t = column stride (c + m) 1 n rest in
+      let rest = drop (stride c m) vs in
+      let p = column (stride c m) 0 c n rest in
+      let q = column (stride c m) c m n rest in
+      let t = column (stride c m) (c + m) 1 n rest in
       let lx : length x ≡ c = length-take-le c vs (omega arith) in
       let ly : length y ≡ m = length-take-le m (drop c vs) (rw length-drop (omega arith)) in
       let lz : length z ≡ 1 = length-take-le 1 (drop (c + m) vs) (rw length-drop (omega arith)) in
-      let i : mix c m n p q t ≡ rest = rows-back n rest (other-items stride n vs h) in
+      let i : mix c m n p q t ≡ rest = rows-back n rest (other-items (stride c m) n vs h) in
       rw (take-at x p c lx, drop-at x p c lx, take-at y q m ly, drop-at y q m ly, take-at z t 1 lz, drop-at z t 1 lz, i)
       (ap (λ (u : List A). x ++ (y ++ (z ++ u))) (sym (drop-drop 1 (c + m) vs))
       ∙ ap (λ (u : List A). x ++ (y ++ u)) (take-append-drop 1 (drop (c + m) vs) ∙ sym (drop-drop m c vs))

@@ -1,0 +1,94 @@
+-- The two versions: what the laws of all versions say of each, and of a version 1 record that is written again as version 2.
+use Prim.Native.Nat.{ℕ, zero, suc, _+_, _*_, _^_, _≤_, _<_}
+use mathlib.Core.Path.{_≡_, refl, sym, ap, _∙_}
+use mathlib.Core.List.{List, [], _∷_, _++_}
+use mathlib.Core.Logic.{inl}
+use native.Mathlib.Omega.{arith}
+use lib.ListN.{length, drop, replicate}
+use lib.Seq.{drop-at}
+use Rattle.basis.specs.All.{All}
+use Rattle.basis.specs.Refuse.{firstOf}
+use Rattle.slice.specs.Slice.{codeWidth, shapeWidth}
+use Rattle.slice.specs.Editions.{Editions, editions}
+use Rattle.stitch_run.specs.declared.plan.Plan.{Plan}
+use Rattle.stitch_run.specs.Doubles.{Doubles}
+use Rattle.stitch_run.specs.Stitch.{Given}
+use Rattle.stitch_entries.specs.Matching.{Matched, oneEdition}
+use Rattle.fields.specs.Fields.{size, valueOf, unpack, rows}
+use Rattle.fields.specs.FieldLaws.{Octets, unpack-append, length-unpack, length-rows}
+use Rattle.record.specs.declared.form.Version.{Version}
+use Rattle.record.specs.declared.head.Lengths.{Lengths}
+use Rattle.record.specs.Form.{form1, form2, headShape, sliceShape, vertexShape, commonWidth, entryWidth, bodyOf, column}
+use Rattle.record.specs.Record.{headIn, planHeld, bodyIn, slicesFrom, datesFrom, listsHeld, stitchIn, editionsIn, readRefusal, recordOf}
+use Rattle.record_write.specs.Writer.{lengthGiven, writeRefusal}
+use Rattle.record_trip.specs.Kept.{keptEditions, trip1, trip2, EditionsFit, kept-same, kept-none}
+use Rattle.record_trip.specs.WriteRead.{RoomFor, write-then-read}
+use Rattle.record_trip.specs.ReadWrite.{stitchFault, read-then-rewrite}
+
+-- ---- version 2 keeps 32-bit editions as they are
+abbrev pub Word : ℕ → Type 0
+Word x = x < 4294967296
+
+pub written2 : (g : Given) (e : Editions) (room : ℕ) → writeRefusal 2 form2 g e room ≡ 0 → Doubles g → Word (e .first) → Word (e .second) → All Word (e .slices)
+    → (stitchIn form2 (recordOf form2 g e) ≡ g) × (editionsIn form2 (recordOf form2 g e) ≡ e)
+written2 g e room z held a b c =
+    let back = write-then-read 2 form2 trip2 g e room z held in
+    (back .same, back .editions ∙ kept-same form2 e (record { first = a; second = b; slices = c }))
+
+-- ---- version 1 keeps none: the same stitch, in edition 0 throughout
+pub written1 : (g : Given) (e : Editions) (room : ℕ) → writeRefusal 1 form1 g e room ≡ 0 → Doubles g
+    → (stitchIn form1 (recordOf form1 g e) ≡ g) × (editionsIn form1 (recordOf form1 g e) ≡ oneEdition 0 (length (e .slices)))
+written1 g e room z held =
+    let back = write-then-read 1 form1 trip1 g e room z held in
+    (back .same, back .editions ∙ kept-none form1 refl e)
+
+-- ---- "a version 1 record reads as .. edition 0"
+cons-both : {a b : ℕ} {l m : List ℕ} → a ≡ b → l ≡ m → (a ∷ l) ≡ (b ∷ m)
+cons-both e f = rw (e, f)
+
+no-dates : (n : ℕ) (x : List ℕ) → column entryWidth commonWidth 1 n (unpack (rows n (sliceShape form1)) x) ≡ replicate n 0
+unfolding column rows unpack valueOf
+no-dates zero x = refl
+no-dates (suc n) x = cons-both refl (no-dates n _)
+
+none-held : (p : Plan) (b : List ℕ) → datesFrom p (bodyIn form1 p b) ≡ replicate (p .slices) 0
+unfolding datesFrom bodyIn bodyOf
+none-held p b =
+    let k = p .vc1 + p .vc2 in
+    let rest = drop (size (headShape form1)) b in
+    let first = unpack (rows k vertexShape) rest in
+    let second = unpack (rows (p .slices) (sliceShape form1)) (drop (size (rows k vertexShape)) rest) in
+    let l : length first ≡ slicesFrom p = length-unpack (rows k vertexShape) rest ∙ length-rows k vertexShape ∙ omega arith in
+    ap (λ (u : List ℕ). column entryWidth commonWidth 1 (p .slices) (drop (slicesFrom p) u)) (unpack-append (rows k vertexShape) (rows (p .slices) (sliceShape form1)) rest)
+    ∙ ap (column entryWidth commonWidth 1 (p .slices)) (drop-at first second (slicesFrom p) l)
+    ∙ no-dates (p .slices) (drop (size (rows k vertexShape)) rest)
+
+pub old-editions : (b : List ℕ) → editionsIn form1 b ≡ oneEdition 0 (stitchIn form1 b .slices)
+unfolding listsHeld
+old-editions b =
+    let first : headIn form1 b .edition1 ≡ 0 = unfold headIn unpack valueOf in refl in
+    let second : headIn form1 b .edition2 ≡ 0 = unfold headIn unpack valueOf in refl in
+    let slices = none-held (planHeld form1 b) b in
+    rw (slices, first, second)
+
+-- ---- a version 1 record, written again as version 2
+zeros-fit : (n : ℕ) → All (λ (x : ℕ). x < 256 ^ form2 .edition) (replicate n 0)
+zeros-fit zero = tt
+zeros-fit (suc n) = (omega arith, zeros-fit n)
+
+pub record Upgraded (b : List ℕ) : Type 0 where
+  pub accepted : (room : ℕ) → lengthGiven form2 (stitchIn form1 b) ≤ room → writeRefusal 2 form2 (stitchIn form1 b) (editionsIn form1 b) room ≡ 0
+  pub read : (l : Lengths) → RoomFor (stitchIn form1 b) l → readRefusal form2 (recordOf form2 (stitchIn form1 b) (editionsIn form1 b)) l ≡ 0
+  pub stitch : stitchIn form2 (recordOf form2 (stitchIn form1 b) (editionsIn form1 b)) ≡ stitchIn form1 b
+  pub editions : editionsIn form2 (recordOf form2 (stitchIn form1 b) (editionsIn form1 b)) ≡ editionsIn form1 b
+
+pub upgraded : (b : List ℕ) → Octets b → (l : Lengths) → readRefusal form1 b l ≡ 0 → stitchFault (stitchIn form1 b) (editionsIn form1 b) ≡ 0 → Upgraded b
+upgraded b octets l z y =
+    let again = read-then-rewrite form1 form2 trip1 trip2 (inl refl) b octets l z y in
+    let zero-fits : EditionsFit form2 (editionsIn form1 b) = rw (old-editions b) (record { first = omega arith; second = omega arith; slices = zeros-fit (stitchIn form1 b .slices) }) in
+    record {
+      accepted = again .accepted;
+      read = again .reads .accepted;
+      stitch = again .reads .same;
+      editions = again .reads .editions ∙ kept-same form2 (editionsIn form1 b) zero-fits;
+    }
