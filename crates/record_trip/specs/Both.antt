@@ -7,23 +7,27 @@ use native.Mathlib.Omega.{arith}
 use lib.ListN.{length, drop, replicate}
 use lib.Seq.{drop-at}
 use Rattle.basis.specs.All.{All}
-use Rattle.basis.specs.Refuse.{firstOf}
-use Rattle.slice.specs.Slice.{codeWidth, shapeWidth}
-use Rattle.slice.specs.Editions.{Editions, editions}
+use Rattle.slice.specs.Editions.{Editions}
 use Rattle.stitch_run.specs.declared.plan.Plan.{Plan}
 use Rattle.stitch_run.specs.Doubles.{Doubles}
 use Rattle.stitch_run.specs.Stitch.{Given}
-use Rattle.stitch_entries.specs.Matching.{Matched, oneEdition}
+use Rattle.stitch_entries.specs.Matching.{oneEdition}
 use Rattle.fields.specs.Fields.{size, valueOf, unpack, rows}
 use Rattle.fields.specs.FieldLaws.{Octets, unpack-append, length-unpack, length-rows}
 use Rattle.record.specs.declared.form.Version.{Version}
 use Rattle.record.specs.declared.head.Lengths.{Lengths}
-use Rattle.record.specs.Form.{form1, form2, headShape, sliceShape, vertexShape, commonWidth, entryWidth, bodyOf, column}
-use Rattle.record.specs.Record.{headIn, planHeld, bodyIn, slicesFrom, datesFrom, listsHeld, stitchIn, editionsIn, readRefusal, recordOf}
+use Rattle.record.specs.Form.{form1, form2, formFor, headShape, sliceShape, vertexShape, commonWidth, entryWidth, bodyOf, column}
+use Rattle.record.specs.Record.{headIn, planHeld, bodyIn, slicesFrom, datesFrom, listsHeld, stitchIn, editionsIn, formIn, readRefusal, recordOf}
 use Rattle.record_write.specs.Writer.{lengthGiven, writeRefusal}
-use Rattle.record_trip.specs.Kept.{keptEditions, trip1, trip2, EditionsFit, kept-same, kept-none}
-use Rattle.record_trip.specs.WriteRead.{RoomFor, write-then-read}
+use Rattle.record_trip.specs.Kept.{trip1, trip2, trip-ok, EditionsFit, kept-same, kept-none}
+use Rattle.record_trip.specs.WriteRead.{RoomFor, write-then-read, written-number}
 use Rattle.record_trip.specs.ReadWrite.{stitchFault, read-then-rewrite}
+
+-- ---- as the writer is asked, by a number: the reader takes the table that the record was written by
+pub table-found : (n : ℕ) (g : Given) (e : Editions) (room : ℕ) → writeRefusal n (formFor n) g e room ≡ 0 → Doubles g → formIn (recordOf (formFor n) g e) ≡ formFor n
+table-found n g e room z held =
+    let back = write-then-read n (formFor n) (trip-ok n) g e room z held in
+    ap formFor (back .version ∙ sym (written-number n (formFor n) g e room z))
 
 -- ---- version 2 keeps 32-bit editions as they are
 abbrev pub Word : ℕ → Type 0
@@ -72,11 +76,16 @@ old-editions b =
     rw (slices, first, second)
 
 -- ---- a version 1 record, written again as version 2
+second-table : formFor 2 ≡ form2
+unfolding formFor
+second-table = refl
+
 zeros-fit : (n : ℕ) → All (λ (x : ℕ). x < 256 ^ form2 .edition) (replicate n 0)
 zeros-fit zero = tt
 zeros-fit (suc n) = (omega arith, zeros-fit n)
 
 pub record Upgraded (b : List ℕ) : Type 0 where
+  pub table : formIn (recordOf form2 (stitchIn form1 b) (editionsIn form1 b)) ≡ form2
   pub accepted : (room : ℕ) → lengthGiven form2 (stitchIn form1 b) ≤ room → writeRefusal 2 form2 (stitchIn form1 b) (editionsIn form1 b) room ≡ 0
   pub read : (l : Lengths) → RoomFor (stitchIn form1 b) l → readRefusal form2 (recordOf form2 (stitchIn form1 b) (editionsIn form1 b)) l ≡ 0
   pub stitch : stitchIn form2 (recordOf form2 (stitchIn form1 b) (editionsIn form1 b)) ≡ stitchIn form1 b
@@ -87,6 +96,7 @@ upgraded b octets l z y =
     let again = read-then-rewrite form1 form2 trip1 trip2 (inl refl) b octets l z y in
     let zero-fits : EditionsFit form2 (editionsIn form1 b) = rw (old-editions b) (record { first = omega arith; second = omega arith; slices = zeros-fit (stitchIn form1 b .slices) }) in
     record {
+      table = ap formFor (again .reads .version) ∙ second-table;
       accepted = again .accepted;
       read = again .reads .accepted;
       stitch = again .reads .same;

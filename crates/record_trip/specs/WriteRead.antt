@@ -38,7 +38,7 @@ use Rattle.record.specs.Record.{Lists, lists, listsIn, planIn, stitchBy, editio
 use Rattle.record.specs.RecordLaws.{head-size, counts-small}
 use Rattle.record_write.specs.Writer.{keepRows, heldRows, lengthGiven, writeRows, writeRefusal}
 use Rattle.record_write.specs.Ready.{Keeps}
-use Rattle.record_write.specs.KeepLaws.{held-kept, held-matched, taken-clear, codes-clear, numbers-clear, indexes-clear, one-pattern, keeps, record-long}
+use Rattle.record_write.specs.KeepLaws.{held-version, held-kept, held-matched, taken-clear, codes-clear, numbers-clear, indexes-clear, one-pattern, keeps, record-long}
 use Rattle.record_trip.specs.Kept.{keptIn, keptEditions, TripOk, kept-matched}
 use Rattle.record_trip.specs.Columns.{codes-back, numbers-back, dates-back}
 use Rattle.record_trip.specs.Fits.{all-plain, bits-all-below, below-append, CodesFit, vertices-fitted, slices-cut}
@@ -341,3 +341,9 @@ write-then-read n v trip g e room z held =
       accepted = not-refused v trip g e ok matched held;
       stitched = λ l. ap (λ (d : Editions). stitchRefusal g d l) same ∙ base-number g (keptEditions v e) l (kept-matched v g e whole matched) ∙ sym (base-number g e l matched);
     }
+
+-- and the number that was asked for is the version's
+pub written-number : (n : ℕ) (v : Version) (g : Given) (e : Editions) (room : ℕ) → writeRefusal n v g e room ≡ 0 → n ≡ v .number
+unfolding writeRefusal heldRows
+written-number n v g e room z =
+    held-version n v g e (clear-left (heldRows n v g e) (row (ltb room (lengthGiven v g)) 9 ∷ []) (clear (writeRows n v g e room) tt z))
