@@ -55,9 +55,7 @@ pub fn head_widths(v: Version) -> [usize; 15]
 {
     let second = v.second;
     let edition = v.edition;
-    [
-        1, 1, 1, 2, 2, 2, 1, 8, second, edition, edition, 2, 2, 2, 2,
-    ]
+    [1, 1, 1, 2, 2, 2, 1, 8, second, edition, edition, 2, 2, 2, 2]
 }
 
 pub fn head_bytes(v: Version) -> usize
