@@ -1,100 +1,90 @@
 use borrow.Author.Needs.{needs}
+use native.Mathlib.Omega.{arith}
+use mathlib.Core.Path.{refl}
+use Rattle.record_replay.specs.ReplayLaws.{seen-form, version-fits, held-fits, replay-refused, replay-stitched}
 use Rattle.record_replay.proofs.replay.replay.Statement.{statement}
 use Rattle.record_replay.proofs.replay.replay.Tie as tie
-use Rattle.record_replay.proofs.replay.replay.Reads as reads
-use Rattle.record_replay.proofs.replay.replay.Lts as lts
-use Rattle.record_read.proofs.read.read.Reads as read-reads
-use Rattle.record_replay.proofs.replay.replay_of.Reads as replay-of-reads
-use Rattle.record_replay.proofs.replay.replay_refused.Reads as replay-refused-reads
-use Rattle.record_replay.proofs.replay.stitch_held.Reads as stitch-held-reads
 
--- src/replay.rt:112:34
 slice-aggregate-read : tie.Need-slice-aggregate-read
 slice-aggregate-read c = search needs
 
--- src/replay.rt:112:43
 slice-aggregate-read-2 : tie.Need-slice-aggregate-read-2
 slice-aggregate-read-2 c = search needs
 
--- src/replay.rt:112:52
 slice-aggregate-read-3 : tie.Need-slice-aggregate-read-3
 slice-aggregate-read-3 c = search needs
 
--- src/replay.rt:112:61
 slice-aggregate-read-4 : tie.Need-slice-aggregate-read-4
 slice-aggregate-read-4 c = search needs
 
--- src/replay.rt:112:69
 slice-aggregate-read-5 : tie.Need-slice-aggregate-read-5
 slice-aggregate-read-5 c = search needs
 
--- src/replay.rt:112:9
 read-requires : tie.Need-read-requires
 read-requires c κs = search needs
 
--- src/replay.rt:114:9
 replay-refused-requires : tie.Need-replay-refused-requires
 replay-refused-requires c κs = search needs
 
--- src/replay.rt:114:9
 returns : tie.Need-returns
-returns c = ?
+returns c =
+    let refused = c in
+    let test = refused .before in
+    let seen = test .before .before .before .before .before .before .before in
+    replay-refused _ _ _ _ (seen-form _ _ _ _ (seen .read .ensures) refl) (test .if1 .taken) (refused .replay-refused .ensures)
 
--- src/replay.rt:117:19
 cast-version : tie.Need-cast-version
-cast-version c = ?
+cast-version c =
+    let test = c .before .before in
+    let seen = test .before .before .before .before .before .before .before in
+    omega (arith, version-fits _ _ _ _ (seen .read .ensures) refl (test .if1 .left))
 
--- src/replay.rt:120:9
 slice-aggregate-stitch-held : tie.Need-slice-aggregate-stitch-held
 slice-aggregate-stitch-held c = search needs
 
--- src/replay.rt:121:9
 slice-aggregate-stitch-held-2 : tie.Need-slice-aggregate-stitch-held-2
 slice-aggregate-stitch-held-2 c = search needs
 
--- src/replay.rt:122:9
 slice-aggregate-stitch-held-3 : tie.Need-slice-aggregate-stitch-held-3
 slice-aggregate-stitch-held-3 c = search needs
 
--- src/replay.rt:123:9
 slice-aggregate-stitch-held-4 : tie.Need-slice-aggregate-stitch-held-4
 slice-aggregate-stitch-held-4 c = search needs
 
--- src/replay.rt:124:9
 slice-aggregate-stitch-held-5 : tie.Need-slice-aggregate-stitch-held-5
 slice-aggregate-stitch-held-5 c = search needs
 
--- src/replay.rt:118:9
 stitch-held-requires : tie.Need-stitch-held-requires
-stitch-held-requires c κs = ?
+stitch-held-requires c κs =
+    let test = c .before .before .before .before .before .before .before .before .before .before .before .before in
+    let seen = test .before .before .before .before .before .before .before in
+    held-fits _ _ _ _ (seen .read .ensures) refl (test .if1 .left)
 
--- src/replay.rt:131:5
 replay-of-requires : tie.Need-replay-of-requires
 replay-of-requires c κs = search needs
 
--- src/replay.rt:97:1
 same-length : tie.Need-same-length
 same-length c = search needs
 
--- src/replay.rt:97:1
 same-length-2 : tie.Need-same-length-2
 same-length-2 c = search needs
 
--- src/replay.rt:97:1
 same-length-3 : tie.Need-same-length-3
 same-length-3 c = search needs
 
--- src/replay.rt:97:1
 same-length-4 : tie.Need-same-length-4
 same-length-4 c = search needs
 
--- src/replay.rt:97:1
 same-length-5 : tie.Need-same-length-5
 same-length-5 c = search needs
 
--- src/replay.rt:97:1
 returns-2 : tie.Need-returns-2
-returns-2 c = ?
+returns-2 c =
+    let told = c in
+    let stitched = c .before .before .before .before .before .before .before .before .before .before .before in
+    let test = stitched .before .before .before .before .before .before .before .before .before .before .before .before .before in
+    let seen = test .before .before .before .before .before .before .before in
+    replay-stitched _ _ _ _ (seen .read .ensures) refl (test .if1 .left) _ _ _ _ (stitched .stitch-held .ensures) (told .replay-of .ensures)
 
 pub replay-spec : {M : Type 1} → statement M
 replay-spec =

@@ -1,113 +1,92 @@
 use borrow.Author.Needs.{needs}
+use native.Mathlib.Omega.{arith}
+use Rattle.record_replay.specs.ReplayLaws.{fronts-of}
 use Rattle.record_replay.proofs.replay.stitch_held.Statement.{statement}
 use Rattle.record_replay.proofs.replay.stitch_held.Tie as tie
-use Rattle.record_replay.proofs.replay.stitch_held.Reads as reads
-use Rattle.record_replay.proofs.replay.stitch_held.Lts as lts
-use Rattle.stitch_entries.proofs.stitching.stitched.Reads as stitched-reads
 
--- src/replay.rt:74:14
 mul-n1 : tie.Need-mul-n1
 mul-n1 c = search needs
 
--- src/replay.rt:75:14
 mul-n2 : tie.Need-mul-n2
 mul-n2 c = search needs
 
--- src/replay.rt:76:14
 mul-n3 : tie.Need-mul-n3
-mul-n3 c = ?
+mul-n3 c =
+    let entry = c .before .before .before .before .before .before .before .before .before .before .before .before .before .before in
+    omega (arith, entry .pre .codes, entry .good)
 
--- src/replay.rt:77:14
 mul-n4 : tie.Need-mul-n4
-mul-n4 c = ?
+mul-n4 c =
+    let entry = c .before .before .before .before .before .before .before .before .before .before .before .before .before .before .before in
+    omega (arith, entry .pre .shapes, entry .good)
 
--- src/replay.rt:80:9
 sub-stitched : tie.Need-sub-stitched
 sub-stitched c = search needs
 
--- src/replay.rt:80:9
 part-stitched-start : tie.Need-part-stitched-start
 part-stitched-start c = search needs
 
--- src/replay.rt:80:9
 part-stitched-end : tie.Need-part-stitched-end
 part-stitched-end c = search needs
 
--- src/replay.rt:82:9
 sub-stitched-2 : tie.Need-sub-stitched-2
 sub-stitched-2 c = search needs
 
--- src/replay.rt:82:9
 part-stitched-start-2 : tie.Need-part-stitched-start-2
 part-stitched-start-2 c = search needs
 
--- src/replay.rt:82:9
 part-stitched-end-2 : tie.Need-part-stitched-end-2
 part-stitched-end-2 c = search needs
 
--- src/replay.rt:84:9
 sub-stitched-3 : tie.Need-sub-stitched-3
 sub-stitched-3 c = search needs
 
--- src/replay.rt:84:9
 part-stitched-start-3 : tie.Need-part-stitched-start-3
 part-stitched-start-3 c = search needs
 
--- src/replay.rt:84:9
 part-stitched-end-3 : tie.Need-part-stitched-end-3
 part-stitched-end-3 c = search needs
 
--- src/replay.rt:85:9
 sub-stitched-4 : tie.Need-sub-stitched-4
 sub-stitched-4 c = search needs
 
--- src/replay.rt:85:9
 part-stitched-start-4 : tie.Need-part-stitched-start-4
 part-stitched-start-4 c = search needs
 
--- src/replay.rt:85:9
 part-stitched-end-4 : tie.Need-part-stitched-end-4
 part-stitched-end-4 c = search needs
 
--- src/replay.rt:86:9
 sub-stitched-5 : tie.Need-sub-stitched-5
 sub-stitched-5 c = search needs
 
--- src/replay.rt:86:9
 part-stitched-start-5 : tie.Need-part-stitched-start-5
 part-stitched-start-5 c = search needs
 
--- src/replay.rt:86:9
 part-stitched-end-5 : tie.Need-part-stitched-end-5
 part-stitched-end-5 c = search needs
 
--- src/replay.rt:79:5
 stitched-requires : tie.Need-stitched-requires
 stitched-requires c κs = search needs
 
--- src/replay.rt:57:1
 same-length : tie.Need-same-length
 same-length c = search needs
 
--- src/replay.rt:57:1
 same-length-2 : tie.Need-same-length-2
 same-length-2 c = search needs
 
--- src/replay.rt:57:1
 same-length-3 : tie.Need-same-length-3
 same-length-3 c = search needs
 
--- src/replay.rt:57:1
 same-length-4 : tie.Need-same-length-4
 same-length-4 c = search needs
 
--- src/replay.rt:57:1
 same-length-5 : tie.Need-same-length-5
 same-length-5 c = search needs
 
--- src/replay.rt:57:1
 returns : tie.Need-returns
-returns c = ?
+returns c =
+    let stitched = c .before .before .before .before .before .before .before .before .before .before in
+    fronts-of _ _ _ _ _ (stitched .stitched .ensures)
 
 pub stitch-held-spec : {M : Type 1} → statement M
 stitch-held-spec =
