@@ -8,8 +8,8 @@ use native.Mathlib.Nat.{suc-mul, pow-suc, one-le-pow, mod-eq-of-lt}
 use borrow.Author.Tests.{leb-true}
 use lib.Arith.{mod-mul}
 use lib.Dec.{leb}
-use lib.ListN.{length, getD, take, drop, length-append, length-drop}
-use lib.Seq.{drop-at, drop-drop, getD-drop, take-add}
+use lib.ListN.{length, getD, take, drop, length-append, length-drop, List·getD-append}
+use lib.Seq.{drop-at, drop-drop, getD-drop, getD-append-add, take-add}
 use Rattle.fields.specs.Fields.{size, bytesOf, valueOf, pack, unpack, rows}
 use Rattle.fields.specs.Ready.{Narrow, narrow-none, narrow-one, Fitted, fit-none, fit-one}
 
@@ -33,6 +33,19 @@ length-unpack (w ∷ ws) b = ap suc (length-unpack ws (drop w b))
 pub fitted-length : {ws vs : List ℕ} → Fitted ws vs → length vs ≡ length ws
 fitted-length fit-none = refl
 fitted-length (fit-one h r) = ap suc (fitted-length r)
+
+-- the value of a field fits its width
+pub fitted-at : {ws vs : List ℕ} (i : ℕ) → Fitted ws vs → i < length ws → getD vs i 0 < 256 ^ getD ws i 0
+fitted-at i fit-none h = absurd (omega arith)
+fitted-at zero (fit-one k r) h = k
+fitted-at (suc i) (fit-one k r) h = fitted-at i r (omega arith)
+
+-- a field of no bytes reads as 0
+pub unpack-none : (ws b : List ℕ) (i : ℕ) → getD ws i 0 ≡ 0 → getD (unpack ws b) i 0 ≡ 0
+unfolding unpack valueOf
+unpack-none [] b i e = refl
+unpack-none (w ∷ ws) b zero e = rw e
+unpack-none (w ∷ ws) b (suc i) e = unpack-none ws (drop w b) i e
 
 -- ---- two shapes, one after the other
 pub size-append : (ws us : List ℕ) → size (ws ++ us) ≡ size ws + size us
@@ -65,6 +78,15 @@ pub length-rows : (n : ℕ) (ws : List ℕ) → length (rows n ws) ≡ n * lengt
 unfolding rows
 length-rows zero ws = omega arith
 length-rows (suc n) ws = length-append ws (rows n ws) ∙ omega (arith, length-rows n ws, suc-mul n (length ws))
+
+-- the width of field j of row i
+pub rows-at : (n : ℕ) (ws : List ℕ) (i j : ℕ) → i < n → j < length ws → getD (rows n ws) (i * length ws + j) 0 ≡ getD ws j 0
+unfolding rows
+rows-at zero ws i j h k = absurd (omega arith)
+rows-at (suc n) ws zero j h k = let e : 0 * length ws + j ≡ j = omega arith in rw e (List·getD-append ws (rows n ws) 0 j k)
+rows-at (suc n) ws (suc i) j h k =
+    let e : suc i * length ws + j ≡ length ws + (i * length ws + j) = omega (arith, suc-mul i (length ws)) in
+    rw e (getD-append-add ws (rows n ws) (i * length ws + j) 0 ∙ rows-at n ws i j (omega arith) k)
 
 -- ---- writing, then reading
 

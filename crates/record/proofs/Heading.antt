@@ -1,5 +1,5 @@
 -- What the functions of a head are proved by.
-use Prim.Native.Nat.{ℕ, zero, suc, _+_, _*_, _^_, _≤_, _<_}
+use Prim.Native.Nat.{ℕ, _+_, _*_, _^_, _≤_, _<_}
 use mathlib.Core.Bool.{not}
 use mathlib.Core.Path.{_≡_, refl, sym, ap, _∙_}
 use mathlib.Core.List.{List, [], _∷_, _++_, append-nil}
@@ -16,8 +16,8 @@ use Rattle.basis.specs.Refuse.{row, firstFrom, orElse}
 use Rattle.basis.specs.RefuseLaws.{then-rows}
 use Rattle.basis.specs.StoreLaws.{sets-front}
 use Rattle.fields.specs.Fields.{size, valueOf, unpack, numOf}
-use Rattle.fields.specs.FieldLaws.{length-unpack}
-use Rattle.fields.specs.Ready.{Fitted, fit-none, fit-one, ShapeAt, ShapeRead}
+use Rattle.fields.specs.FieldLaws.{length-unpack, fitted-at}
+use Rattle.fields.specs.Ready.{Fitted, ShapeAt, ShapeRead}
 use Rattle.slice.specs.Faults as slices
 use Rattle.slice.specs.Editions.{editionRoomRows}
 use Rattle.stitch_run.specs.declared.plan.Plan.{Plan}
@@ -85,11 +85,6 @@ unfolding lengthOf
 length-told v p head stride e f = rw (e, f)
 
 -- ---- the head's numbers
-fitted-at : {ws vs : List ℕ} (i : ℕ) → Fitted ws vs → i < length ws → getD vs i 0 < 256 ^ getD ws i 0
-fitted-at i fit-none h = absurd (omega arith)
-fitted-at zero (fit-one k r) h = k
-fitted-at (suc i) (fit-one k r) h = fitted-at i r (omega arith)
-
 pub head-fits : {v : Version} {b : List ℕ} → HeadFit v b → {ws : List ℕ} → ws ≡ headShape v → {n : ℕ} → n ≡ 15 → ShapeAt (length b) 0 ws n 0
 head-fits {v} h w e = rw w (record { narrow = head-narrow v (h .form); inside = omega (arith, h .inside); target = omega arith })
 

@@ -1,20 +1,20 @@
 -- How long the parts of a record are, and that a reader's list is what its stitch has.
-use Prim.Native.Nat.{ℕ, zero, suc, _+_, _*_, _-_, _≤_}
+use Prim.Native.Nat.{ℕ, zero, suc, _+_, _*_, _-_, _≤_, _<_}
 use mathlib.Core.Bool.{Bool, true, false, cond}
-use mathlib.Core.Path.{_≡_, refl, sym, _∙_}
+use mathlib.Core.Path.{_≡_, refl, sym, ap, _∙_}
 use mathlib.Core.List.{List, [], _∷_, _++_}
 use native.Mathlib.Omega.{arith}
 use native.Mathlib.Nat.{suc-mul}
 use lib.Dec.{eqb}
 use borrow.Author.Tests.{ltb-false}
-use lib.ListN.{length, take, drop, length-append, length-map, length-drop}
-use lib.Seq.{length-take-le, sets}
+use lib.ListN.{length, getD, take, drop, length-append, length-map, length-drop}
+use lib.Seq.{length-take-le, getD-append-add, sets}
 use Rattle.basis.specs.Choice.{by-test}
 use Rattle.basis.specs.Refuse.{countFor}
 use Rattle.basis.specs.RefuseLaws.{Clear}
 use Rattle.basis.specs.Room.{roomOf}
 use Rattle.fields.specs.Fields.{size, unpack, rows, numOf}
-use Rattle.fields.specs.FieldLaws.{length-rows, size-rows, size-append, length-unpack, narrow-append, narrow-rows}
+use Rattle.fields.specs.FieldLaws.{length-rows, size-rows, size-append, rows-at, length-unpack, narrow-append, narrow-rows}
 use Rattle.fields.specs.Ready.{Narrow, narrow-none, narrow-one}
 use Rattle.basis.specs.StoreLaws.{sets-front}
 use Rattle.slice.specs.Slice.{codeWidth, shapeWidth}
@@ -108,6 +108,16 @@ pub size-body : (v : Version) (vertices n : ℕ) → size (bodyOf v vertices n) 
 unfolding bodyOf
 size-body v vertices n =
     size-append (rows vertices vertexShape) (rows n (sliceShape v)) ∙ rw (size-rows vertices vertexShape, vertex-size, size-rows n (sliceShape v))
+
+-- the edition of slice i stands last in its entry
+pub date-width : (v : Version) (vertices n i : ℕ) → i < n → getD (bodyOf v vertices n) (vertices * 3 + (i * entryWidth + commonWidth)) 0 ≡ v .edition
+unfolding bodyOf
+date-width v vertices n i h =
+    let front = rows vertices vertexShape in
+    let j = i * entryWidth + commonWidth in
+    let e : vertices * 3 + j ≡ length front + j = omega (arith, length-rows vertices vertexShape) in
+    ap (λ (k : ℕ). getD (front ++ rows n (sliceShape v)) k 0) e ∙ getD-append-add front (rows n (sliceShape v)) j 0
+    ∙ rows-at n (sliceShape v) i commonWidth h (omega arith)
 
 module _ (p : Plan) (vs : List ℕ) (whole : slicesFrom p + p .slices * entryWidth ≡ length vs) where
   pub length-outline1 : length (outline1From p vs) ≡ 3 * p .vc1
