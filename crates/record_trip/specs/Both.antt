@@ -1,23 +1,20 @@
 -- The two versions: what the laws of all versions say of each, and of a version 1 record that is written again as version 2.
-use Prim.Native.Nat.{ℕ, zero, suc, _+_, _*_, _^_, _≤_, _<_}
+use Prim.Native.Nat.{ℕ, zero, suc, _^_, _≤_, _<_}
 use mathlib.Core.Path.{_≡_, refl, sym, ap, _∙_}
-use mathlib.Core.List.{List, [], _∷_, _++_}
+use mathlib.Core.List.{List}
 use mathlib.Core.Logic.{inl}
 use native.Mathlib.Omega.{arith}
-use lib.ListN.{length, drop, replicate}
-use lib.Seq.{drop-at}
+use lib.ListN.{length, replicate}
 use Rattle.basis.specs.All.{All}
 use Rattle.slice.specs.Editions.{Editions}
-use Rattle.stitch_run.specs.declared.plan.Plan.{Plan}
 use Rattle.stitch_run.specs.Doubles.{Doubles}
 use Rattle.stitch_run.specs.Stitch.{Given}
 use Rattle.stitch_entries.specs.Matching.{oneEdition}
-use Rattle.fields.specs.Fields.{size, valueOf, unpack, rows}
-use Rattle.fields.specs.FieldLaws.{Octets, unpack-append, length-unpack, length-rows}
-use Rattle.record.specs.declared.form.Version.{Version}
+use Rattle.fields.specs.FieldLaws.{Octets}
 use Rattle.record.specs.declared.head.Lengths.{Lengths}
-use Rattle.record.specs.Form.{form1, form2, formFor, headShape, sliceShape, vertexShape, commonWidth, entryWidth, bodyOf, column}
-use Rattle.record.specs.Record.{headIn, planHeld, bodyIn, slicesFrom, datesFrom, listsHeld, stitchIn, editionsIn, formIn, readRefusal, recordOf}
+use Rattle.record.specs.Form.{form1, form2, formFor}
+use Rattle.record.specs.Record.{stitchIn, editionsIn, formIn, readRefusal, recordOf}
+use Rattle.record_read.specs.ReadTheorems.{no-editions}
 use Rattle.record_write.specs.Writer.{lengthGiven, writeRefusal}
 use Rattle.record_trip.specs.Kept.{trip1, trip2, trip-ok, EditionsFit, kept-same, kept-none}
 use Rattle.record_trip.specs.WriteRead.{RoomFor, write-then-read, written-number}
@@ -47,33 +44,8 @@ written1 g e room z held =
     (back .same, back .editions ∙ kept-none form1 refl e)
 
 -- ---- "a version 1 record reads as .. edition 0"
-cons-both : {a b : ℕ} {l m : List ℕ} → a ≡ b → l ≡ m → (a ∷ l) ≡ (b ∷ m)
-cons-both e f = rw (e, f)
-
-no-dates : (n : ℕ) (x : List ℕ) → column entryWidth commonWidth 1 n (unpack (rows n (sliceShape form1)) x) ≡ replicate n 0
-unfolding column rows unpack valueOf
-no-dates zero x = refl
-no-dates (suc n) x = cons-both refl (no-dates n _)
-
-none-held : (p : Plan) (b : List ℕ) → datesFrom p (bodyIn form1 p b) ≡ replicate (p .slices) 0
-unfolding datesFrom bodyIn bodyOf
-none-held p b =
-    let k = p .vc1 + p .vc2 in
-    let rest = drop (size (headShape form1)) b in
-    let first = unpack (rows k vertexShape) rest in
-    let second = unpack (rows (p .slices) (sliceShape form1)) (drop (size (rows k vertexShape)) rest) in
-    let l : length first ≡ slicesFrom p = length-unpack (rows k vertexShape) rest ∙ length-rows k vertexShape ∙ omega arith in
-    ap (λ (u : List ℕ). column entryWidth commonWidth 1 (p .slices) (drop (slicesFrom p) u)) (unpack-append (rows k vertexShape) (rows (p .slices) (sliceShape form1)) rest)
-    ∙ ap (column entryWidth commonWidth 1 (p .slices)) (drop-at first second (slicesFrom p) l)
-    ∙ no-dates (p .slices) (drop (size (rows k vertexShape)) rest)
-
 pub old-editions : (b : List ℕ) → editionsIn form1 b ≡ oneEdition 0 (stitchIn form1 b .slices)
-unfolding listsHeld
-old-editions b =
-    let first : headIn form1 b .edition1 ≡ 0 = unfold headIn unpack valueOf in refl in
-    let second : headIn form1 b .edition2 ≡ 0 = unfold headIn unpack valueOf in refl in
-    let slices = none-held (planHeld form1 b) b in
-    rw (slices, first, second)
+old-editions b = let none = no-editions form1 refl refl b in rw (none .first, none .second, none .slices)
 
 -- ---- a version 1 record, written again as version 2
 second-table : formFor 2 ≡ form2

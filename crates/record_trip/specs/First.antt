@@ -1,18 +1,11 @@
--- The number that the reader gives, and the writer, applies, and none before it in the order of refusals does: in every version.
+-- The number that the writer gives applies, and none before it in the order of refusals does: in every version.
 use Prim.Native.Nat.{ℕ}
-use mathlib.Core.List.{List}
 use Rattle.basis.specs.RefusalOrder.{refusalOrder, before, First}
 use Rattle.basis.specs.RefusalOrderLaws.{first-of}
 use Rattle.slice.specs.Editions.{Editions}
 use Rattle.stitch_run.specs.Stitch.{Given}
 use Rattle.record.specs.declared.form.Version.{Version}
-use Rattle.record.specs.declared.head.Lengths.{Lengths}
-use Rattle.record.specs.Record.{readRows, readRefusal}
 use Rattle.record_write.specs.Writer.{heldRows, writeRows, writeRefusal}
-
-pub read-first : (v : Version) (b : List ℕ) (l : Lengths) → First (readRows v b l) (readRefusal v b l)
-unfolding readRows before refusalOrder
-read-first v b l = first-of (readRows v b l) tt
 
 pub write-first : (n : ℕ) (v : Version) (g : Given) (e : Editions) (room : ℕ) → First (writeRows n v g e room) (writeRefusal n v g e room)
 unfolding writeRefusal heldRows before refusalOrder

@@ -1,7 +1,7 @@
 -- The other way: reading a record that is accepted, then writing what was read, gives the same bytes; and written as another version that has room for it, it reads as the same
 -- stitch in the same editions.
-use Prim.Native.Nat.{ℕ, zero, suc, _+_, _*_, _≤_}
-use mathlib.Core.Bool.{true, false, not}
+use Prim.Native.Nat.{ℕ, _+_, _*_, _≤_}
+use mathlib.Core.Bool.{true, not, cond}
 use mathlib.Core.Path.{_≡_, refl, sym, ap, _∙_}
 use mathlib.Core.List.{List, [], _∷_, _++_, map}
 use mathlib.Core.Logic.{_⊎_, ⊎-elim}
@@ -22,13 +22,13 @@ use Rattle.stitch_run.specs.Stitch.{Given}
 use Rattle.stitch_entries.specs.StitchEntry.{listPart, codePart, numberPart, indexPart, shapeRows, inputRows, editionPart}
 use Rattle.stitch_entries.specs.Matching.{Matched}
 use Rattle.fields.specs.Fields.{size, bytesOf, valueOf, pack, unpack, numOf, bitsOf}
-use Rattle.fields.specs.FieldLaws.{Octets, octets-drop, length-unpack, unpack-fitted, pack-unpack}
+use Rattle.fields.specs.FieldLaws.{Octets, octets-drop, unpack-fitted, pack-unpack}
 use Rattle.fields.specs.NumberLaws.{num-held}
 use Rattle.record.specs.declared.form.Version.{Version}
 use Rattle.record.specs.declared.head.Lengths.{Lengths}
-use Rattle.record.specs.Form.{headShape, sliceShape, commonWidth, entryWidth, bodyOf, column, mix}
+use Rattle.record.specs.Form.{headShape, entryWidth, bodyOf, column, mix}
 use Rattle.record.specs.Record.{listsIn, planIn, secondIn, headIn, planHeld, bodyIn, slicesFrom, outline1From, outline2From, codesFrom, shapesFrom, datesFrom, listsHeld, stitchIn, editionsIn, markOk, numberIn, frameRows, lengthOf, takenRows, countRows, roomRows, readRows, readRefusal, headValues, headGiven, valuesOf, recordOf}
-use Rattle.record.specs.RecordLaws.{size-body, head-narrow, body-narrow, length-values, read-long}
+use Rattle.record.specs.RecordLaws.{size-body, head-narrow, body-narrow, length-values}
 use Rattle.record_write.specs.Writer.{axesFault, axesRows, keepRows, versionRows, handedRows, heldRows, lengthGiven, writeRows, writeRefusal}
 use Rattle.record_trip.specs.Kept.{TripOk}
 use Rattle.record_trip.specs.Columns.{rows-back}
@@ -148,7 +148,7 @@ module _ (v : Version) (trip : TripOk v) (b : List ℕ) (octets : Octets b) (l :
   second-kept : v .second ≡ 8 → bitsOf (g .tolerance .y) ≡ getD fields 8 0
   unfolding headIn
   second-kept h =
-      let s : secondIn (v .second) (getD fields 7 0) (getD fields 8 0) ≡ getD fields 8 0 = unfold secondIn in ap (λ (w : ℕ). mathlib.Core.Bool.cond (eqb w 0) (getD fields 7 0) (getD fields 8 0)) h in
+      let s : secondIn (v .second) (getD fields 7 0) (getD fields 8 0) ≡ getD fields 8 0 = unfold secondIn in ap (λ (w : ℕ). cond (eqb w 0) (getD fields 7 0) (getD fields 8 0)) h in
       ap (λ (w : ℕ). bitsOf (numOf w)) s
       ∙ tolerance-back (getD fields 8 0) (below-at 8 head-below) (ap (λ (w : ℕ). tolerableOn (numOf w)) (sym s) ∙ y-in-range)
 
@@ -156,7 +156,7 @@ module _ (v : Version) (trip : TripOk v) (b : List ℕ) (octets : Octets b) (l :
   unfolding headIn
   second-same h =
       let s : getD fields 7 0 ≡ secondIn (v .second) (getD fields 7 0) (getD fields 8 0) =
-      unfold secondIn in ap (λ (w : ℕ). mathlib.Core.Bool.cond (eqb w 0) (getD fields 7 0) (getD fields 8 0)) (sym h) in
+      unfold secondIn in ap (λ (w : ℕ). cond (eqb w 0) (getD fields 7 0) (getD fields 8 0)) (sym h) in
       ap (λ (w : ℕ). bitsOf (numOf w)) s
 
   second-bytes : bytesOf (v .second) (bitsOf (g .tolerance .y)) ≡ bytesOf (v .second) (getD fields 8 0)

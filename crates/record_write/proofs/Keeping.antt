@@ -30,7 +30,7 @@ use Rattle.record.specs.Form.{formFor, headShape, sliceShape, vertexShape, entr
 use Rattle.record.specs.Ready.{FormOk, Sized}
 use Rattle.record.specs.Record.{listsIn, planIn, headGiven, headValues, lengthOf, valuesOf, packed, recordOf}
 use Rattle.record.specs.RecordLaws.{form-ok, sets-room}
-use Rattle.record_write.specs.Writer.{versionRows, axesFault, keepRows, handedRows, heldRows, lengthGiven, writeRefusal, WriteForm, WriteLeft}
+use Rattle.record_write.specs.Writer.{axesFault, keepRows, handedRows, heldRows, lengthGiven, writeRefusal, WriteForm, WriteLeft}
 use Rattle.record_write.specs.Ready.{PackFit, Packs, Keeps}
 use Rattle.record_write.specs.KeepLaws.{held-kept, held-matched, lists-clear, tolerable-no-nan, keeps-in, keeps, values-long, record-long}
 

@@ -1,6 +1,6 @@
 -- What the absence of every refusal says of a stitch: it can be written, and how long its record is.
 use Prim.Native.Nat.{ℕ, _+_, _*_, _≤_}
-use mathlib.Core.Bool.{true, false, not, _&&_, false≢true}
+use mathlib.Core.Bool.{true, not, _&&_, false≢true}
 use mathlib.Core.Path.{_≡_, _∙_}
 use mathlib.Core.List.{List, _++_, map}
 use native.Mathlib.Omega.{arith}
@@ -26,7 +26,7 @@ use Rattle.record.specs.Form.{headShape, sliceShape, takenVertices, takenSlices
 use Rattle.record.specs.Ready.{FormOk}
 use Rattle.record.specs.Record.{listsIn, planIn, lengthOf, takenRows, headValues, headGiven, valuesOf, recordOf}
 use Rattle.record.specs.RecordLaws.{length-body, size-body}
-use Rattle.record_write.specs.Writer.{versionRows, axesFault, axesRows, keepRows, handedRows, heldRows, lengthGiven}
+use Rattle.record_write.specs.Writer.{axesFault, axesRows, keepRows, handedRows, heldRows, lengthGiven}
 use Rattle.record_write.specs.Ready.{KeepsIn, Keeps}
 use Rattle.record_write.specs.ValueLaws.{length-mix}
 
