@@ -42,7 +42,8 @@
  *
  * The entries stand in the order of the work: views, the verdict and reopening; cut order,
  * candidates, pruning, stitch and area pass, each of which takes what the one before it
- * gives; then settings by edition; then slices kept between runs; then masks without arcs.
+ * gives; then settings by edition; then records of stitches; then slices kept between runs;
+ * then masks without arcs.
  */
 #ifndef MASK_H
 #define MASK_H
@@ -92,6 +93,10 @@ extern "C" {
 #define MASK_MOST_WHOLE 400000000         /* magnitude of a whole coordinate */
 #define MASK_MOST_WHOLE_DOUBLED 800000000 /* the same of a point in doubled coordinates */
 #define MASK_MOST_OUTLINES 4096           /* in a report */
+#define MASK_RECORD_MOST_VERTICES 64      /* of an outline in a record of a stitch */
+#define MASK_RECORD_MOST_SLICES 28        /* in a record of a stitch */
+#define MASK_RECORD_MOST_BYTES 4738       /* of a record, version 2; of version 1 it is 4610 */
+#define MASK_RECORD_MOST_ROOM 1821        /* vertices of `room` for a replay: 1 + 28 * 65 */
 #define MASK_STORE_PLACES 1792            /* slices in a store */
 #define MASK_STORE_SHARE 896              /* of them of one party */
 
@@ -120,6 +125,8 @@ extern "C" {
 #define MASK_STACK_AREA_PASS 512
 #define MASK_STACK_SETTINGS_ENTER 512
 #define MASK_STACK_SETTINGS_ASK 512
+#define MASK_STACK_RECORD_WRITE 10240
+#define MASK_STACK_RECORD_REPLAY 49152
 #define MASK_STACK_STRAIGHT_WINDING 512
 #define MASK_STACK_STRAIGHT_AREA 512
 #define MASK_STACK_STRAIGHT_REPORT 512
@@ -135,6 +142,9 @@ extern "C" {
  */
 enum mask_refusal {
     MASK_ACCEPTED = 0,
+    MASK_REFUSED_MARK = 11,     /* a record has fewer than 5 bytes, or does not begin with PBR */
+    MASK_REFUSED_VERSION = 12,  /* a version of the record is unknown */
+    MASK_REFUSED_SIZE = 13,     /* a record's length is not as its counts say, or too high */
     MASK_REFUSED_LENGTH = 1,    /* a list's length disagrees with its count, or that is too high */
     MASK_REFUSED_OUTLINE = 2,   /* fewer than 2 or more than 1024 vertices */
     MASK_REFUSED_CODE = 3,      /* an unknown mode, selector, source (1, 2) or yes/no code (0, 1) */
@@ -580,6 +590,66 @@ mask_edition_answer mask_settings_enter(size_t *entered, size_t entered_len, dou
 mask_setting_answer mask_settings_ask(const size_t *entered, size_t entered_len,
                                       const double *settings, size_t settings_len,
                                       size_t edition);
+
+/*
+ * Records of stitches. A stitch is archived as bytes, and run again from them. A record holds
+ * both outlines, the slices, the selector and the tolerances: all that a stitch takes. It has
+ * a version. Little endian, one field after the other:
+ *   head      the letters PBR; version, 16 bits; vertices of outline 1 and of 2, 16 bits
+ *             each; selector, 8 bits; the tolerance; where the last three classes of slices
+ *             begin, 16 bits each; slices, 16 bits
+ *   outlines  of each vertex, of outline 1 and then of 2: x, y, bulge
+ *   slices    of each: source and inverted, 8 bits each; start and offset, 16 bits each;
+ *             updated start x, y, bulge, end bulge, end x, y
+ * Version 2 has, where the one tolerance stands, those of x and of y and then the editions of
+ * outline 1 and of 2, 32 bits each; and at the end of each slice its edition, 32 bits. A record
+ * of version 1 reads as equal tolerances and edition 0 throughout. Its length is, with v
+ * vertices and n slices,
+ *   version 1  26 + 24 v + 54 n, at most 4610 bytes
+ *   version 2  42 + 24 v + 58 n, at most 4738 bytes
+ * A record has at most 64 vertices to an outline (else 2) and 28 slices (else 1).
+ */
+
+/*
+ * Writes the record of a stitch. The parameters are those of `mask_stitch`, with two tolerances
+ * in the place of a setting; `version` is 1 or 2. `count` is the record's length, which is also
+ * the need of `bytes`. Version 1 holds one tolerance and no edition: two tolerances that differ
+ * are refused (4), and any editions are left out. Slices of another edition than their outline
+ * are refused (14) in both versions. So every record that is written can be replayed. Refusals
+ * 12, 1 to 8, 14, 9.
+ */
+mask_count_answer mask_record_write(uint32_t version, const double *outline1, size_t outline1_len,
+                                    size_t vc1, uint32_t edition1, const double *outline2,
+                                    size_t outline2_len, size_t vc2, uint32_t edition2,
+                                    const size_t *slice_at, size_t slice_at_len,
+                                    const double *slice, size_t slice_len,
+                                    const uint32_t *slice_edition, size_t slice_edition_len,
+                                    size_t slices, size_t pline2, size_t pline1_overlapping,
+                                    size_t pline2_overlapping, uint32_t selector,
+                                    double tolerance_x, double tolerance_y, uint8_t *bytes,
+                                    size_t bytes_len);
+
+typedef struct mask_replay_answer {
+    uint32_t refusal;
+    uint32_t version; /* of the record, 1 or 2; 0 beside a refusal */
+    size_t slices;
+    size_t rounds; /* as many as slices */
+    size_t loops;
+    size_t chains;
+} mask_replay_answer;
+
+/*
+ * The stitch that a record holds, run again. Any bytes may be lent. `room`, `ends`, `chain`,
+ * `chain_ends` and `chain_how` are those of `mask_stitch`, and so is their need, for the stitch
+ * in the record; no record needs more than MASK_RECORD_MOST_ROOM vertices in `room` and
+ * MASK_RECORD_MOST_SLICES entries in the others. A pattern that is no number reads as +infinity,
+ * which is refused with 4 or 5. Refusals 11, 12, 13, 1 to 8, 14, 9.
+ */
+mask_replay_answer mask_record_replay(const uint8_t *bytes, size_t bytes_len, double *room,
+                                      size_t room_len, size_t *ends, size_t ends_len,
+                                      size_t *chain, size_t chain_len, size_t *chain_ends,
+                                      size_t chain_ends_len, size_t *chain_how,
+                                      size_t chain_how_len);
 
 /*
  * Slices kept between runs. The store is four lists that the host makes, keeps, and lends

@@ -4,11 +4,12 @@ use mathlib.Core.Bool.{Bool, true, false, _&&_, true≢false}
 use mathlib.Core.Path.{_≡_, refl, sym, ap, _∙_}
 use mathlib.Core.List.{List, [], _∷_, _++_, append-assoc}
 use native.Mathlib.Omega.{arith}
-use native.Mathlib.Nat.{suc-mul, pow-suc, div-add-mod, div-lt-iff-lt-mul}
+use native.Mathlib.Nat.{suc-mul, pow-suc, one-le-pow, mod-eq-of-lt}
 use borrow.Author.Tests.{leb-true}
+use lib.Arith.{mod-mul}
 use lib.Dec.{leb}
-use lib.ListN.{length, getD, take, drop, length-append, length-drop}
-use lib.Seq.{drop-at, drop-drop, getD-drop, take-add}
+use lib.ListN.{length, getD, take, drop, length-append, length-drop, List·getD-append}
+use lib.Seq.{drop-at, drop-drop, getD-drop, getD-append-add, take-add}
 use Rattle.fields.specs.Fields.{size, bytesOf, valueOf, pack, unpack, rows}
 use Rattle.fields.specs.Ready.{Narrow, narrow-none, narrow-one, Fitted, fit-none, fit-one}
 
@@ -32,6 +33,19 @@ length-unpack (w ∷ ws) b = ap suc (length-unpack ws (drop w b))
 pub fitted-length : {ws vs : List ℕ} → Fitted ws vs → length vs ≡ length ws
 fitted-length fit-none = refl
 fitted-length (fit-one h r) = ap suc (fitted-length r)
+
+-- the value of a field fits its width
+pub fitted-at : {ws vs : List ℕ} (i : ℕ) → Fitted ws vs → i < length ws → getD vs i 0 < 256 ^ getD ws i 0
+fitted-at i fit-none h = absurd (omega arith)
+fitted-at zero (fit-one k r) h = k
+fitted-at (suc i) (fit-one k r) h = fitted-at i r (omega arith)
+
+-- a field of no bytes reads as 0
+pub unpack-none : (ws b : List ℕ) (i : ℕ) → getD ws i 0 ≡ 0 → getD (unpack ws b) i 0 ≡ 0
+unfolding unpack valueOf
+unpack-none [] b i e = refl
+unpack-none (w ∷ ws) b zero e = rw e
+unpack-none (w ∷ ws) b (suc i) e = unpack-none ws (drop w b) i e
 
 -- ---- two shapes, one after the other
 pub size-append : (ws us : List ℕ) → size (ws ++ us) ≡ size ws + size us
@@ -65,21 +79,54 @@ unfolding rows
 length-rows zero ws = omega arith
 length-rows (suc n) ws = length-append ws (rows n ws) ∙ omega (arith, length-rows n ws, suc-mul n (length ws))
 
+-- the width of field j of row i
+pub rows-at : (n : ℕ) (ws : List ℕ) (i j : ℕ) → i < n → j < length ws → getD (rows n ws) (i * length ws + j) 0 ≡ getD ws j 0
+unfolding rows
+rows-at zero ws i j h k = absurd (omega arith)
+rows-at (suc n) ws zero j h k = let e : 0 * length ws + j ≡ j = omega arith in rw e (List·getD-append ws (rows n ws) 0 j k)
+rows-at (suc n) ws (suc i) j h k =
+    let e : suc i * length ws + j ≡ length ws + (i * length ws + j) = omega (arith, suc-mul i (length ws)) in
+    rw e (getD-append-add ws (rows n ws) (i * length ws + j) 0 ∙ rows-at n ws i j (omega arith) k)
+
 -- ---- writing, then reading
-value-bytes : (w v : ℕ) (rest : List ℕ) → v < 256 ^ w → valueOf w (bytesOf w v ++ rest) ≡ v
+
+-- us are values vs as the fields of a shape keep them: each cut to its field's bytes
+pub data Cut : List ℕ → List ℕ → List ℕ → Type 0 where
+  cut-none : Cut [] [] []
+  cut-one : {w v u : ℕ} {ws vs us : List ℕ} → u ≡ v % 256 ^ w → Cut ws vs us → Cut (w ∷ ws) (v ∷ vs) (u ∷ us)
+
+-- one that fits is kept as it is
+pub cut-fit : {w v : ℕ} {ws vs us : List ℕ} → v < 256 ^ w → Cut ws vs us → Cut (w ∷ ws) (v ∷ vs) (v ∷ us)
+cut-fit h c = cut-one (sym (mod-eq-of-lt h)) c
+
+pub fitted-cut : {ws vs : List ℕ} → Fitted ws vs → Cut ws vs vs
+fitted-cut fit-none = cut-none
+fitted-cut (fit-one h r) = cut-fit h (fitted-cut r)
+
+pub cut-append : {ws vs us xs ys zs : List ℕ} → Cut ws vs us → Cut xs ys zs → Cut (ws ++ xs) (vs ++ ys) (us ++ zs)
+cut-append cut-none d = d
+cut-append (cut-one e c) d = cut-one e (cut-append c d)
+
+turned : (a b x : ℕ) → x ≡ b * 256 + a → a + 256 * b ≡ x
+turned a b x e = omega (arith, e)
+
+value-cut : (w v : ℕ) (rest : List ℕ) → valueOf w (bytesOf w v ++ rest) ≡ v % 256 ^ w
 unfolding bytesOf valueOf
-value-bytes zero v rest h = omega (arith, h)
-value-bytes (suc w) v rest h =
-    let p : v < 256 ^ w * 256 = rw pow-suc at h in
-    let q : v / 256 < 256 ^ w = div-lt-iff-lt-mul {k = 256} {x = v} {y = 256 ^ w} (omega arith) .1 p in
-    omega (arith, value-bytes w (v / 256) rest q, div-add-mod v 256)
+value-cut zero v rest = omega arith
+value-cut (suc w) v rest =
+    let p : 0 < 256 ^ w = omega (arith, one-le-pow w 256 (omega arith)) in
+    let q : v % (256 ^ w * 256) ≡ (v / 256 % 256 ^ w) * 256 + v % 256 = mod-mul v p (omega arith) in
+    ap (λ (k : ℕ). v % 256 + 256 * k) (value-cut w (v / 256) rest) ∙ turned (v % 256) (v / 256 % 256 ^ w) (v % 256 ^ suc w) (rw pow-suc q)
+
+pub unpack-cut : {ws vs us : List ℕ} (rest : List ℕ) → Cut ws vs us → unpack ws (pack ws vs ++ rest) ≡ us
+unfolding pack unpack
+unpack-cut rest cut-none = refl
+unpack-cut rest (cut-one {w} {v} {u} {ws} {vs} {us} h r) =
+    let e : (bytesOf w v ++ pack ws vs) ++ rest ≡ bytesOf w v ++ (pack ws vs ++ rest) = append-assoc (bytesOf w v) (pack ws vs) rest in
+    rw (e, value-cut w v (pack ws vs ++ rest), drop-at (bytesOf w v) (pack ws vs ++ rest) w (length-bytes w v), unpack-cut rest r, h)
 
 pub unpack-pack : {ws vs : List ℕ} (rest : List ℕ) → Fitted ws vs → unpack ws (pack ws vs ++ rest) ≡ vs
-unfolding pack unpack
-unpack-pack rest fit-none = refl
-unpack-pack rest (fit-one {w} {v} {ws} {vs} h r) =
-    let e : (bytesOf w v ++ pack ws vs) ++ rest ≡ bytesOf w v ++ (pack ws vs ++ rest) = append-assoc (bytesOf w v) (pack ws vs) rest in
-    rw (e, value-bytes w v (pack ws vs ++ rest) h, drop-at (bytesOf w v) (pack ws vs ++ rest) w (length-bytes w v), unpack-pack rest r)
+unpack-pack rest f = unpack-cut rest (fitted-cut f)
 
 -- ---- reading, then writing
 

@@ -1,11 +1,11 @@
 -- An f64 and its bit pattern, there and back.
 use Prim.Native.Nat.{ℕ, _^_, _<_}
-use mathlib.Core.Bool.{true, false, not}
+use mathlib.Core.Bool.{Bool, true, false, not, cond}
 use mathlib.Core.Path.{_≡_, refl, sym, ap, _∙_}
 use mathlib.Core.List.{List, [], _∷_, map}
 use lib.Dec.{T}
 use lib.Ieee.{Float, binary64, nanBits, ofBits, toBits, fits, isNan}
-use lib.Ieee.Bits.{ofBits-toBits, toBits-ofBits, toBits-lt, nanBits-is, is-false}
+use lib.Ieee.Bits.{ofBits-toBits, ofBits-fits, toBits-ofBits, toBits-lt, nanBits-is, is-false}
 use Rattle.fields.specs.Fields.{infinity, numOf, bitsOf}
 
 -- a number that an f64 holds and that is no NaN
@@ -33,6 +33,15 @@ bits-num w h e =
 pub nan-read : (w : ℕ) → nanBits binary64 w ≡ true → numOf w ≡ infinity
 unfolding numOf
 nan-read w e = rw e
+
+-- what is read is an f64
+pub num-held : (w : ℕ) → T (fits binary64 (numOf w))
+unfolding numOf
+num-held w = go (nanBits binary64 w)
+  where
+    go : (b : Bool) → T (fits binary64 (cond b infinity (ofBits binary64 w)))
+    go true = ofBits-fits binary64 0x7ff0_0000_0000_0000
+    go false = ofBits-fits binary64 w
 
 pub data AllPlain : List Float → Type 0 where
   plain-none : AllPlain []

@@ -5,7 +5,7 @@ ghost use lib.Seq.{sets};
 ghost use Rattle.fields.specs.Fields.{bytesOf};
 ghost use Rattle.fields.specs.Ready.{FieldAt, SpaceAt, ByteAt, Value};
 
-fn wide(b: u8) -> usize
+pub fn wide(b: u8) -> usize
     ensures { λ r. ⌜ (r ≡ b) × (r < 256) ⌝ }
 {
     b as usize

@@ -3,6 +3,7 @@ pub mod cutting;
 pub mod keeping;
 pub mod measuring;
 pub mod pruning;
+pub mod recording;
 pub mod reopening;
 pub mod setting;
 pub mod starting;

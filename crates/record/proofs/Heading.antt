@@ -1,107 +1,129 @@
 -- What the functions of a head are proved by.
-use Prim.Native.Nat.{ℕ, zero, suc, _+_, _*_, _^_, _≤_, _<_}
-use mathlib.Core.Bool.{Bool, true, false, not}
-use mathlib.Core.Path.{_≡_, sym, ap, _∙_}
-use mathlib.Core.List.{List, [], _∷_}
+use Prim.Native.Nat.{ℕ, _+_, _*_, _^_, _≤_, _<_}
+use mathlib.Core.Bool.{not}
+use mathlib.Core.Path.{_≡_, refl, sym, ap, _∙_}
+use mathlib.Core.List.{List, [], _∷_, _++_, append-nil}
 use native.Mathlib.Omega.{arith}
-use native.Mathlib.Nat.{mul-le-mul}
-use borrow.Author.Tests.{leb-true, not-true, not-false}
-use lib.Dec.{ltb, leb, eqb}
+use native.Mathlib.Nat.{mul-le-mul, pow-le-pow-right}
+use borrow.Author.Tests.{ne-eqb}
+use lib.Dec.{ltb, eqb}
 use lib.Ieee.{Float}
-use lib.ListN.{length, getD, drop, List·getD-append}
-use Rattle.basis.specs.Choice.{and-left}
-use Rattle.basis.specs.Refuse.{row, firstOf, firstFrom, orElse}
+use lib.ListN.{length, getD, drop, List·getD-eq-default}
+use lib.Seq.{drop-length, getD-drop, sets}
+use Rattle.basis.specs.declared.number.Tolerance.{Tolerance}
+use Rattle.basis.specs.Number.{toleranceOf}
+use Rattle.basis.specs.Refuse.{row, firstFrom, orElse}
 use Rattle.basis.specs.RefuseLaws.{then-rows}
-use Rattle.fields.specs.Fields.{unpack, numOf}
-use Rattle.fields.specs.FieldLaws.{length-unpack}
-use Rattle.fields.specs.Ready.{Fitted, fit-none, fit-one, ShapeAt, ShapeRead}
 use Rattle.basis.specs.StoreLaws.{sets-front}
-use Rattle.record.specs.declared.form.Version.{Version}
-use Rattle.stitch_run.specs.declared.plan.Plan.{Plan}
-use Rattle.record.specs.declared.head.Lengths.{Lengths}
-use Rattle.basis.specs.Number.{alike}
+use Rattle.fields.specs.Fields.{size, valueOf, unpack, numOf}
+use Rattle.fields.specs.FieldLaws.{length-unpack, fitted-at}
+use Rattle.fields.specs.Ready.{Fitted, ShapeAt, ShapeRead}
 use Rattle.slice.specs.Faults as slices
+use Rattle.slice.specs.Editions.{editionRoomRows}
+use Rattle.stitch_run.specs.declared.plan.Plan.{Plan}
 use Rattle.stitch_run.specs.Stitch.{planOf}
-use Rattle.record.specs.Record.{markOk, frameRows, takenRows, countRows, roomRows}
-use Rattle.record.specs.Ready.{HeadFit, HeadRead, Sized}
+use Rattle.record.specs.declared.form.Version.{Version}
+use Rattle.record.specs.declared.head.Lengths.{Lengths}
+use Rattle.record.specs.Form.{formFor, headShape, sliceShape}
+use Rattle.record.specs.Record.{headOf, secondIn, headAt, headIn, numberIn, formIn, takenRows, countRows, roomRows, lengthOf}
+use Rattle.record.specs.Ready.{FormOk, ByteOr, PlanFit, HeadFit, HeadRead, Sized}
+use Rattle.record.specs.RecordLaws.{head-narrow, head-size, slice-size}
 
--- ---- the mark
-pub mark-long : (b : List ℕ) (x : Bool) → x ≡ markOk b → not x ≡ false → 5 ≤ length b
-unfolding markOk
-mark-long b x e f = leb-true 5 (length b) (and-left (leb 5 (length b)) _ (sym e ∙ not-false x f))
+-- ---- the version
+pub byte-past : (b : List ℕ) (at : ℕ) → length b ≤ at → ByteOr b at 0
+byte-past b at h = record { value = sym (List·getD-eq-default b 0 h); below = omega arith }
 
-pub mark-wrong : (b : List ℕ) (number bytes most : ℕ) (x : Bool) → x ≡ markOk b → not x ≡ true → 11 ≡ firstOf (frameRows number bytes most b)
-unfolding firstOf
-mark-wrong b number bytes most x e f = rw (sym e ∙ not-true x f)
+pub number-of : (b : List ℕ) (x y : ℕ) → ByteOr b 3 x → ByteOr b 4 y → x + 256 * y ≡ numberIn b
+unfolding valueOf
+number-of b x y p q =
+    let low : getD (drop 3 b) 0 0 ≡ getD b 3 0 = getD-drop 3 b 0 0 in
+    let high : getD (drop 1 (drop 3 b)) 0 0 ≡ getD b 4 0 = getD-drop 1 (drop 3 b) 0 0 ∙ getD-drop 3 b 1 0 in
+    omega (arith, low, high, p .value, q .value)
 
-pub mark-right : (b : List ℕ) (x : Bool) → x ≡ markOk b → not x ≡ false → 0 ≡ orElse 0 (not (markOk b)) 11
-unfolding orElse
-mark-right b x e f = rw (sym e ∙ not-false x f)
+pub form-named : (b : List ℕ) (n : ℕ) (r : Version) → n ≡ numberIn b → r ≡ formFor n → r ≡ formIn b
+form-named b n r e f = f ∙ ap formFor e
 
 pub eqb-left : {a a′ : ℕ} (n : ℕ) → a ≡ a′ → not (eqb a n) ≡ not (eqb a′ n)
 eqb-left n e = ap (λ (k : ℕ). not (eqb k n)) e
 
-pub eqb-right : {a a′ : ℕ} (n : ℕ) → a ≡ a′ → not (eqb n a) ≡ not (eqb n a′)
-eqb-right n e = ap (λ (k : ℕ). not (eqb n k)) e
+pub ltb-right : {a a′ : ℕ} (n : ℕ) → a ≡ a′ → ltb n a ≡ ltb n a′
+ltb-right n e = ap (ltb n) e
+
+-- ---- the tolerances
+module _ (width x y : ℕ) (first : Float) (e : first ≡ numOf x) where
+  pub one-for-both : width ≡ 0 → toleranceOf first first ≡ toleranceOf (numOf x) (numOf (secondIn width x y))
+  unfolding secondIn
+  one-for-both z = rw (z, e)
+
+  pub one-for-each : (second : Float) → second ≡ numOf y → (width ≡ 0 → ⊥) → toleranceOf first second ≡ toleranceOf (numOf x) (numOf (secondIn width x y))
+  unfolding secondIn
+  one-for-each second f h = rw (ne-eqb width 0 h, e, f)
+
+pub plan-said : (v : Version) (f : List ℕ) (t : Tolerance) → t ≡ toleranceOf (numOf (getD f 7 0)) (numOf (secondIn (v .second) (getD f 7 0) (getD f 8 0)))
+    → planOf (getD f 4 0) (getD f 5 0) (getD f 14 0)
+    (record { pline2 = getD f 11 0; «pline1_overlapping» = getD f 12 0; «pline2_overlapping» = getD f 13 0 })
+    (getD f 6 0) t ≡ headAt v f .plan
+plan-said v f t e =
+    ap
+    (planOf (getD f 4 0) (getD f 5 0) (getD f 14 0)
+    (record { pline2 = getD f 11 0; «pline1_overlapping» = getD f 12 0; «pline2_overlapping» = getD f 13 0 })
+    (getD f 6 0)) e
 
 -- ---- the length as the counts say
-pub slices-small : {v : Version} {p : Plan} → Sized v p → p .slices * v .stride ≤ 8388608
-slices-small {v} {p} s = let few : p .slices ≤ 65536 = omega (arith, s .counts .third) in mul-le-mul few (s .stride)
+pub slices-small : {v : Version} {p : Plan} → Sized v p → {stride : ℕ} → stride ≡ size (sliceShape v) → p .slices * stride ≤ 8388608
+slices-small {v} {p} s {stride} e =
+    let few : p .slices ≤ 65536 = omega (arith, s .counts .third) in
+    let wide : stride ≤ 128 = omega (arith, e, slice-size v, s .form .edition) in
+    mul-le-mul few wide
+
+pub head-small : {v : Version} → FormOk v → {bytes : ℕ} → bytes ≡ size (headShape v) → bytes ≤ 64
+head-small {v} ok e = omega (arith, e, head-size v, ok .second, ok .edition)
+
+pub length-told : (v : Version) (p : Plan) (head stride : ℕ) → head ≡ size (headShape v) → stride ≡ size (sliceShape v)
+    → head + (p .vc1 * 24 + (p .vc2 * 24 + p .slices * stride)) ≡ lengthOf v p
+unfolding lengthOf
+length-told v p head stride e f = rw (e, f)
 
 -- ---- the head's numbers
-fitted-at : {ws vs : List ℕ} (i : ℕ) → Fitted ws vs → i < length ws → getD vs i 0 < 256 ^ getD ws i 0
-fitted-at i fit-none h = absurd (omega arith)
-fitted-at zero (fit-one k r) h = k
-fitted-at (suc i) (fit-one k r) h = fitted-at i r (omega arith)
+pub head-fits : {v : Version} {b : List ℕ} → HeadFit v b → {ws : List ℕ} → ws ≡ headShape v → {n : ℕ} → n ≡ 15 → ShapeAt (length b) 0 ws n 0
+head-fits {v} h w e = rw w (record { narrow = head-narrow v (h .form); inside = omega (arith, h .inside); target = omega arith })
 
-pub head-shape : {v : Version} {hs b : List ℕ} {n : ℕ} → HeadFit v hs b → n ≡ 16 → ShapeAt (length b) 0 hs n 0
-head-shape h e =
-    record {
-      narrow = h .head .narrow;
-      inside = omega (arith, h .head .bytes, h .inside);
-      target = omega (arith, h .head .few);
-    }
+module _ {v : Version} {b : List ℕ} (h : HeadFit v b) {ws z f : List ℕ} (w : ws ≡ headShape v) (many : length z ≡ 15) (a : ShapeRead b 0 ws z f 0) where
+  values-long : length (unpack (headShape v) b) ≡ 15
+  values-long = length-unpack (headShape v) b
 
-module _ {v : Version} {hs b : List ℕ} (h : HeadFit v hs b) {z f : List ℕ} (sixteen : length z ≡ 16) (a : ShapeRead b 0 hs z f 0) where
-  field-at : (i : ℕ) → i < length hs → getD f i 0 ≡ getD (unpack hs b) i 0
-  field-at i k =
-      let n : length (unpack hs b) ≡ length hs = length-unpack hs b in
-      ap (λ (s : List ℕ). getD s i 0) (a .values ∙ sets-front z (unpack hs b) (omega (arith, h .head .few)))
-      ∙ List·getD-append (unpack hs b) (drop (length (unpack hs b)) z) 0 i (omega arith)
+  pub values-all : f ≡ unpack (headShape v) b
+  values-all =
+      let vs = unpack (headShape v) b in
+      let k : length vs ≡ length z = omega (arith, values-long, many) in
+      a .values ∙ ap (λ (s : List ℕ). sets z 0 (unpack s b)) w ∙ sets-front z vs (omega (arith, k)) ∙ rw (k, drop-length z) (append-nil vs)
 
-  field-below : (i w : ℕ) → i < length hs → getD hs i 0 ≡ w → getD f i 0 < 256 ^ w
-  field-below i w k e = let p : getD (unpack hs b) i 0 < 256 ^ getD hs i 0 = fitted-at i (a .fitted) k in rw (field-at i k) (rw e at p)
+  all-fitted : Fitted (headShape v) f
+  all-fitted = rw values-all (rw w at (a .fitted))
 
-  pub selector-fits : getD f 6 0 < 256
-  selector-fits = field-below 6 1 (omega (arith, h .head .high, h .head .low)) (h .head .choice)
+  pub plan-fits : PlanFit f
+  plan-fits = record { many = ap length values-all ∙ values-long; choice = fitted-at 6 all-fitted (omega arith) }
 
-  pub head-read : (t : Float) → t ≡ numOf (getD f 7 0)
-      → HeadRead v hs b
-      (planOf (getD f 4 0) (getD f 5 0) (getD f (v .later + 3) 0)
-      (record { pline2 = getD f (v .later) 0; «pline1_overlapping» = getD f (v .later + 1) 0; «pline2_overlapping» = getD f (v .later + 2) 0 })
-      (getD f 6 0) (alike t))
-  head-read t e =
-      let k : v .later + 4 ≤ length hs = h .head .high in
-      let j : 8 ≤ v .later = h .head .low in
+  edition-small : (x : ℕ) → x < 256 ^ v .edition → x < 2 ^ 32
+  edition-small x k =
+      let p : 256 ^ v .edition ≤ 256 ^ 4 = pow-le-pow-right (omega arith) (h .form .edition) in
+      omega (arith, k, p)
+
+  pub edition1-fits : getD f 9 0 < 2 ^ 32
+  edition1-fits = edition-small (getD f 9 0) (fitted-at 9 all-fitted (omega arith))
+
+  pub edition2-fits : getD f 10 0 < 2 ^ 32
+  edition2-fits = edition-small (getD f 10 0) (fitted-at 10 all-fitted (omega arith))
+
+  pub head-read : (p : Plan) → p ≡ headAt v f .plan → HeadRead v b (headOf p (getD f 9 0) (getD f 10 0))
+  unfolding headIn
+  head-read p e =
+      let n1 : getD f 4 0 < 65536 = fitted-at 4 all-fitted (omega arith) in
+      let n2 : getD f 5 0 < 65536 = fitted-at 5 all-fitted (omega arith) in
+      let n3 : getD f 14 0 < 65536 = fitted-at 14 all-fitted (omega arith) in
       record {
-        plan =
-            rw (
-              e,
-              field-at 4 (omega arith),
-              field-at 5 (omega arith),
-              field-at 6 (omega arith),
-              field-at 7 (omega arith),
-              field-at (v .later) (omega arith),
-              field-at (v .later + 1) (omega arith),
-              field-at (v .later + 2) (omega arith),
-              field-at (v .later + 3) (omega arith),
-            );
-        counts =
-            record {
-              first = field-below 4 2 (omega arith) (h .head .count1);
-              second = field-below 5 2 (omega arith) (h .head .count2);
-              third = field-below (v .later + 3) 2 (omega arith) (h .head .count3);
-            };
+        head = ap (λ (q : Plan). headOf q (getD f 9 0) (getD f 10 0)) e ∙ ap (headAt v) values-all;
+        counts = rw e (record { first = n1; second = n2; third = n3 });
       }
 
 -- ---- the count's refusal
@@ -109,9 +131,11 @@ pub counted : (n m : ℕ) (p : Plan) (told found r : ℕ) → told ≡ m → fou
 counted n m p told found r e f g =
     then-rows r found 0 (row (not (eqb n m)) 13 ∷ []) (takenRows p) g (unfold firstFrom in (f ∙ ap (λ (k : ℕ). orElse 0 (not (eqb n k)) 13) e))
 
--- ---- the room's: that of the slices behind that of the outlines
+-- ---- the room's: that of the editions behind that of the slices, and that behind that of the outlines
 pub then-slices : (n q found : ℕ) (p : Plan) (l : Lengths) → n ≡ firstFrom q (slices.roomRows (p .slices) (l .«slice_at») (l .slice))
-    → q ≡ orElse (orElse found (ltb (l .outline1) (3 * p .vc1)) 9) (ltb (l .outline2) (3 * p .vc2)) 9 → n ≡ firstFrom found (roomRows p l)
-then-slices n q found p l e f =
-    then-rows n q found (row (ltb (l .outline1) (3 * p .vc1)) 9 ∷ row (ltb (l .outline2) (3 * p .vc2)) 9 ∷ [])
-    (slices.roomRows (p .slices) (l .«slice_at») (l .slice)) e (unfold firstFrom in f)
+    → q ≡ orElse (orElse found (ltb (l .outline1) (3 * p .vc1)) 9) (ltb (l .outline2) (3 * p .vc2)) 9 → (r : ℕ) → r ≡ firstFrom n (editionRoomRows (p .slices) (l .«slice_edition»))
+    → r ≡ firstFrom found (roomRows p l)
+then-slices n q found p l e f r g =
+    let outlines = row (ltb (l .outline1) (3 * p .vc1)) 9 ∷ row (ltb (l .outline2) (3 * p .vc2)) 9 ∷ [] in
+    then-rows r q found outlines (slices.roomRows (p .slices) (l .«slice_at») (l .slice) ++ editionRoomRows (p .slices) (l .«slice_edition»))
+    (then-rows r n q (slices.roomRows (p .slices) (l .«slice_at») (l .slice)) (editionRoomRows (p .slices) (l .«slice_edition»)) g e) (unfold firstFrom in f)

@@ -1,50 +1,34 @@
--- What a version's tables are, and what the functions of a head require and leave.
-use Prim.Native.Nat.{ℕ, _+_, _≤_, _<_}
+-- What the functions of a head require and leave.
+use Prim.Native.Nat.{ℕ, _≤_, _<_}
 use mathlib.Core.Path.{_≡_}
 use mathlib.Core.List.{List}
 use lib.ListN.{length, getD}
-use Rattle.fields.specs.Fields.{size, unpack}
-use Rattle.fields.specs.Ready.{Narrow}
+use Rattle.fields.specs.Fields.{size}
 use Rattle.stitch_run.specs.declared.plan.Plan.{Plan}
 use Rattle.record.specs.declared.form.Version.{Version}
-use Rattle.record.specs.Form.{Form, commonWidth}
-use Rattle.record.specs.Record.{planAt}
+use Rattle.record.specs.declared.head.Head.{Head}
+use Rattle.record.specs.Form.{headShape}
+use Rattle.record.specs.Record.{headIn}
 
--- the form that a version with these two tables is
-abbrev pub formOf : Version → List ℕ → List ℕ → Form
-formOf v hs es = record { version = v .number; head = hs; later = v .later; entry = es; most = v .most }
+-- a table whose widths are those of a tolerance and of an edition, or less
+pub record FormOk (v : Version) : Type 0 where
+  pub second : v .second ≤ 8
+  pub edition : v .edition ≤ 4
 
--- the version that a form is, beside its two tables
-abbrev pub versionOf : Form → Version
-versionOf f = record { number = f .version; bytes = size (f .head); later = f .later; stride = size (f .entry); most = f .most }
+-- the byte at a place, 0 beyond the end
+pub record ByteOr (b : List ℕ) (at r : ℕ) : Type 0 where
+  pub value : r ≡ getD b at 0
+  pub below : r < 256
 
-pub record HeadOk (v : Version) (hs : List ℕ) : Type 0 where
-  pub few : length hs ≤ 16
-  pub narrow : Narrow hs
-  pub bytes : v .bytes ≡ size hs
-  pub short : v .bytes ≤ 64
-  pub high : v .later + 4 ≤ length hs
-  pub count1 : getD hs 4 0 ≡ 2
-  pub count2 : getD hs 5 0 ≡ 2
-  pub choice : getD hs 6 0 ≡ 1
-  pub low : 8 ≤ v .later
-  pub count3 : getD hs (v .later + 3) 0 ≡ 2
-
-pub record EntryOk (v : Version) (es : List ℕ) : Type 0 where
-  pub enough : commonWidth ≤ length es
-  pub few : length es ≤ 16
-  pub narrow : Narrow es
-  pub bytes : v .stride ≡ size es
-  pub short : v .stride ≤ 128
-
-pub record VersionOk (v : Version) (hs es : List ℕ) : Type 0 where
-  pub head : HeadOk v hs
-  pub entry : EntryOk v es
+-- values of a head's fields of which the selector is a byte
+pub record PlanFit (f : List ℕ) : Type 0 where
+  pub many : length f ≡ 15
+  pub choice : getD f 6 0 < 256
 
 -- a whole head is there
-pub record HeadFit (v : Version) (hs b : List ℕ) : Type 0 where
-  pub head : HeadOk v hs
-  pub inside : v .bytes ≤ length b
+pub record HeadFit (v : Version) (b : List ℕ) : Type 0 where
+  pub form : FormOk v
+  pub inside : size (headShape v) ≤ length b
 
 -- counts of 16 bits
 pub record Counts (p : Plan) : Type 0 where
@@ -52,11 +36,10 @@ pub record Counts (p : Plan) : Type 0 where
   pub second : p .vc2 < 65536
   pub third : p .slices < 65536
 
-pub record HeadRead (v : Version) (hs b : List ℕ) (p : Plan) : Type 0 where
-  pub plan : p ≡ planAt (v .later) (unpack hs b)
-  pub counts : Counts p
+pub record HeadRead (v : Version) (b : List ℕ) (h : Head) : Type 0 where
+  pub head : h ≡ headIn v b
+  pub counts : Counts (h .plan)
 
 pub record Sized (v : Version) (p : Plan) : Type 0 where
+  pub form : FormOk v
   pub counts : Counts p
-  pub bytes : v .bytes ≤ 64
-  pub stride : v .stride ≤ 128

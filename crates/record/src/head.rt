@@ -1,8 +1,10 @@
 // The head of a record: its frame, its numbers, and what is refused by them.
 ghost use mathlib.Core.Path.{_≡_};
 ghost use Rattle.basis.specs.Refuse.{firstOf, firstFrom};
-ghost use Rattle.record.specs.Record.{markOk, frameRows, lengthOf, takenRows, countRows, roomRows};
-ghost use Rattle.record.specs.Ready.{HeadFit, HeadRead, Sized, Counts};
+ghost use Rattle.basis.specs.Number.{toleranceOf};
+ghost use Rattle.fields.specs.Fields.{numOf};
+ghost use Rattle.record.specs.Record.{markOk, numberIn, formIn, frameRows, secondIn, headAt, lengthOf, takenRows, countRows, roomRows};
+ghost use Rattle.record.specs.Ready.{FormOk, ByteOr, PlanFit, HeadFit, HeadRead, Sized, Counts};
 use crate::form;
 use crate::form::Version;
 use basis::number::Tolerance;
@@ -13,10 +15,18 @@ use fields::shape;
 use select::class::Starts;
 use stitch_run::plan::Plan;
 
-// What a reader answers: number 0 and the plan of the stitch, or its number and nothing.
+// What a head says: the plan of the stitch, and the outlines' editions.
+pub struct Head {
+    pub plan: Plan,
+    pub edition1: u32,
+    pub edition2: u32,
+}
+
+// What a reader answers: number 0, the version and the head, or its number and nothing.
 pub struct Seen {
     pub refusal: u32,
-    pub plan: Plan,
+    pub version: usize,
+    pub head: Head,
 }
 
 // How long the lists are that a record is read to.
@@ -25,6 +35,7 @@ pub struct Lengths {
     pub outline2: usize,
     pub slice_at: usize,
     pub slice: usize,
+    pub slice_edition: usize,
 }
 
 // At least five bytes, the first three of them `PBR`.
@@ -37,60 +48,105 @@ fn is_marked(bytes: &[u8]) -> bool
     bytes[0] == 80 && (bytes[1] == 66 && bytes[2] == 82)
 }
 
+// The byte at a place, 0 beyond the end.
+fn byte(bytes: &[u8], at: usize) -> usize
+    ensures { λ r. ⌜ ByteOr (now (bytes .entry)) at r ⌝ }
+{
+    if at < bytes.len() {
+        return field::wide(bytes[at]);
+    }
+    0
+}
+
+// The number in the field of the version.
+fn number_in(bytes: &[u8]) -> usize
+    ensures { λ r. ⌜ r ≡ numberIn (now (bytes .entry)) ⌝ }
+{
+    byte(bytes, 3) + 256 * byte(bytes, 4)
+}
+
+// The table of the version that the bytes name.
+pub fn version_in(bytes: &[u8]) -> Version
+    ensures { λ r. ⌜ r ≡ formIn (now (bytes .entry)) ⌝ }
+{
+    form::version_for(number_in(bytes))
+}
+
 // Numbers 11, 12 and, before the counts are known, 13.
 pub fn frame_refusal(bytes: &[u8], v: Version) -> u32
-    ensures { λ r. ⌜ r ≡ firstOf (frameRows (v .number) (v .bytes) (v .most) (now (bytes .entry))) ⌝ }
+    requires { ⌜ FormOk v ⌝ }
+    ensures { λ r. ⌜ r ≡ firstOf (frameRows v (now (bytes .entry))) ⌝ }
 {
-    if !is_marked(bytes) {
-        return 11;
-    }
-    let found = field::get(bytes, 3, 2);
-    let r = refuse::or_else(0, found != v.number, 12);
-    let r = refuse::or_else(r, bytes.len() < v.bytes, 13);
+    let marked = is_marked(bytes);
+    let found = number_in(bytes);
+    let least = form::head_bytes(v);
+    let r = refuse::or_else(0, !marked, 11);
+    let r = refuse::or_else(r, found != v.number, 12);
+    let r = refuse::or_else(r, bytes.len() < least, 13);
     refuse::or_else(r, v.most < bytes.len(), 13)
 }
 
-// The numbers of a head that is there.
-pub fn plan_in(bytes: &[u8], v: Version, widths: &[usize]) -> Plan
-    requires { ⌜ HeadFit v (now widths) (now bytes) ⌝ }
-    ensures { λ r. ⌜ HeadRead v (now (widths .entry)) (now (bytes .entry)) r ⌝ }
+// The tolerances: that of x, and that of y, which is the same where the version has no field for it.
+fn tolerance_in(width: usize, x: usize, y: usize) -> Tolerance
+    ensures { λ r. ⌜ r ≡ toleranceOf (numOf x) (numOf (secondIn width x y)) ⌝ }
 {
-    let mut f = [0usize; 16];
-    shape::read_shape(bytes, 0, widths, &mut f, 0);
-    let i = v.later;
-    let j = i + 1;
-    let k = i + 2;
-    let l = i + 3;
-    let vc1 = f[4];
-    let vc2 = f[5];
-    let selector = f[6] as u32;
-    let both = copy::number(f[7]);
-    let pline2 = f[i];
-    let pline1_overlapping = f[j];
-    let pline2_overlapping = f[k];
-    let slices = f[l];
+    let first = copy::number(x);
+    if width == 0 {
+        return Tolerance { x: first, y: first };
+    }
+    let second = copy::number(y);
+    Tolerance {
+        x: first,
+        y: second,
+    }
+}
+
+// The plan that the values of a head's fields say.
+fn plan_at(v: Version, f: [usize; 15]) -> Plan
+    requires { ⌜ PlanFit f ⌝ }
+    ensures { λ r. ⌜ r ≡ headAt v f .plan ⌝ }
+{
     let starts = Starts {
-        pline2,
-        pline1_overlapping,
-        pline2_overlapping,
+        pline2: f[11],
+        pline1_overlapping: f[12],
+        pline2_overlapping: f[13],
     };
-    let tolerance = Tolerance { x: both, y: both };
+    let selector = f[6] as u32;
+    let tolerance = tolerance_in(v.second, f[7], f[8]);
     Plan {
-        vc1,
-        vc2,
-        slices,
+        vc1: f[4],
+        vc2: f[5],
+        slices: f[14],
         starts,
         selector,
         tolerance,
     }
 }
 
+// What a head that is there says.
+pub fn head_in(bytes: &[u8], v: Version) -> Head
+    requires { ⌜ HeadFit v (now bytes) ⌝ }
+    ensures { λ r. ⌜ HeadRead v (now (bytes .entry)) r ⌝ }
+{
+    let widths = form::head_widths(v);
+    let mut f = [0usize; 15];
+    shape::read_shape(bytes, 0, &widths, &mut f, 0);
+    let plan = plan_at(v, f);
+    Head {
+        plan,
+        edition1: f[9] as u32,
+        edition2: f[10] as u32,
+    }
+}
+
 // The length as the counts say.
 pub fn length_of(p: Plan, v: Version) -> usize
     requires { ⌜ Sized v p ⌝ }
-    ensures { λ r. ⌜ r ≡ lengthOf (v .bytes) (v .stride) p ⌝ }
+    ensures { λ r. ⌜ r ≡ lengthOf v p ⌝ }
 {
-    v.bytes + (p.vc1 * form::VERTEX_BYTES + (p.vc2 * form::VERTEX_BYTES + p.slices * v.stride))
+    let head = form::head_bytes(v);
+    let stride = form::slice_bytes(v);
+    head + (p.vc1 * form::VERTEX_BYTES + (p.vc2 * form::VERTEX_BYTES + p.slices * stride))
 }
 
 // Numbers 1 and 2 by what the program takes.
@@ -105,7 +161,7 @@ pub fn taken_refusal(found: u32, p: Plan) -> u32
 // Number 13 by the counts, then 1 and 2.
 pub fn count_refusal(bytes: usize, p: Plan, v: Version) -> u32
     requires { ⌜ Sized v p ⌝ }
-    ensures { λ r. ⌜ r ≡ firstFrom 0 (countRows bytes (lengthOf (v .bytes) (v .stride) p) p) ⌝ }
+    ensures { λ r. ⌜ r ≡ firstFrom 0 (countRows bytes (lengthOf v p) p) ⌝ }
 {
     let told = length_of(p, v);
     let r = refuse::or_else(0, bytes != told, 13);
@@ -119,5 +175,6 @@ pub fn room_refusal(found: u32, p: Plan, l: Lengths) -> u32
 {
     let r = refuse::or_else(found, l.outline1 < 3 * p.vc1, 9);
     let r = refuse::or_else(r, l.outline2 < 3 * p.vc2, 9);
-    slice::faults::room_refusal(r, p.slices, l.slice_at, l.slice)
+    let r = slice::faults::room_refusal(r, p.slices, l.slice_at, l.slice);
+    slice::edition::room_refusal(r, p.slices, l.slice_edition)
 }

@@ -1,15 +1,16 @@
 -- The loops that gather a column through a function g: what is left to do, over what is done, is the whole.
-use Prim.Native.Nat.{ℕ, suc, _+_, _-_, _*_, _≤_, _<_}
+use Prim.Native.Nat.{ℕ, suc, _+_, _-_, _*_, _^_, _≤_, _<_}
 use mathlib.Core.Path.{_≡_, refl, sym, ap, _∙_}
-use mathlib.Core.List.{List, _++_, map, map-append, map-id}
+use mathlib.Core.List.{List, [], _∷_, _++_, map, map-append, map-id}
 use native.Mathlib.Omega.{arith}
-use lib.ListN.{length, take, drop, length-map, length-drop}
-use lib.Seq.{drop-drop, length-take-le, sets, length-sets}
+use native.Mathlib.Nat.{suc-mul}
+use lib.ListN.{length, getD, set, take, drop, length-map, length-drop}
+use lib.Seq.{drop-cons, drop-drop, length-take-le, sets, length-sets}
 use Rattle.fields.specs.Ready.{CopyAt}
 use Rattle.fields.specs.StepLaws.{step-inside, step-left}
 use Rattle.basis.specs.StoreLaws.{sets-then}
 use Rattle.record.specs.Form.{column}
-use Rattle.record_read.specs.Ready.{ColumnFit}
+use Rattle.record_read.specs.Ready.{ColumnFit, Short, DatesFit}
 
 pub record Gathering {A B : Type 0} (g : A → B) (vs : List A) (from stride offset per n : ℕ) (l l′ : List B) (p q left : ℕ) : Type 0 where
   pub part : offset + per ≤ stride
@@ -70,3 +71,39 @@ gathering-codes {vs} {from} {stride} {offset} {per} {n} {l} {l′} {p} {q} c h e
 pub gathered-codes : {vs : List ℕ} {from stride offset per n : ℕ} {l l′ : List ℕ} {p q left : ℕ}
     → Gathering same vs from stride offset per n l l′ p q left → left ≤ 0 → l′ ≡ sets l 0 (column stride offset per n (drop from vs))
 gathered-codes {vs} {from} {stride} {offset} {per} {n} {l} c h = gathering-end c h ∙ ap (sets l 0) (map-id (column stride offset per n (drop from vs)))
+
+-- ---- editions are codes of 32 bits, one a row
+pub record Dating (vs : List ℕ) (from stride offset n : ℕ) (l l′ : List ℕ) (p q left : ℕ) : Type 0 where
+  pub rows : Gathering same vs from stride offset 1 n l l′ p q left
+  pub short : Short vs p stride offset left
+
+pub dating-none : (vs : List ℕ) (from stride offset n : ℕ) (l : List ℕ) → DatesFit vs from stride offset n (length l) → Dating vs from stride offset n l l from 0 n
+dating-none vs from stride offset n l h = record { rows = gathering-none same vs from stride offset 1 n l (h .rows); short = h .short }
+
+module _ {vs : List ℕ} {from stride offset n : ℕ} {l l′ : List ℕ} {p q left : ℕ} (c : Dating vs from stride offset n l l′ p q left) (h : 0 < left) where
+  pub dating-row : p + stride ≤ length vs
+  dating-row = gathering-row (c .rows) h
+
+  pub dating-place : p + offset < length vs
+  dating-place = omega (arith, dating-row, c .rows .part)
+
+  pub dating-room : q + 1 ≤ length l′
+  dating-room = omega (arith, gathering-room (c .rows) h, c .rows .long)
+
+  pub dating-short : getD vs (p + offset) 0 < 2 ^ 32
+  dating-short = let e : p + 0 * stride + offset ≡ p + offset = omega arith in rw e at (c .short 0 h)
+
+  pub dating-more : {x : ℕ} → x ≡ getD vs (p + offset) 0 → Dating vs from stride offset n l (set l′ q x) (p + stride) (q + 1) (left - 1)
+  dating-more {x} e =
+      let d : take 1 (drop (p + offset) vs) ≡ x ∷ [] = ap (take 1) (drop-cons vs (p + offset) 0 dating-place) ∙ ap (λ (y : ℕ). y ∷ []) (sym e) in
+      record {
+        rows = gathering-codes (c .rows) h (sym (ap (sets l′ q) d));
+        short =
+            λ i k.
+            let s : p + suc i * stride + offset ≡ p + stride + i * stride + offset = omega (arith, suc-mul i stride) in
+            rw s at (c .short (suc i) (omega arith));
+      }
+
+pub dating-end : {vs : List ℕ} {from stride offset n : ℕ} {l l′ : List ℕ} {p q left : ℕ}
+    → Dating vs from stride offset n l l′ p q left → left ≤ 0 → l′ ≡ sets l 0 (column stride offset 1 n (drop from vs))
+dating-end c h = gathered-codes (c .rows) h

@@ -1,12 +1,11 @@
 ghost use mathlib.Core.Path.{_≡_};
-ghost use Rattle.record.specs.Form.{form1};
-ghost use Rattle.record.specs.Record.{lists, seenRefused, seenGiven, ReadLeft};
-ghost use Rattle.record.specs.Ready.{formOf, VersionOk};
+ghost use Rattle.record.specs.Record.{lists, seenRefused, seenGiven, ReadLeft, Read};
+ghost use Rattle.record.specs.Ready.{FormOk};
 use crate::body;
 use basis::number::Tolerance;
-use record::form;
 use record::form::Version;
 use record::head;
+use record::head::Head;
 use record::head::Lengths;
 use record::head::Seen;
 use select::class::Starts;
@@ -29,58 +28,73 @@ fn seen_refused(number: u32) -> Seen
         selector: 0,
         tolerance,
     };
+    let head = Head {
+        plan,
+        edition1: 0,
+        edition2: 0,
+    };
     Seen {
         refusal: number,
-        plan,
+        version: 0,
+        head,
     }
 }
 
-fn seen_given(plan: Plan) -> Seen
-    ensures { λ r. ⌜ r ≡ seenGiven plan ⌝ }
+fn seen_given(version: usize, head: Head) -> Seen
+    ensures { λ r. ⌜ r ≡ seenGiven version head ⌝ }
 {
-    Seen { refusal: 0, plan }
+    Seen {
+        refusal: 0,
+        version,
+        head,
+    }
 }
 
-// Reads a record of one version. What is common to all versions is here.
+// Reads a record of one version.
 fn read_form(
     bytes: &[u8],
     v: Version,
-    widths: &[usize],
-    entry: &[usize],
     o1: &mut [f64],
     o2: &mut [f64],
     at: &mut [usize],
     s: &mut [f64],
+    dates: &mut [u32],
 ) -> Seen
-    requires { ⌜ VersionOk v (now widths) (now entry) ⌝ }
-    ensures { λ r. ⌜ ReadLeft (formOf v (now (widths .entry)) (now (entry .entry))) (now (bytes .entry)) (lists (now (o1 .entry)) (now (o2 .entry)) (now (at .entry)) (now (s .entry))) r (lists (now (o1 .exit)) (now (o2 .exit)) (now (at .exit)) (now (s .exit))) ⌝ }
+    requires { ⌜ FormOk v ⌝ }
+    ensures { λ r. ⌜ ReadLeft v (now (bytes .entry)) (lists (now (o1 .entry)) (now (o2 .entry)) (now (at .entry)) (now (s .entry)) (now (dates .entry))) r (lists (now (o1 .exit)) (now (o2 .exit)) (now (at .exit)) (now (s .exit)) (now (dates .exit))) ⌝ }
 {
     let r = head::frame_refusal(bytes, v);
     if r != 0 {
         return seen_refused(r);
     }
-    let p = head::plan_in(bytes, v, widths);
-    let r = head::count_refusal(bytes.len(), p, v);
+    let h = head::head_in(bytes, v);
+    let r = head::count_refusal(bytes.len(), h.plan, v);
     let l = Lengths {
         outline1: o1.len(),
         outline2: o2.len(),
         slice_at: at.len(),
         slice: s.len(),
+        slice_edition: dates.len(),
     };
-    let r = head::room_refusal(r, p, l);
+    let r = head::room_refusal(r, h.plan, l);
     if r != 0 {
         return seen_refused(r);
     }
-    body::read_body(bytes, v, entry, p, o1, o2, at, s);
-    seen_given(p)
+    body::read_body(bytes, v, h.plan, o1, o2, at, s, dates);
+    seen_given(v.number, h)
 }
 
-// Reads a record of version 1 into the lent lists: x, y, bulge of each vertex; codes and shape of each slice.
-pub fn read(bytes: &[u8], o1: &mut [f64], o2: &mut [f64], at: &mut [usize], s: &mut [f64]) -> Seen
-    ensures { λ r. ⌜ ReadLeft form1 (now (bytes .entry)) (lists (now (o1 .entry)) (now (o2 .entry)) (now (at .entry)) (now (s .entry))) r (lists (now (o1 .exit)) (now (o2 .exit)) (now (at .exit)) (now (s .exit))) ⌝ }
+// Reads a record of the version that it names into the lent lists: x, y, bulge of each vertex; codes, shape and edition of each slice.
+pub fn read(
+    bytes: &[u8],
+    o1: &mut [f64],
+    o2: &mut [f64],
+    at: &mut [usize],
+    s: &mut [f64],
+    dates: &mut [u32],
+) -> Seen
+    ensures { λ r. ⌜ Read (now (bytes .entry)) (lists (now (o1 .entry)) (now (o2 .entry)) (now (at .entry)) (now (s .entry)) (now (dates .entry))) r (lists (now (o1 .exit)) (now (o2 .exit)) (now (at .exit)) (now (s .exit)) (now (dates .exit))) ⌝ }
 {
-    let v = form::version1();
-    let widths = form::head1();
-    let entry = form::slice1();
-    read_form(bytes, v, &widths, &entry, o1, o2, at, s)
+    let v = head::version_in(bytes);
+    read_form(bytes, v, o1, o2, at, s, dates)
 }

@@ -1,13 +1,14 @@
--- Theorems about a replay: its contract leaves one answer, its number is the first that applies, and with the program's own lists it never gives 9.
+-- Theorems about a replay, over both versions: its contract leaves one answer, its number is the first that applies, 14 is of version 2 alone, and with the program's own lists
+-- it never gives 9.
 use Prim.Native.Nat.{ℕ, zero, suc, _+_, _*_, _≤_, _<_}
-use mathlib.Core.Bool.{not, cond}
-use mathlib.Core.Path.{_≡_, refl, sym, ap, _∙_}
+use mathlib.Core.Bool.{Bool, true, false, not, cond, _&&_}
+use mathlib.Core.Path.{_≡_, refl, sym, ap, subst, _∙_}
 use mathlib.Core.List.{List, [], _∷_, _++_, append-assoc}
 use native.Mathlib.Omega.{arith}
-use borrow.Author.Tests.{ltb-true, ltb-false, lt-ltb, le-ltb, eqb-true, eqb-false, not-false}
-use lib.Dec.{ltb, eqb}
+use borrow.Author.Tests.{ltb-true, ltb-false, lt-ltb, le-ltb, eqb-true, eqb-false, ne-eqb, not-true, not-false}
+use lib.Dec.{T, ltb, eqb}
 use lib.ListN.{length}
-use Rattle.basis.specs.Choice.{by-test}
+use Rattle.basis.specs.Choice.{by-test, T-left, T-right, true-of}
 use Rattle.basis.specs.Sizes.{mostSlices}
 use Rattle.basis.specs.Refuse.{Row, row, firstOf, answer}
 use Rattle.basis.specs.RefuseLaws.{Clear, clear, clear-left, clear-right, none-clear, ok-length, one-answer, first-found, first-later, answer-no, answer-yes}
@@ -15,14 +16,18 @@ use Rattle.basis.specs.RefusalOrder.{refusalOrder, before, First}
 use Rattle.basis.specs.RefusalOrderLaws.{first-of}
 use Rattle.slice.specs.Slice.{codeWidth, shapeWidth, codesAt}
 use Rattle.slice.specs.SliceLaws.{offset-at}
+use Rattle.slice.specs.Editions.{Editions, editions, editionFault, editionListRows}
+use Rattle.slice.specs.EditionLaws.{one-edition}
 use Rattle.stitch_run.specs.Stitch.{Given, sumBelow, weightAt, needFor, needOf}
 use Rattle.stitch.specs.Lent.{Lists}
-use Rattle.stitch_entries.specs.StitchEntry.{listPart, codePart, numberPart, indexPart, shapeRows, roomPart, lengthsOf, stitchNumber}
-use Rattle.stitch_entries.specs.Matching.{Matched, baseRefusal, base-number, one-matched}
-use Rattle.fields.specs.Fields.{size}
-use Rattle.record.specs.Form.{form1, takenVertices, takenSlices}
-use Rattle.record.specs.Record.{planIn, headIn, stitchIn, frameRows, lengthIn, takenRows, countRows, roomRows, takenLengths, readRows}
+use Rattle.stitch_entries.specs.StitchEntry.{listPart, codePart, numberPart, indexPart, shapeRows, editionPart, roomPart, lengthsOf, stitchRefusal, stitchNumber}
+use Rattle.stitch_entries.specs.Matching.{Matched, oneEdition, one-matched, never-14}
+use Rattle.record.specs.declared.form.Version.{Version}
+use Rattle.record.specs.declared.head.Head.{Head}
+use Rattle.record.specs.Form.{formFor, takenVertices, takenSlices}
+use Rattle.record.specs.Record.{planIn, headIn, planHeld, listsHeld, editionsBy, numberIn, formIn, frameRows, lengthOf, takenRows, countRows, roomRows, takenLengths, readRows}
 use Rattle.record.specs.RecordLaws.{Long, read-long, counts-small}
+use Rattle.record_read.specs.ReadTheorems.{NoEditions, no-editions}
 use Rattle.record_replay.specs.declared.replay.ReplayAnswer.{ReplayAnswer}
 use Rattle.record_replay.specs.Replayed.{heldIn, datesIn, formNumber, replayNumber, ReplayLeft}
 
@@ -40,49 +45,50 @@ replay-one b l r s x y p q = (
 
 -- ---- the table of a replay, in the order of the numbers: the frame, the length by the counts, then the stitch's own rows and among them those of what the
 -- program takes
+abbrev pub listed : List ℕ → List Row
+listed b = editionListRows (length (datesIn b .slices)) (heldIn b .slices) ++ listPart (heldIn b)
+
 abbrev pub afterTaken : Given → List Row
 afterTaken g = codePart g ++ (numberPart g ++ indexPart g)
 
-abbrev pub stitchRows : Given → Lists → List Row
-stitchRows g x = afterTaken g ++ roomPart g (lengthsOf x)
+abbrev pub stitchRows : List ℕ → Lists → List Row
+stitchRows b x = afterTaken (heldIn b) ++ (editionPart (heldIn b) (datesIn b) ++ roomPart (heldIn b) (lengthsOf x))
 
 abbrev pub lengthRow : List ℕ → Row
-lengthRow b = row (not (eqb (length b) (lengthIn form1 (headIn form1 b)))) 13
+lengthRow b = row (not (eqb (length b) (lengthOf (formIn b) (planHeld (formIn b) b)))) 13
 
 abbrev pub replayRows : List ℕ → Lists → List Row
-replayRows b x = frameRows 1 (size (form1 .head)) (form1 .most) b ++ (lengthRow b ∷ (listPart (heldIn b) ++ (takenRows (planIn (heldIn b)) ++ stitchRows (heldIn b) x)))
+replayRows b x = frameRows (formIn b) b ++ (lengthRow b ∷ (listed b ++ (takenRows (planIn (heldIn b)) ++ stitchRows b x)))
 
 module _ (b : List ℕ) where
+  abbrev v : Version
+  v = formIn b
+
   abbrev g : Given
   g = heldIn b
 
   abbrev framed : List Row
-  framed = frameRows 1 (size (form1 .head)) (form1 .most) b
+  framed = frameRows v b
 
   abbrev counted : List Row
-  counted = countRows (length b) (lengthIn form1 (headIn form1 b)) (headIn form1 b)
+  counted = countRows (length b) (lengthOf v (planHeld v b)) (planHeld v b)
 
   abbrev lent : List Row
-  lent = roomRows (headIn form1 b) takenLengths
+  lent = roomRows (planHeld v b) takenLengths
 
   -- the lists that are read are as long as the counts say
-  long : Long g
-  long = read-long form1 b (omega arith)
+  long : Long (planHeld v b) (listsHeld v b)
+  long = read-long v b
 
-  -- edition 0 throughout matches: a replay never gives 14
-  dated : Matched g (datesIn b)
-  dated = one-matched g 0 (long .codes)
-
-  -- the plan is that of the head
-  same-plan : headIn form1 b ≡ planIn g
-  unfolding stitchIn
-  same-plan = refl
+  one : length (datesIn b .slices) ≡ 1 * g .slices
+  one = omega (arith, long .dates)
 
   -- so number 1 of the stitch is there only where the program's own is
-  lists-idle : (t : List Row) → firstOf (listPart g ++ (takenRows (planIn g) ++ t)) ≡ firstOf (takenRows (planIn g) ++ t)
+  lists-idle : (t : List Row) → firstOf (listed b ++ (takenRows (planIn g) ++ t)) ≡ firstOf (takenRows (planIn g) ++ t)
   unfolding firstOf
   lists-idle t =
       rw (
+        ok-length 1 (length (datesIn b .slices)) (g .slices) one,
         ok-length 3 (length (g .outline1)) (g .vc1) (long .first),
         ok-length 3 (length (g .outline2)) (g .vc2) (long .second),
         ok-length codeWidth (length (g .sliceAt)) (g .slices) (long .codes),
@@ -92,17 +98,35 @@ module _ (b : List ℕ) where
       (λ e. let n : mostSlices < g .slices = ltb-true mostSlices (g .slices) e in rw (e, lt-ltb takenSlices (g .slices) (omega arith)))
       (λ e. rw e))
 
+  lists-clear : g .slices ≤ takenSlices → Clear (listed b)
+  lists-clear few = (
+    ok-length 1 (length (datesIn b .slices)) (g .slices) one,
+    (
+      ok-length 3 (length (g .outline1)) (g .vc1) (long .first),
+      (
+        ok-length 3 (length (g .outline2)) (g .vc2) (long .second),
+        (
+          ok-length codeWidth (length (g .sliceAt)) (g .slices) (long .codes),
+          (ok-length shapeWidth (length (g .slice)) (g .slices) (long .shapes), (le-ltb mostSlices (g .slices) (omega arith), tt)),
+        ),
+      ),
+    ),
+  )
+
   -- where the program takes the record, its lists have room for it
   lent-clear : Clear counted → Clear lent
   lent-clear c =
-      let p = headIn form1 b in
+      let p = planHeld v b in
       let n : p .slices ≤ takenSlices = ltb-false takenSlices (p .slices) (c .1 .0) in
-      let v : p .vc1 ≤ takenVertices = ltb-false takenVertices (p .vc1) (c .1 .1 .0) in
-      let w : p .vc2 ≤ takenVertices = ltb-false takenVertices (p .vc2) (c .1 .1 .1 .0) in (
+      let v1 : p .vc1 ≤ takenVertices = ltb-false takenVertices (p .vc1) (c .1 .1 .0) in
+      let v2 : p .vc2 ≤ takenVertices = ltb-false takenVertices (p .vc2) (c .1 .1 .1 .0) in (
         le-ltb (3 * takenVertices) (3 * p .vc1) (omega arith),
         (
           le-ltb (3 * takenVertices) (3 * p .vc2) (omega arith),
-          (le-ltb (codeWidth * takenSlices) (codeWidth * p .slices) (omega arith), (le-ltb (shapeWidth * takenSlices) (shapeWidth * p .slices) (omega arith), tt)),
+          (
+            le-ltb (codeWidth * takenSlices) (codeWidth * p .slices) (omega arith),
+            (le-ltb (shapeWidth * takenSlices) (shapeWidth * p .slices) (omega arith), (le-ltb takenSlices (p .slices) n, tt)),
+          ),
         ),
       )
 
@@ -113,12 +137,12 @@ module _ (b : List ℕ) where
 
   module _ (x : Lists) where
     abbrev rest : List Row
-    rest = stitchRows g x
+    rest = stitchRows b x
 
     -- the table without the rows that are idle
-    idle : (s : List Row) → firstOf (s ++ (lengthRow b ∷ (listPart g ++ (takenRows (planIn g) ++ rest)))) ≡ firstOf (s ++ (counted ++ rest))
+    idle : (s : List Row) → firstOf (s ++ (lengthRow b ∷ (listed b ++ (takenRows (planIn g) ++ rest)))) ≡ firstOf (s ++ (counted ++ rest))
     unfolding firstOf
-    idle [] = rw (lists-idle rest, same-plan)
+    idle [] = ap (cond (not (eqb (length b) (lengthOf v (planHeld v b)))) 13) (lists-idle rest)
     idle (row c n ∷ s) = ap (cond c n) (idle s)
 
     table-number : firstOf (replayRows b x) ≡ firstOf ((framed ++ counted) ++ rest)
@@ -134,23 +158,13 @@ module _ (b : List ℕ) where
 
     -- they do not: the stitch's own rows decide
     stitch-number : Clear (framed ++ counted) → replayNumber b x ≡ firstOf (replayRows b x)
-    unfolding replayNumber baseRefusal
+    unfolding replayNumber stitchRefusal
     stitch-number c =
         let d : Clear counted = clear-right framed counted c in
-        let few : g .slices ≤ takenSlices = rw same-plan at (ltb-false takenSlices (headIn form1 b .slices) (d .1 .0)) in
+        let few : g .slices ≤ takenSlices = ltb-false takenSlices (g .slices) (d .1 .0) in
         let n : formNumber b ≡ 0 = read-number ∙ first-later (framed ++ counted) lent c ∙ none-clear lent (lent-clear d) in
-        let lists : Clear (listPart g) = (
-          ok-length 3 (length (g .outline1)) (g .vc1) (long .first),
-          (
-            ok-length 3 (length (g .outline2)) (g .vc2) (long .second),
-            (
-              ok-length codeWidth (length (g .sliceAt)) (g .slices) (long .codes),
-              (ok-length shapeWidth (length (g .slice)) (g .slices) (long .shapes), (le-ltb mostSlices (g .slices) (omega arith), tt)),
-            ),
-          ),
-        ) in
         sym (answer-yes (λ (k : ℕ). k) (formNumber b) (formNumber b) (stitchNumber g (datesIn b) x) (stitchNumber g (datesIn b) x) refl n refl)
-        ∙ base-number g (datesIn b) (lengthsOf x) dated ∙ first-later (listPart g) rest lists ∙ sym (first-later (framed ++ counted) rest c) ∙ sym table-number
+        ∙ first-later (listed b) rest (lists-clear few) ∙ sym (first-later (framed ++ counted) rest c) ∙ sym table-number
 
     replay-number : replayNumber b x ≡ firstOf (replayRows b x)
     replay-number =
@@ -161,6 +175,46 @@ module _ (b : List ℕ) where
 pub replay-first : (b : List ℕ) (x : Lists) → First (replayRows b x) (replayNumber b x)
 unfolding before refusalOrder
 replay-first b x = rw (replay-number b x) (first-of (replayRows b x) tt)
+
+-- an accepted replay is of the version that the bytes name
+pub accepted-version : (b : List ℕ) (x : Lists) → replayNumber b x ≡ 0 → formIn b .number ≡ numberIn b
+accepted-version b x z =
+    let ok = clear (replayRows b x) tt (sym (replay-number b x) ∙ z) in
+    sym (eqb-true (numberIn b) (formIn b .number) (not-false _ (ok .1 .0)))
+
+-- ---- number 14, of version 2 alone
+
+-- a table that has no row of a number does not give it
+abbrev lacks : ℕ → List Row → Bool
+lacks n [] = true
+lacks n (row b m ∷ t) = not (eqb m n) && lacks n t
+
+not-given : (n : ℕ) (t : List Row) → T (lacks n t) → (n ≡ 0 → ⊥) → firstOf t ≡ n → ⊥
+unfolding firstOf
+not-given n [] h some e = some (sym e)
+not-given n (row true m ∷ t) h some e = eqb-false m n (not-true (eqb m n) (true-of (not (eqb m n)) (T-left (not (eqb m n)) (lacks n t) h))) e
+not-given n (row false m ∷ t) h some e = not-given n t (T-right (not (eqb m n)) (lacks n t) h) some e
+
+-- the reader does not give it
+module _ (b : List ℕ) (other : numberIn b ≡ 2 → ⊥) where
+  undated : (formIn b .second ≡ 0) × (formIn b .edition ≡ 0)
+  unfolding formFor
+  undated = rw (ne-eqb (numberIn b) 2 other) (refl, refl)
+
+  -- K14: "a version 1 record reads as .. edition 0"
+  dated : Matched (heldIn b) (datesIn b)
+  dated =
+      let e : NoEditions (headIn (formIn b) b) (listsHeld (formIn b) b .sliceEdition) = no-editions (formIn b) (undated .0) (undated .1) b in
+      let d : datesIn b ≡ oneEdition 0 (heldIn b .slices) = rw (e .first, e .second, e .slices) in
+      subst (λ (y : Editions). Matched (heldIn b) y) (sym d) (one-matched (heldIn b) 0 (long b .codes))
+
+  pub only-version-2 : (x : Lists) → replayNumber b x ≡ 14 → ⊥
+  unfolding replayNumber answer readRows
+  only-version-2 x = go (formNumber b) refl
+    where
+      go : (n : ℕ) → formNumber b ≡ n → answer (λ (k : ℕ). k) n (stitchNumber (heldIn b) (datesIn b) x) ≡ 14 → ⊥
+      go zero e q = never-14 (heldIn b) (datesIn b) (lengthsOf x) dated q
+      go (suc n) e q = not-given 14 (readRows (formIn b) b takenLengths) tt (λ z. absurd (omega (arith, z))) (e ∙ q)
 
 -- ---- lists as long as the program's: three numbers for each vertex of the need of 28 slices of offset 64, and an entry for each of 28 slices
 abbrev pub mostVerticesRead : ℕ
@@ -183,71 +237,87 @@ unfolding needFor
 need-small f zero k h = omega arith
 need-small f (suc n) k h = omega (arith, sum-small f (suc n) h)
 
+-- 1 to 8, then 14
+abbrev pub judgedRows : List ℕ → List Row
+judgedRows b = shapeRows (heldIn b) ++ editionPart (heldIn b) (datesIn b)
+
 module _ (b : List ℕ) (z : formNumber b ≡ 0) where
   taken : Clear (takenRows (planIn (g b)))
-  unfolding readRows stitchIn
+  unfolding readRows
   taken = clear-left (counted b) (lent b) (clear-right (framed b) (counted b ++ lent b) (clear (framed b ++ (counted b ++ lent b)) tt z)) .1
 
   few : g b .slices ≤ takenSlices
   few = ltb-false takenSlices (g b .slices) (taken .0)
 
-  module _ (x : Lists) (roomy : ProgramLists x) where
+  module _ (x : Lists) where
     abbrev rooms : List Row
     rooms = roomPart (g b) (lengthsOf x)
 
-    module _ (ok : Clear (shapeRows (g b))) where
-      after : Clear (codePart (g b) ++ (numberPart (g b) ++ indexPart (g b)))
-      after = clear-right (listPart (g b)) (codePart (g b) ++ (numberPart (g b) ++ indexPart (g b))) ok
+    -- the number of the stitch, whose list of editions is as long as its count
+    judged-number : stitchNumber (g b) (datesIn b) x ≡ firstOf (judgedRows b ++ rooms)
+    unfolding stitchRefusal firstOf
+    judged-number = rw (ok-length 1 (length (datesIn b .slices)) (g b .slices) (one b))
 
-      indexed : Clear (indexPart (g b))
-      indexed = clear-right (numberPart (g b)) (indexPart (g b)) (clear-right (codePart (g b)) (numberPart (g b) ++ indexPart (g b)) after)
+    -- where 1 to 8 find nothing and a slice has another edition than its outline, it is 14
+    pub gives-14 : Clear (shapeRows (g b)) → editionFault (datesIn b) (g b .sliceAt) ≡ true → replayNumber b x ≡ 14
+    unfolding replayNumber firstOf
+    gives-14 ok t =
+        sym (answer-yes (λ (k : ℕ). k) (formNumber b) (formNumber b) (stitchNumber (g b) (datesIn b) x) (stitchNumber (g b) (datesIn b) x) refl z refl)
+        ∙ judged-number ∙ first-later (shapeRows (g b)) (editionPart (g b) (datesIn b) ++ rooms) ok ∙ rw t
 
-      weight-small : (i : ℕ) → i < g b .slices → weightAt (g b .sliceAt) i ≤ takenVertices + 1
-      unfolding weightAt
-      weight-small i h =
-          omega (
-            arith,
-            counts-small (planIn (g b)) taken (codesAt (g b .sliceAt) i .source),
-            offset-at (g b .sliceAt) (g b .slices) (long b .codes) (g b .vc1) (g b .vc2) (not-false _ (indexed .1 .0)) i h,
-          )
+    module _ (roomy : ProgramLists x) where
+      module _ (judged : Clear (judgedRows b)) where
+        ok : Clear (shapeRows (g b))
+        ok = clear-left (shapeRows (g b)) (editionPart (g b) (datesIn b)) judged
 
-      need : 3 * needOf (g b .sliceAt) (g b .slices) ≤ 3 * mostVerticesRead
-      unfolding needOf
-      need = need-small (weightAt (g b .sliceAt)) (g b .slices) few weight-small
+        after : Clear (codePart (g b) ++ (numberPart (g b) ++ indexPart (g b)))
+        after = clear-right (listPart (g b)) (codePart (g b) ++ (numberPart (g b) ++ indexPart (g b))) ok
 
-      rooms-clear : Clear rooms
-      rooms-clear = (
-        le-ltb (length (x .room)) (3 * needOf (g b .sliceAt) (g b .slices)) (omega (arith, need, roomy .room)),
-        (
-          le-ltb (length (x .ends)) (g b .slices) (omega (arith, few, roomy .ends)),
+        indexed : Clear (indexPart (g b))
+        indexed = clear-right (numberPart (g b)) (indexPart (g b)) (clear-right (codePart (g b)) (numberPart (g b) ++ indexPart (g b)) after)
+
+        weight-small : (i : ℕ) → i < g b .slices → weightAt (g b .sliceAt) i ≤ takenVertices + 1
+        unfolding weightAt
+        weight-small i h =
+            omega (
+              arith,
+              counts-small (planIn (g b)) taken (codesAt (g b .sliceAt) i .source),
+              offset-at (g b .sliceAt) (g b .slices) (long b .codes) (g b .vc1) (g b .vc2) (not-false _ (indexed .1 .0)) i h,
+            )
+
+        need : 3 * needOf (g b .sliceAt) (g b .slices) ≤ 3 * mostVerticesRead
+        unfolding needOf
+        need = need-small (weightAt (g b .sliceAt)) (g b .slices) few weight-small
+
+        rooms-clear : Clear rooms
+        rooms-clear = (
+          le-ltb (length (x .room)) (3 * needOf (g b .sliceAt) (g b .slices)) (omega (arith, need, roomy .room)),
           (
-            le-ltb (length (x .chain)) (g b .slices) (omega (arith, few, roomy .chain)),
+            le-ltb (length (x .ends)) (g b .slices) (omega (arith, few, roomy .ends)),
             (
-              le-ltb (length (x .chainEnds)) (g b .slices) (omega (arith, few, roomy .chainEnds)),
-              (le-ltb (length (x .chainHow)) (g b .slices) (omega (arith, few, roomy .chainHow)), tt),
+              le-ltb (length (x .chain)) (g b .slices) (omega (arith, few, roomy .chain)),
+              (
+                le-ltb (length (x .chainEnds)) (g b .slices) (omega (arith, few, roomy .chainEnds)),
+                (le-ltb (length (x .chainHow)) (g b .slices) (omega (arith, few, roomy .chainHow)), tt),
+              ),
             ),
           ),
-        ),
-      )
+        )
 
-      clear-number : stitchNumber (g b) (datesIn b) x ≡ firstOf (shapeRows (g b))
-      unfolding baseRefusal
-      clear-number = base-number (g b) (datesIn b) (lengthsOf x) (dated b) ∙ first-later (shapeRows (g b)) rooms ok ∙ none-clear rooms rooms-clear ∙ sym (none-clear (shapeRows (g b)) ok)
+        clear-number : stitchNumber (g b) (datesIn b) x ≡ firstOf (judgedRows b)
+        clear-number = judged-number ∙ first-later (judgedRows b) rooms judged ∙ none-clear rooms rooms-clear ∙ sym (none-clear (judgedRows b) judged)
 
-    -- then the stitch's number is one of 1 to 8, or none
-    shape-number : stitchNumber (g b) (datesIn b) x ≡ firstOf (shapeRows (g b))
-    shape-number =
-        by-test (eqb (firstOf (shapeRows (g b))) 0) (λ t. clear-number (clear (shapeRows (g b)) tt (eqb-true (firstOf (shapeRows (g b))) 0 t)))
-        (λ f. found (eqb-false (firstOf (shapeRows (g b))) 0 f))
-      where
-        found : (firstOf (shapeRows (g b)) ≡ 0 → ⊥) → stitchNumber (g b) (datesIn b) x ≡ firstOf (shapeRows (g b))
-        found h = base-number (g b) (datesIn b) (lengthsOf x) (dated b) ∙ unfold baseRefusal in first-found (shapeRows (g b)) rooms h
+      -- then the stitch's number is one of 1 to 8, or 14, or none
+      roomy-number : stitchNumber (g b) (datesIn b) x ≡ firstOf (judgedRows b)
+      roomy-number =
+          by-test (eqb (firstOf (judgedRows b)) 0) (λ t. clear-number (clear (judgedRows b) tt (eqb-true (firstOf (judgedRows b)) 0 t)))
+          (λ f. judged-number ∙ first-found (judgedRows b) rooms (eqb-false (firstOf (judgedRows b)) 0 f))
 
--- with the program's lists a replay's number is 11, 12, 13, 1 or 2 of the reader, or one of 1 to 8 of the stitch that the bytes hold
-pub never-9 : (b : List ℕ) (x : Lists) → ProgramLists x → replayNumber b x ≡ answer (λ (n : ℕ). n) (formNumber b) (firstOf (shapeRows (heldIn b)))
+-- with the program's lists a replay's number is 11, 12, 13, 1 or 2 of the reader, or one of 1 to 8, or 14, of the stitch that the bytes hold
+pub never-9 : (b : List ℕ) (x : Lists) → ProgramLists x → replayNumber b x ≡ answer (λ (n : ℕ). n) (formNumber b) (firstOf (judgedRows b))
 unfolding replayNumber
 never-9 b x roomy = go (formNumber b) refl
   where
-    go : (n : ℕ) → formNumber b ≡ n → answer (λ (k : ℕ). k) n (stitchNumber (heldIn b) (datesIn b) x) ≡ answer (λ (k : ℕ). k) n (firstOf (shapeRows (heldIn b)))
-    go zero e = unfold answer in shape-number b e x roomy
+    go : (n : ℕ) → formNumber b ≡ n → answer (λ (k : ℕ). k) n (stitchNumber (heldIn b) (datesIn b) x) ≡ answer (λ (k : ℕ). k) n (firstOf (judgedRows b))
+    go zero e = unfold answer in roomy-number b e x roomy
     go (suc n) e = unfold answer in refl

@@ -1,20 +1,22 @@
 ghost use mathlib.Core.Path.{_≡_};
 ghost use Rattle.stitch.specs.Lent.{lists};
 ghost use Rattle.stitch_entries.specs.StitchEntry.{StitchLeft};
-ghost use Rattle.record.specs.Record.{stitchBy, editionsIn};
+ghost use Rattle.record.specs.Record.{stitchBy, editionsBy};
 ghost use Rattle.record_replay.specs.Replayed.{replayRefused, replayOf, ReplayLeft};
 ghost use Rattle.record_replay.specs.Ready.{reading, fronts, Held};
 use record::form;
+use record::head::Head;
 use record_read::read;
 use slice::data::CODE_WIDTH;
 use slice::data::SHAPE_WIDTH;
 use stitch_entries::answer::StitchAnswer;
 use stitch_entries::stitching;
-use stitch_run::plan::Plan;
 
-// What a replay answers: the counts of its stitch, or its number and nothing.
+// What a replay answers: the version of its record and the counts of its stitch, or its number and nothing.
+#[repr(C)]
 pub struct ReplayAnswer {
     pub refusal: u32,
+    pub version: u32,
     pub slices: usize,
     pub rounds: usize,
     pub loops: usize,
@@ -26,6 +28,7 @@ fn replay_refused(number: u32) -> ReplayAnswer
 {
     ReplayAnswer {
         refusal: number,
+        version: 0,
         slices: 0,
         rounds: 0,
         loops: 0,
@@ -34,14 +37,15 @@ fn replay_refused(number: u32) -> ReplayAnswer
 }
 
 // What a replay says of what the stitch answered.
-fn replay_of(slices: usize, a: StitchAnswer) -> ReplayAnswer
-    ensures { λ r. ⌜ r ≡ replayOf slices a ⌝ }
+fn replay_of(version: u32, slices: usize, a: StitchAnswer) -> ReplayAnswer
+    ensures { λ r. ⌜ r ≡ replayOf version slices a ⌝ }
 {
     if a.refusal != 0 {
         return replay_refused(a.refusal);
     }
     ReplayAnswer {
         refusal: 0,
+        version,
         slices,
         rounds: a.rounds,
         loops: a.loops,
@@ -49,9 +53,9 @@ fn replay_of(slices: usize, a: StitchAnswer) -> ReplayAnswer
     }
 }
 
-// Stitches what was read to the front of the lists, in edition 0 throughout.
+// Stitches what was read to the front of the lists, in the editions of the record.
 fn stitch_held(
-    p: Plan,
+    h: Head,
     o1: &[f64],
     o2: &[f64],
     at: &[usize],
@@ -63,9 +67,10 @@ fn stitch_held(
     chain_ends: &mut [usize],
     chain_how: &mut [usize],
 ) -> StitchAnswer
-    requires { ⌜ Held p (reading (now o1) (now o2) (now at) (now s)) (now dates) ⌝ }
-    ensures { λ r. ⌜ StitchLeft (stitchBy (fronts p (reading (now (o1 .entry)) (now (o2 .entry)) (now (at .entry)) (now (s .entry)))) p) (editionsIn (p .slices)) (lists (now (room .entry)) (now (ends .entry)) (now (chain .entry)) (now («chain_ends» .entry)) (now («chain_how» .entry))) r (lists (now (room .exit)) (now (ends .exit)) (now (chain .exit)) (now («chain_ends» .exit)) (now («chain_how» .exit))) ⌝ }
+    requires { ⌜ Held (h .plan) (reading (now o1) (now o2) (now at) (now s) (now dates)) ⌝ }
+    ensures { λ r. ⌜ StitchLeft (stitchBy (fronts (h .plan) (reading (now (o1 .entry)) (now (o2 .entry)) (now (at .entry)) (now (s .entry)) (now (dates .entry)))) (h .plan)) (editionsBy (fronts (h .plan) (reading (now (o1 .entry)) (now (o2 .entry)) (now (at .entry)) (now (s .entry)) (now (dates .entry)))) h) (lists (now (room .entry)) (now (ends .entry)) (now (chain .entry)) (now («chain_ends» .entry)) (now («chain_how» .entry))) r (lists (now (room .exit)) (now (ends .exit)) (now (chain .exit)) (now («chain_ends» .exit)) (now («chain_how» .exit))) ⌝ }
 {
+    let p = h.plan;
     let n1 = 3 * p.vc1;
     let n2 = 3 * p.vc2;
     let n3 = CODE_WIDTH * p.slices;
@@ -73,9 +78,9 @@ fn stitch_held(
     let n5 = p.slices;
     stitching::stitched(
         &o1[0..n1],
-        0,
+        h.edition1,
         &o2[0..n2],
-        0,
+        h.edition2,
         &at[0..n3],
         &s[0..n4],
         &dates[0..n5],
@@ -103,14 +108,15 @@ pub fn replay(
     let mut o2 = [0.0f64; form::OUTLINE];
     let mut at = [0usize; form::CODES];
     let mut s = [0.0f64; form::SHAPES];
-    let seen = read::read(bytes, &mut o1, &mut o2, &mut at, &mut s);
+    let mut dates = [0u32; form::TAKEN_SLICES];
+    let seen = read::read(bytes, &mut o1, &mut o2, &mut at, &mut s, &mut dates);
     if seen.refusal != 0 {
         return replay_refused(seen.refusal);
     }
-    let p = seen.plan;
-    let dates = [0u32; form::TAKEN_SLICES];
+    let h = seen.head;
+    let version = seen.version as u32;
     let a = stitch_held(
-        p,
+        h,
         &o1,
         &o2,
         &at,
@@ -122,5 +128,5 @@ pub fn replay(
         chain_ends,
         chain_how,
     );
-    replay_of(p.slices, a)
+    replay_of(version, h.plan.slices, a)
 }

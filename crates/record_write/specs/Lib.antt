@@ -2,9 +2,3 @@ pub mod Writer
 pub mod Ready
 pub mod ValueLaws
 pub mod KeepLaws
-pub mod Columns
-pub mod Fits
-pub mod WriteRead
-pub mod ReadWrite
-pub mod OneAnswer
-pub mod First

@@ -1,4 +1,4 @@
-// The writer of the record `PBR`; and the proof that writing and reading undo each other.
+// The writer of the record `PBR`.
 pub mod pack;
 pub mod values;
 pub mod write;

@@ -1,16 +1,18 @@
 // A record's bytes, from the values of its fields.
 ghost use mathlib.Core.Path.{_≡_};
+ghost use mathlib.Core.List.{_++_};
 ghost use lib.ListN.{length};
 ghost use lib.Seq.{sets};
-ghost use Rattle.record.specs.Record.{packed};
+ghost use Rattle.fields.specs.Fields.{pack, rows};
+ghost use Rattle.record.specs.Form.{vertexShape};
 ghost use Rattle.record_write.specs.Ready.{PackFit};
 use fields::shape;
 use record::form;
-use record::form::Version;
 
-// Writes a record of one version from the front on. What is common to all versions is here.
+// Writes a record from the front on: a head of `start` bytes, the vertices, and slices of `stride` bytes each.
 pub fn pack_form(
-    v: Version,
+    start: usize,
+    stride: usize,
     widths: &[usize],
     head: &[usize],
     entry: &[usize],
@@ -19,11 +21,11 @@ pub fn pack_form(
     slices: usize,
     bytes: &mut [u8],
 )
-    requires { ⌜ PackFit v (now widths) (length (now head)) (now entry) (length (now values)) vertices slices (length (now bytes)) ⌝ }
-    ensures { λ _. ⌜ now (bytes .exit) ≡ sets (now (bytes .entry)) 0 (packed (now (widths .entry)) (now (head .entry)) (now (entry .entry)) (now (values .entry)) vertices slices) ⌝ }
+    requires { ⌜ PackFit start stride (now widths) (length (now head)) (now entry) (length (now values)) vertices slices (length (now bytes)) ⌝ }
+    ensures { λ _. ⌜ now (bytes .exit) ≡ sets (now (bytes .entry)) 0 (pack (now (widths .entry)) (now (head .entry)) ++ pack (rows vertices vertexShape ++ rows slices (now (entry .entry))) (now (values .entry))) ⌝ }
 {
     let vertex = form::VERTEX;
-    let p = v.bytes + vertices * form::VERTEX_BYTES;
+    let p = start + vertices * form::VERTEX_BYTES;
     let q = vertices * 3;
     shape::write_shape(head, 0, widths, bytes, 0);
     shape::write_rows(
@@ -33,7 +35,7 @@ pub fn pack_form(
         form::VERTEX_BYTES,
         vertices,
         bytes,
-        v.bytes,
+        start,
     );
-    shape::write_rows(values, q, entry, v.stride, slices, bytes, p);
+    shape::write_rows(values, q, entry, stride, slices, bytes, p);
 }

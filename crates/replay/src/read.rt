@@ -4,8 +4,8 @@ ghost use lib.ListN.{length};
 use crate::show;
 use record::form;
 
-// One byte more than a record has at most, so that a longer one is seen to be longer.
-const BYTES: usize = form::RECORD1_MOST + 1;
+// One byte more than a record of either version has at most, so that a longer one is seen to be longer.
+const BYTES: usize = form::RECORD2_MOST + 1;
 
 // How many bytes were read, and whether a read failed.
 struct Input {

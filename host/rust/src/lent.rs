@@ -10,8 +10,8 @@
 
 use crate::ffi;
 use crate::{
-    Candidates, Intersections, Mode, Named, Outline, Overlaps, Refusal, Selector, Slices, Source,
-    Splits, Starts, Tolerance, View,
+    Candidates, Intersections, Mode, Named, Outline, Overlaps, RecordVersion, Refusal, Selector,
+    Slices, Source, Splits, Starts, Tolerance, View,
 };
 
 /// Writes all vertices of a view, and gives their number, [`View::vertex_count`].
@@ -262,4 +262,91 @@ pub fn area_pass(areas: &[f64], setting: Named<'_>, kept: &mut [usize]) -> Resul
     let (entered, settings) = setting.settings.lists();
     let answer = ffi::area_pass(areas, areas.len(), entered, settings, setting.edition, kept);
     Refusal::check(answer.refusal, answer.count)
+}
+
+/// The need of [`record_write`] in bytes: the record's length.
+pub fn record_bytes_needed(
+    version: RecordVersion,
+    vertex_counts: [usize; 2],
+    slices: usize,
+) -> usize {
+    let (head, slice) = match version {
+        RecordVersion::One => (26, 54),
+        RecordVersion::Two => (42, 58),
+    };
+    let vertices = vertex_counts[0].saturating_add(vertex_counts[1]);
+    let body = vertices.saturating_mul(24);
+    slices
+        .saturating_mul(slice)
+        .saturating_add(body)
+        .saturating_add(head)
+}
+
+/// Writes the record of a stitch, and gives its length: [`Record::write`](crate::Record::write).
+pub fn record_write(
+    version: RecordVersion,
+    pline1: &Outline,
+    pline2: &Outline,
+    slices: &Slices,
+    selector: Selector,
+    tolerance: Tolerance,
+    bytes: &mut [u8],
+) -> Result<usize, Refusal> {
+    let answer = ffi::record_write(
+        version.number(),
+        pline1.numbers(),
+        pline1.vertex_count(),
+        pline1.edition(),
+        pline2.numbers(),
+        pline2.vertex_count(),
+        pline2.edition(),
+        slices.list.indexes(),
+        slices.list.numbers(),
+        slices.list.editions(),
+        slices.len(),
+        slices.starts.pline2,
+        slices.starts.pline1_overlapping,
+        slices.starts.pline2_overlapping,
+        selector.code(),
+        tolerance.x,
+        tolerance.y,
+        bytes,
+    );
+    Refusal::check(answer.refusal, answer.count)
+}
+
+/// What [`record_replay`] wrote.
+#[derive(Debug, Clone, Copy, PartialEq, Eq)]
+pub struct ReplayCounts {
+    /// The record's version.
+    pub version: RecordVersion,
+    /// How many slices it holds.
+    pub slices: usize,
+    /// What the stitch of them wrote.
+    pub stitched: StitchCounts,
+}
+
+/// Runs the stitch again that a record holds, whatever the bytes:
+/// [`Record::replay`](crate::Record::replay). Room for the most that a record needs is
+/// [`Record::MOST_ROOM`](crate::Record::MOST_ROOM) vertices and
+/// [`Record::MOST_SLICES`](crate::Record::MOST_SLICES) slices.
+pub fn record_replay(bytes: &[u8], room: StitchRoom<'_>) -> Result<ReplayCounts, Refusal> {
+    let answer = ffi::record_replay(
+        bytes,
+        room.room,
+        room.ends,
+        room.chain,
+        room.chain_ends,
+        room.chain_how,
+    );
+    Refusal::check(answer.refusal, answer)?;
+    Ok(ReplayCounts {
+        version: RecordVersion::of_number(answer.version),
+        slices: answer.slices,
+        stitched: StitchCounts {
+            rounds: answer.rounds,
+            loops: answer.loops,
+            chains: answer.chains,
+        },
+    })
 }

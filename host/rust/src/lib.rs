@@ -134,6 +134,12 @@
 //! [`Settings`] is a record of up to 16 settings, which is extended and never overwritten. A stitch
 //! and an area pass name the edition that they use ([`Settings::named`]).
 //!
+//! # Stitches archived and run again
+//!
+//! [`Record`] is the record `PBR`: the bytes of a stitch, with all that it takes. [`Record::write`]
+//! makes one of what a stitch is made of, and [`Record::replay`] runs it again. Both are proved, and
+//! so is that the one undoes the other.
+//!
 //! # Slices kept between runs
 //!
 //! [`Store`] keeps up to 896 slices for each of two parties, each with the edition of the outline
@@ -174,6 +180,7 @@ pub mod lent;
 mod list;
 mod masks;
 mod outline;
+mod record;
 mod refusal;
 mod settings;
 mod slices;
@@ -192,6 +199,7 @@ pub use host::{split_cuts, Host, StraightHost};
 pub use list::{Iter, List};
 pub use masks::{Combined, Masks};
 pub use outline::{Outline, Source, Tolerance};
+pub use record::{Record, RecordContents, RecordSlice, RecordVersion, Replay};
 pub use refusal::Refusal;
 pub use settings::{Named, Setting, Settings};
 pub use slices::{prune, Answered, Mode, Slice, Slices};

@@ -39,6 +39,12 @@ pub enum Refusal {
     Starts,
     /// 9: lent room is smaller than the need. Only the calls of [`lent`](crate::lent) can give it.
     Room,
+    /// 11: a record of a stitch has fewer than 5 bytes, or does not begin with its mark, `PBR`.
+    Mark,
+    /// 12: a version of the record of a stitch is unknown.
+    Version,
+    /// 13: a record of a stitch has another length than its counts say, or a length above the most.
+    Size,
     /// 14: a view, or a slice, is of another edition than the outline: the outline was changed after
     /// it was cut.
     Edition,
@@ -78,6 +84,9 @@ impl Refusal {
             7 => Refusal::Count,
             8 => Refusal::Starts,
             9 => Refusal::Room,
+            11 => Refusal::Mark,
+            12 => Refusal::Version,
+            13 => Refusal::Size,
             14 => Refusal::Edition,
             15 => Refusal::Backward,
             16 => Refusal::UnknownSetting,
@@ -116,6 +125,9 @@ impl Refusal {
                 "the starts of the classes fall back, or lie past the slices",
             ),
             Refusal::Room => (9, "lent room is smaller than the need"),
+            Refusal::Mark => (11, "a record does not begin with its mark, PBR"),
+            Refusal::Version => (12, "a version of the record is unknown"),
+            Refusal::Size => (13, "a record's length is not as its counts say"),
             Refusal::Edition => (14, "a slice is of another edition than its outline"),
             Refusal::Backward => (15, "an open outline's start index is above its end index"),
             Refusal::UnknownSetting => (16, "no setting was entered under the edition"),
@@ -157,15 +169,14 @@ mod tests {
         for number in 1..=40 {
             let refusal = Refusal::from_number(number).unwrap();
             assert_eq!(refusal.number(), number);
-            let known = number <= 9 || (14..=22).contains(&number);
+            let known = number <= 9 || (11..=22).contains(&number);
             assert_eq!(matches!(refusal, Refusal::Other(_)), !known);
         }
     }
 
     #[test]
     fn every_refusal_has_a_sentence_of_its_own() {
-        let mut sentences: Vec<String> = (1..=11)
-            .chain(14..=22)
+        let mut sentences: Vec<String> = (1..=22)
             .map(|number| Refusal::from_number(number).unwrap().to_string())
             .collect();
         assert_eq!(
@@ -173,12 +184,12 @@ mod tests {
             "refusal 9: lent room is smaller than the need"
         );
         assert_eq!(
-            sentences[10],
-            "refusal 11: a reason that this wrapper does not know"
+            sentences[9],
+            "refusal 10: a reason that this wrapper does not know"
         );
         sentences.sort();
         sentences.dedup();
-        assert_eq!(sentences.len(), 20);
+        assert_eq!(sentences.len(), 22);
     }
 
     #[test]

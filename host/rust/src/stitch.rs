@@ -1,7 +1,7 @@
 //! The stitch: slices into loops; and the area pass.
 
 use crate::ffi;
-use crate::lent::{self, StitchRoom};
+use crate::lent::{self, StitchCounts, StitchRoom};
 use crate::slices::MOST_SLICES;
 use crate::{Named, Outline, Refusal, Slice, Slices, Vertex};
 
@@ -107,6 +107,41 @@ impl Stitched {
     pub fn rounds(&self) -> usize {
         self.rounds
     }
+
+    /// Room for so many vertices and slices, all 0.
+    pub(crate) fn with_room(vertices: usize, slices: usize) -> Stitched {
+        Stitched {
+            vertices: vec![0.0; 3 * vertices],
+            ends: vec![0; slices],
+            chain: vec![0; slices],
+            chain_ends: vec![0; slices],
+            chain_how: vec![0; slices],
+            rounds: 0,
+        }
+    }
+
+    /// The lists, to be written.
+    pub(crate) fn room(&mut self) -> StitchRoom<'_> {
+        StitchRoom {
+            room: &mut self.vertices,
+            ends: &mut self.ends,
+            chain: &mut self.chain,
+            chain_ends: &mut self.chain_ends,
+            chain_how: &mut self.chain_how,
+        }
+    }
+
+    /// Keeps what was written.
+    pub(crate) fn keep(mut self, counts: StitchCounts) -> Stitched {
+        let last = |ends: &[usize]| ends.last().copied().unwrap_or(0);
+        self.ends.truncate(counts.loops);
+        self.vertices.truncate(3 * last(&self.ends));
+        self.chain_ends.truncate(counts.chains);
+        self.chain_how.truncate(counts.chains);
+        self.chain.truncate(last(&self.chain_ends));
+        self.rounds = counts.rounds;
+        self
+    }
 }
 
 /// Part number `index` of a list whose parts end where `ends` says.
@@ -129,32 +164,9 @@ pub fn stitch(
     selector: Selector,
     setting: Named<'_>,
 ) -> Result<Stitched, Refusal> {
-    let count = slices.len().min(MOST_SLICES);
-    let mut vertices = vec![0.0; 3 * room_for_vertices(slices)];
-    let mut ends = vec![0; count];
-    let mut chain = vec![0; count];
-    let mut chain_ends = vec![0; count];
-    let mut chain_how = vec![0; count];
-    let room = StitchRoom {
-        room: &mut vertices,
-        ends: &mut ends,
-        chain: &mut chain,
-        chain_ends: &mut chain_ends,
-        chain_how: &mut chain_how,
-    };
-    let counts = lent::stitch(pline1, pline2, slices, selector, setting, room)?;
-    ends.truncate(counts.loops);
-    vertices.truncate(3 * ends.last().copied().unwrap_or(0));
-    chain_ends.truncate(counts.chains);
-    chain_how.truncate(counts.chains);
-    Ok(Stitched {
-        vertices,
-        ends,
-        chain,
-        chain_ends,
-        chain_how,
-        rounds: counts.rounds,
-    })
+    let mut lists = Stitched::with_room(room_for_vertices(slices), slices.len().min(MOST_SLICES));
+    let counts = lent::stitch(pline1, pline2, slices, selector, setting, lists.room())?;
+    Ok(lists.keep(counts))
 }
 
 /// The need of a call that is not refused for its slices: their number or their offsets. Else

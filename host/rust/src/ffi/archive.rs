@@ -202,6 +202,18 @@ pub struct SettingAnswer {
     pub area_limit: f64,
 }
 
+/// `mask_replay_answer`
+#[repr(C)]
+#[derive(Debug, Clone, Copy, Default)]
+pub struct ReplayAnswer {
+    pub refusal: u32,
+    pub version: u32,
+    pub slices: usize,
+    pub rounds: usize,
+    pub loops: usize,
+    pub chains: usize,
+}
+
 /// `mask_handle_answer`
 #[repr(C)]
 #[derive(Debug, Clone, Copy, Default)]
@@ -230,8 +242,8 @@ pub use entries::*;
 mod entries {
     use super::{
         AreaAnswer, CountAnswer, DoneAnswer, EditionAnswer, HandleAnswer, Point, PruneAnswer,
-        ReopenAnswer, ReportAnswer, SettingAnswer, SpanAnswer, Split, StitchAnswer, UnmovedAnswer,
-        VerdictAnswer, Vertex, VertexAnswer, View, ViewAnswer, WindingAnswer,
+        ReopenAnswer, ReplayAnswer, ReportAnswer, SettingAnswer, SpanAnswer, Split, StitchAnswer,
+        UnmovedAnswer, VerdictAnswer, Vertex, VertexAnswer, View, ViewAnswer, WindingAnswer,
     };
 
     extern "C" {
@@ -534,6 +546,48 @@ mod entries {
             settings_len: usize,
             edition: usize,
         ) -> SettingAnswer;
+
+        pub fn mask_record_write(
+            version: u32,
+            outline1: *const f64,
+            outline1_len: usize,
+            vc1: usize,
+            edition1: u32,
+            outline2: *const f64,
+            outline2_len: usize,
+            vc2: usize,
+            edition2: u32,
+            slice_at: *const usize,
+            slice_at_len: usize,
+            slice: *const f64,
+            slice_len: usize,
+            slice_edition: *const u32,
+            slice_edition_len: usize,
+            slices: usize,
+            pline2: usize,
+            pline1_overlapping: usize,
+            pline2_overlapping: usize,
+            selector: u32,
+            tolerance_x: f64,
+            tolerance_y: f64,
+            bytes: *mut u8,
+            bytes_len: usize,
+        ) -> CountAnswer;
+
+        pub fn mask_record_replay(
+            bytes: *const u8,
+            bytes_len: usize,
+            room: *mut f64,
+            room_len: usize,
+            ends: *mut usize,
+            ends_len: usize,
+            chain: *mut usize,
+            chain_len: usize,
+            chain_ends: *mut usize,
+            chain_ends_len: usize,
+            chain_how: *mut usize,
+            chain_how_len: usize,
+        ) -> ReplayAnswer;
 
         pub fn mask_store_put(
             held: *mut usize,
@@ -1178,6 +1232,89 @@ mod entries {
                 settings.as_ptr(),
                 settings.len(),
                 edition,
+            )
+        }
+    }
+
+    #[inline]
+    #[allow(clippy::too_many_arguments)] // those of the header
+    pub fn record_write(
+        version: u32,
+        outline1: &[f64],
+        vc1: usize,
+        edition1: u32,
+        outline2: &[f64],
+        vc2: usize,
+        edition2: u32,
+        slice_at: &[usize],
+        slice: &[f64],
+        slice_edition: &[u32],
+        slices: usize,
+        pline2: usize,
+        pline1_overlapping: usize,
+        pline2_overlapping: usize,
+        selector: u32,
+        tolerance_x: f64,
+        tolerance_y: f64,
+        bytes: &mut [u8],
+    ) -> CountAnswer {
+        // SAFETY: each pointer and length are those of one slice; the one that is written is
+        // `&mut`, so nothing shares it.
+        unsafe {
+            mask_record_write(
+                version,
+                outline1.as_ptr(),
+                outline1.len(),
+                vc1,
+                edition1,
+                outline2.as_ptr(),
+                outline2.len(),
+                vc2,
+                edition2,
+                slice_at.as_ptr(),
+                slice_at.len(),
+                slice.as_ptr(),
+                slice.len(),
+                slice_edition.as_ptr(),
+                slice_edition.len(),
+                slices,
+                pline2,
+                pline1_overlapping,
+                pline2_overlapping,
+                selector,
+                tolerance_x,
+                tolerance_y,
+                bytes.as_mut_ptr(),
+                bytes.len(),
+            )
+        }
+    }
+
+    #[inline]
+    pub fn record_replay(
+        bytes: &[u8],
+        room: &mut [f64],
+        ends: &mut [usize],
+        chain: &mut [usize],
+        chain_ends: &mut [usize],
+        chain_how: &mut [usize],
+    ) -> ReplayAnswer {
+        // SAFETY: each pointer and length are those of one slice; the five that are written are
+        // `&mut`, so nothing shares them.
+        unsafe {
+            mask_record_replay(
+                bytes.as_ptr(),
+                bytes.len(),
+                room.as_mut_ptr(),
+                room.len(),
+                ends.as_mut_ptr(),
+                ends.len(),
+                chain.as_mut_ptr(),
+                chain.len(),
+                chain_ends.as_mut_ptr(),
+                chain_ends.len(),
+                chain_how.as_mut_ptr(),
+                chain_how.len(),
             )
         }
     }

@@ -3,13 +3,13 @@
 
 use super::{
     AreaAnswer, CountAnswer, DoneAnswer, EditionAnswer, HandleAnswer, PruneAnswer, ReopenAnswer,
-    ReportAnswer, SettingAnswer, SpanAnswer, StitchAnswer, UnmovedAnswer, VerdictAnswer,
-    VertexAnswer, View, ViewAnswer, WindingAnswer,
+    ReplayAnswer, ReportAnswer, SettingAnswer, SpanAnswer, StitchAnswer, UnmovedAnswer,
+    VerdictAnswer, VertexAnswer, View, ViewAnswer, WindingAnswer,
 };
 use crate::cuts::MOST_CUTS;
 use crate::slices::MOST_SLICES;
 use crate::stitch::MOST_VERTICES;
-use crate::{ChainEnd, Mode, Point, Refusal, Selector, Split, Starts, Vertex};
+use crate::{ChainEnd, Mode, Point, Record, Refusal, Selector, Split, Starts, Vertex};
 use std::mem::{align_of, size_of};
 
 const HEADER: &str = include_str!("../../../../include/mask.h");
@@ -104,6 +104,15 @@ fn version_and_sizes_are_those_of_the_header() {
     assert_eq!(defined("MASK_MOST_CUTS"), MOST_CUTS.to_string());
     assert_eq!(defined("MASK_MOST_SLICES"), MOST_SLICES.to_string());
     assert_eq!(defined("MASK_MOST_LOOPS"), MOST_SLICES.to_string());
+    let of_records = [
+        ("MASK_RECORD_MOST_VERTICES", Record::MOST_VERTICES),
+        ("MASK_RECORD_MOST_SLICES", Record::MOST_SLICES),
+        ("MASK_RECORD_MOST_BYTES", Record::MOST_BYTES),
+        ("MASK_RECORD_MOST_ROOM", Record::MOST_ROOM),
+    ];
+    for (name, here) in of_records {
+        assert_eq!(defined(name), here.to_string());
+    }
 }
 
 #[test]
@@ -183,6 +192,10 @@ fn structs_lie_as_in_the_header() {
             layout_here!(SettingAnswer: refusal, tolerance_x, tolerance_y, area_limit),
         ),
         (
+            "mask_replay_answer",
+            layout_here!(ReplayAnswer: refusal, version, slices, rounds, loops, chains),
+        ),
+        (
             "mask_handle_answer",
             layout_here!(HandleAnswer: refusal, handle),
         ),
@@ -202,6 +215,7 @@ fn sizes_that_were_reckoned_by_hand() {
     assert_eq!(size_of::<UnmovedAnswer>(), 16);
     assert_eq!(size_of::<PruneAnswer>(), 40);
     assert_eq!(size_of::<AreaAnswer>(), 24);
+    assert_eq!(size_of::<ReplayAnswer>(), 40);
 }
 
 /// A function: its name, its parameters (name and type), its answer's type.
@@ -278,7 +292,7 @@ fn bound() -> Vec<Function> {
 fn functions_are_declared_in_the_header() {
     let declared = declared();
     let bound = bound();
-    assert_eq!(bound.len(), 25);
+    assert_eq!(bound.len(), 27);
     for here in bound {
         let there = declared.iter().find(|there| there.0 == here.0);
         assert_eq!(there, Some(&here));
@@ -321,7 +335,7 @@ fn assert_codes(name: &str, prefix: &str, here: impl IntoIterator<Item = (String
 #[test]
 fn codes_are_those_of_the_header() {
     let refusals = (1..=9)
-        .chain(14..=22)
+        .chain(11..=22)
         .map(|n| (header_name(Refusal::from_number(n).unwrap()), n));
     assert_codes("mask_refusal", "MASK_REFUSED_", refusals);
     let modes = Mode::ALL.map(|mode| (header_name(mode), mode.code()));

@@ -5,8 +5,8 @@
 
 use super::{
     AreaAnswer, CountAnswer, DoneAnswer, EditionAnswer, HandleAnswer, PruneAnswer, ReopenAnswer,
-    ReportAnswer, SettingAnswer, SpanAnswer, StitchAnswer, UnmovedAnswer, VerdictAnswer,
-    VertexAnswer, View, ViewAnswer, WindingAnswer,
+    ReplayAnswer, ReportAnswer, SettingAnswer, SpanAnswer, StitchAnswer, UnmovedAnswer,
+    VerdictAnswer, VertexAnswer, View, ViewAnswer, WindingAnswer,
 };
 use crate::{Point, Split, Vertex};
 use std::cell::RefCell;
@@ -55,6 +55,7 @@ pub(crate) struct Reply {
     counts: Vec<Vec<usize>>,
     numbers: Vec<Vec<f64>>,
     editions: Vec<u32>,
+    bytes: Vec<u8>,
 }
 
 impl Reply {
@@ -74,6 +75,7 @@ impl Reply {
             counts,
             numbers,
             editions: vec![],
+            bytes: vec![],
         }
     }
 
@@ -81,6 +83,14 @@ impl Reply {
     pub fn with_editions(self, editions: &[u32]) -> Reply {
         Reply {
             editions: editions.to_vec(),
+            ..self
+        }
+    }
+
+    /// The same, which writes the front of the lent bytes too.
+    pub fn with_bytes(self, bytes: &[u8]) -> Reply {
+        Reply {
+            bytes: bytes.to_vec(),
             ..self
         }
     }
@@ -115,10 +125,7 @@ fn play_all(
     numbers: &mut [&mut [f64]],
     editions: &mut [u32],
 ) -> Answer {
-    let entry = call.entry;
-    CALLS.with(|all| all.borrow_mut().push(call));
-    let reply = REPLIES.with(|all| all.borrow_mut().pop_front());
-    let reply = reply.unwrap_or_else(|| panic!("no reply was told for {entry}"));
+    let reply = next_reply(call);
     for (list, front) in counts.iter_mut().zip(reply.counts) {
         list[..front.len()].copy_from_slice(&front);
     }
@@ -127,6 +134,21 @@ fn play_all(
     }
     editions[..reply.editions.len()].copy_from_slice(&reply.editions);
     reply.answer
+}
+
+/// The same of an entry that writes bytes alone.
+fn play_bytes(call: Call, bytes: &mut [u8]) -> Answer {
+    let reply = next_reply(call);
+    bytes[..reply.bytes.len()].copy_from_slice(&reply.bytes);
+    reply.answer
+}
+
+/// Writes the call down and gives what was told for it.
+fn next_reply(call: Call) -> Reply {
+    let entry = call.entry;
+    CALLS.with(|all| all.borrow_mut().push(call));
+    let reply = REPLIES.with(|all| all.borrow_mut().pop_front());
+    reply.unwrap_or_else(|| panic!("no reply was told for {entry}"))
 }
 
 macro_rules! answers {
@@ -162,6 +184,7 @@ answers!(
     Count CountAnswer,
     Prune PruneAnswer,
     Stitch StitchAnswer,
+    Replay ReplayAnswer,
     Winding WindingAnswer,
     Area AreaAnswer,
     Report ReportAnswer,
@@ -215,11 +238,11 @@ macro_rules! call {
 #[allow(clippy::too_many_arguments)] // those of the header
 #[rustfmt::skip] // one parameter list a paragraph, as the interface has them
 pub(crate) mod entries {
-    use super::{play, play_all, Call, Lent};
+    use super::{play, play_all, play_bytes, Call, Lent};
     use super::{CountAnswer, PruneAnswer, StitchAnswer, VerdictAnswer, VertexAnswer, ViewAnswer};
     use super::{AreaAnswer, Point, ReportAnswer, SpanAnswer, Split, Vertex, View, WindingAnswer};
     use super::{DoneAnswer, EditionAnswer, HandleAnswer, SettingAnswer};
-    use super::{ReopenAnswer, UnmovedAnswer};
+    use super::{ReopenAnswer, ReplayAnswer, UnmovedAnswer};
 
     pub(crate) fn view_vertex(outline: &[f64], vc: usize, view: View, index: usize) -> VertexAnswer {
         play(call!(view_vertex: outline, vc, view, index;), &mut [], &mut []).into()
@@ -384,6 +407,26 @@ pub(crate) mod entries {
         entered: &[usize], settings: &[f64], edition: usize,
     ) -> SettingAnswer {
         play(call!(settings_ask: entered, settings, edition;), &mut [], &mut []).into()
+    }
+
+    pub(crate) fn record_write(
+        version: u32, outline1: &[f64], vc1: usize, edition1: u32, outline2: &[f64], vc2: usize,
+        edition2: u32, slice_at: &[usize], slice: &[f64], slice_edition: &[u32], slices: usize,
+        pline2: usize, pline1_overlapping: usize, pline2_overlapping: usize,
+        selector: u32, tolerance_x: f64, tolerance_y: f64, bytes: &mut [u8],
+    ) -> CountAnswer {
+        let call = call!(record_write: version, outline1, vc1, edition1, outline2, vc2, edition2,
+            slice_at, slice, slice_edition, slices, pline2, pline1_overlapping, pline2_overlapping,
+            selector, tolerance_x, tolerance_y; bytes);
+        play_bytes(call, bytes).into()
+    }
+
+    pub(crate) fn record_replay(
+        bytes: &[u8], room: &mut [f64], ends: &mut [usize], chain: &mut [usize],
+        chain_ends: &mut [usize], chain_how: &mut [usize],
+    ) -> ReplayAnswer {
+        let call = call!(record_replay: bytes; room, ends, chain, chain_ends, chain_how);
+        play(call, &mut [ends, chain, chain_ends, chain_how], &mut [room]).into()
     }
 
     pub(crate) fn store_put(

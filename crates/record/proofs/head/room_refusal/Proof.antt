@@ -19,6 +19,9 @@ or-else-requires-2 c κs = search needs
 room-refusal-requires : tie.Need-room-refusal-requires
 room-refusal-requires c κs = search needs
 
+room-refusal-requires-2 : tie.Need-room-refusal-requires-2
+room-refusal-requires-2 c κs = search needs
+
 returns : tie.Need-returns
 returns c = search (then-slices, rows) depth 24
 
@@ -31,4 +34,5 @@ room-refusal-spec =
     mul-or-else-2
     or-else-requires-2
     room-refusal-requires
+    room-refusal-requires-2
     returns)

@@ -1,5 +1,6 @@
 use borrow.Author.Needs.{needs}
-use Rattle.record.specs.Record.{outline1From, outline2From, codesFrom, shapesFrom}
+use native.Mathlib.Omega.{arith}
+use Rattle.record.specs.Record.{outline1From, outline2From, codesFrom, shapesFrom, datesFrom}
 use Rattle.record_read.proofs.body.fill_lists.Statement.{statement}
 use Rattle.record_read.proofs.body.fill_lists.Tie as tie
 
@@ -22,7 +23,14 @@ gather-codes-requires : tie.Need-gather-codes-requires
 gather-codes-requires c κs = search needs
 
 gather-numbers-requires : tie.Need-gather-numbers-requires
-gather-numbers-requires c κs = search needs
+gather-numbers-requires c κs =
+    let e = c .before .before .before .before .before .before .before .before .before .before .before .before .before .before .before .before .before .before .before .before .before .pre in
+    record { part = omega arith; inside = omega (arith, e .whole); target = omega (arith, e .roomy .shapes) }
+
+gather-editions-requires : tie.Need-gather-editions-requires
+gather-editions-requires c κs =
+    let e = c .before .before .before .before .before .before .before .before .before .before .before .before .before .before .before .before .before .before .before .before .before .before .before .before .before .pre in
+    record { rows = record { part = omega arith; inside = omega (arith, e .whole); target = omega (arith, e .roomy .dates) }; short = e .short }
 
 same-length : tie.Need-same-length
 same-length c = search needs
@@ -36,8 +44,11 @@ same-length-3 c = search needs
 same-length-4 : tie.Need-same-length-4
 same-length-4 c = search needs
 
+same-length-5 : tie.Need-same-length-5
+same-length-5 c = search needs
+
 returns : tie.Need-returns
-unfolding outline1From outline2From codesFrom shapesFrom
+unfolding outline1From outline2From codesFrom shapesFrom datesFrom
 returns c = search needs
 
 pub fill-lists-spec : {M : Type 1} → statement M
@@ -51,8 +62,10 @@ fill-lists-spec =
     copy-numbers-requires-2
     gather-codes-requires
     gather-numbers-requires
+    gather-editions-requires
     same-length
     same-length-2
     same-length-3
     same-length-4
+    same-length-5
     returns)

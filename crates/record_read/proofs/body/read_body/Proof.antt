@@ -1,7 +1,6 @@
 use borrow.Author.Needs.{needs}
 use native.Mathlib.Omega.{arith}
 use mathlib.Core.Path.{refl}
-use Rattle.record_read.proofs.Reading.{entries-few, values-fit, values-within}
 use Rattle.record_read.proofs.Reading.{lists-fit, lists-filled}
 use Rattle.record_read.proofs.body.read_body.Statement.{statement}
 use Rattle.record_read.proofs.body.read_body.Tie as tie
@@ -16,12 +15,10 @@ add-n : tie.Need-add-n
 add-n c = search needs
 
 mul-n-3 : tie.Need-mul-n-3
-mul-n-3 c =
-    let entry = c .before .before .before .before .before .before .before .before .before in
-    omega (arith, entries-few (entry .pre .all))
+mul-n-3 c = search needs
 
 add-n-2 : tie.Need-add-n-2
-add-n-2 c = search (needs, values-fit)
+add-n-2 c = search needs
 
 slice-aggregate-list-values : tie.Need-slice-aggregate-list-values
 slice-aggregate-list-values c = search needs
@@ -36,17 +33,14 @@ part-fill-lists-start : tie.Need-part-fill-lists-start
 part-fill-lists-start c = search needs
 
 part-fill-lists-end : tie.Need-part-fill-lists-end
-part-fill-lists-end c =
-    let lent = c .before .before .before .before .before .before in
-    let entry = lent .before .before .before .before .before .before .before in
-    omega (arith, values-within (entry .pre .all))
+part-fill-lists-end c = search needs
 
 fill-lists-requires : tie.Need-fill-lists-requires
 fill-lists-requires c κs =
-    let listed = c .before .before .before .before .before .before .before in
-    let lent = listed .before .before .before .before .before in
-    let entry = lent .before .before .before .before .before .before in
-    lists-fit (entry .pre) _ _ _ refl (listed .list-values .ensures)
+    let listed = c .before .before .before .before .before .before .before .before in
+    let known = listed .before .before .before .before .before .before .before .before .before .before in
+    let entry = known .before in
+    lists-fit (entry .pre) _ _ _ refl (listed .list-values .ensures) (λ i. omega (arith, known .shared-slice-known .given i))
 
 same-length : tie.Need-same-length
 same-length c = search needs
@@ -60,8 +54,15 @@ same-length-3 c = search needs
 same-length-4 : tie.Need-same-length-4
 same-length-4 c = search needs
 
+same-length-5 : tie.Need-same-length-5
+same-length-5 c = search needs
+
 returns : tie.Need-returns
-returns c = search (needs, lists-filled)
+returns c =
+    let filled = c .before .before .before .before .before .before .before .before .before .before in
+    let listed = filled .before .before .before .before .before .before .before .before .before in
+    let entry = listed .before .before .before .before .before .before .before .before .before .before .before in
+    lists-filled (entry .pre) _ _ _ refl (listed .list-values .ensures) (filled .fill-lists .ensures)
 
 pub read-body-spec : {M : Type 1} → statement M
 read-body-spec =
@@ -82,4 +83,5 @@ read-body-spec =
     same-length-2
     same-length-3
     same-length-4
+    same-length-5
     returns)

@@ -1,5 +1,5 @@
 use borrow.Author.Needs.{needs}
-use Rattle.record_read.proofs.Reading.{frame-fault, head-there, same-head, whole-fault, body-fit, read-refused, read-filled}
+use Rattle.record_read.proofs.Reading.{frame-fault, head-there, whole-fault, body-fit, read-refused, read-filled}
 use Rattle.record_read.proofs.read.read_form.Statement.{statement}
 use Rattle.record_read.proofs.read.read_form.Tie as tie
 
@@ -14,14 +14,14 @@ returns c =
     let refused = c in
     let test = refused .before in
     let framed = test .before in
-    let entry = framed .before .before .before .before .before .before .before .before in
+    let entry = framed .before .before .before .before .before .before .before in
     read-refused _ (frame-fault (entry .pre) _ (framed .frame-refusal .ensures) _ (test .if1 .taken)) (test .if1 .taken) (refused .seen-refused .ensures)
 
-plan-in-requires : tie.Need-plan-in-requires
-plan-in-requires c κs =
+head-in-requires : tie.Need-head-in-requires
+head-in-requires c κs =
     let test = c in
     let framed = test .before in
-    let entry = framed .before .before .before .before .before .before .before .before in
+    let entry = framed .before .before .before .before .before .before .before in
     head-there (entry .pre) _ (framed .frame-refusal .ensures) (test .if1 .left)
 
 count-refusal-requires : tie.Need-count-refusal-requires
@@ -42,19 +42,19 @@ returns-2 c =
     let read = counted .before in
     let test = read .before in
     let framed = test .before in
-    let entry = framed .before .before .before .before .before .before .before .before in
-    read-refused _ (whole-fault (entry .pre) _ (framed .frame-refusal .ensures) (test .if1 .left) (read .plan-in .ensures) (counted .count-refusal .ensures) _ (room .room-refusal .ensures)) (second .if2 .taken) (refused .seen-refused2 .ensures)
+    let entry = framed .before .before .before .before .before .before .before in
+    read-refused _ (whole-fault (entry .pre) _ (framed .frame-refusal .ensures) (test .if1 .left) (read .head-in .ensures) (counted .count-refusal .ensures) _ (room .room-refusal .ensures)) (second .if2 .taken) (refused .seen-refused2 .ensures)
 
 read-body-requires : tie.Need-read-body-requires
 read-body-requires c κs =
-    let second = c .before .before .before .before in
+    let second = c .before .before .before .before .before in
     let room = second .before in
     let counted = room .before in
     let read = counted .before in
     let test = read .before in
     let framed = test .before in
-    let entry = framed .before .before .before .before .before .before .before .before in
-    body-fit (entry .pre) _ (framed .frame-refusal .ensures) (test .if1 .left) (read .plan-in .ensures) (counted .count-refusal .ensures) _ (room .room-refusal .ensures) (second .if2 .left)
+    let entry = framed .before .before .before .before .before .before .before in
+    body-fit (entry .pre) _ (framed .frame-refusal .ensures) (test .if1 .left) (read .head-in .ensures) (counted .count-refusal .ensures) _ (room .room-refusal .ensures) (second .if2 .left)
 
 seen-given-requires : tie.Need-seen-given-requires
 seen-given-requires c κs = search needs
@@ -71,18 +71,21 @@ same-length-3 c = search needs
 same-length-4 : tie.Need-same-length-4
 same-length-4 c = search needs
 
+same-length-5 : tie.Need-same-length-5
+same-length-5 c = search needs
+
 returns-3 : tie.Need-returns-3
 returns-3 c =
     let given = c in
-    let filled = given .before .before .before .before .before .before .before .before .before in
-    let second = filled .before .before .before .before .before in
+    let filled = c .before .before .before .before .before .before .before .before .before .before .before in
+    let second = filled .before .before .before .before .before .before in
     let room = second .before in
     let counted = room .before in
     let read = counted .before in
     let test = read .before in
     let framed = test .before in
-    let entry = framed .before .before .before .before .before .before .before .before in
-    read-filled _ _ (entry .pre) (body-fit (entry .pre) _ (framed .frame-refusal .ensures) (test .if1 .left) (read .plan-in .ensures) (counted .count-refusal .ensures) _ (room .room-refusal .ensures) (second .if2 .left)) (filled .read-body .ensures) (same-head (entry .pre) _ (framed .frame-refusal .ensures) (test .if1 .left) (read .plan-in .ensures) (counted .count-refusal .ensures) _ (room .room-refusal .ensures)) (whole-fault (entry .pre) _ (framed .frame-refusal .ensures) (test .if1 .left) (read .plan-in .ensures) (counted .count-refusal .ensures) _ (room .room-refusal .ensures)) (second .if2 .left) (given .seen-given .ensures)
+    let entry = framed .before .before .before .before .before .before .before in
+    read-filled _ _ (whole-fault (entry .pre) _ (framed .frame-refusal .ensures) (test .if1 .left) (read .head-in .ensures) (counted .count-refusal .ensures) _ (room .room-refusal .ensures)) (second .if2 .left) (read .head-in .ensures) (body-fit (entry .pre) _ (framed .frame-refusal .ensures) (test .if1 .left) (read .head-in .ensures) (counted .count-refusal .ensures) _ (room .room-refusal .ensures) (second .if2 .left)) (filled .read-body .ensures) (given .seen-given .ensures)
 
 pub read-form-spec : {M : Type 1} → statement M
 read-form-spec =
@@ -91,7 +94,7 @@ read-form-spec =
     frame-refusal-requires
     seen-refused-requires
     returns
-    plan-in-requires
+    head-in-requires
     count-refusal-requires
     room-refusal-requires
     seen-refused-requires-2
@@ -102,4 +105,5 @@ read-form-spec =
     same-length-2
     same-length-3
     same-length-4
+    same-length-5
     returns-3)

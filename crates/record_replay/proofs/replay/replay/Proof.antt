@@ -1,6 +1,7 @@
 use borrow.Author.Needs.{needs}
+use native.Mathlib.Omega.{arith}
 use mathlib.Core.Path.{refl}
-use Rattle.record_replay.specs.ReplayLaws.{seen-form, held-fits, replay-refused, replay-stitched}
+use Rattle.record_replay.specs.ReplayLaws.{seen-form, version-fits, held-fits, replay-refused, replay-stitched}
 use Rattle.record_replay.proofs.replay.replay.Statement.{statement}
 use Rattle.record_replay.proofs.replay.replay.Tie as tie
 
@@ -16,6 +17,9 @@ slice-aggregate-read-3 c = search needs
 slice-aggregate-read-4 : tie.Need-slice-aggregate-read-4
 slice-aggregate-read-4 c = search needs
 
+slice-aggregate-read-5 : tie.Need-slice-aggregate-read-5
+slice-aggregate-read-5 c = search needs
+
 read-requires : tie.Need-read-requires
 read-requires c κs = search needs
 
@@ -26,8 +30,14 @@ returns : tie.Need-returns
 returns c =
     let refused = c in
     let test = refused .before in
-    let seen = test .before .before .before .before .before .before in
+    let seen = test .before .before .before .before .before .before .before in
     replay-refused _ _ _ _ (seen-form _ _ _ _ (seen .read .ensures) refl) (test .if1 .taken) (refused .replay-refused .ensures)
+
+cast-version : tie.Need-cast-version
+cast-version c =
+    let test = c .before .before in
+    let seen = test .before .before .before .before .before .before .before in
+    omega (arith, version-fits _ _ _ _ (seen .read .ensures) refl (test .if1 .left))
 
 slice-aggregate-stitch-held : tie.Need-slice-aggregate-stitch-held
 slice-aggregate-stitch-held c = search needs
@@ -46,9 +56,8 @@ slice-aggregate-stitch-held-5 c = search needs
 
 stitch-held-requires : tie.Need-stitch-held-requires
 stitch-held-requires c κs =
-    let lent = c .before .before .before .before .before in
-    let test = lent .before .before .before .before .before .before in
-    let seen = test .before .before .before .before .before .before in
+    let test = c .before .before .before .before .before .before .before .before .before .before .before .before in
+    let seen = test .before .before .before .before .before .before .before in
     held-fits _ _ _ _ (seen .read .ensures) refl (test .if1 .left)
 
 replay-of-requires : tie.Need-replay-of-requires
@@ -72,11 +81,9 @@ same-length-5 c = search needs
 returns-2 : tie.Need-returns-2
 returns-2 c =
     let told = c in
-    let lent = told .before .before .before .before .before in
-    let stitched = lent .before .before .before .before .before .before in
-    let lent2 = stitched .before .before .before .before .before in
-    let test = lent2 .before .before .before .before .before .before .before in
-    let seen = test .before .before .before .before .before .before in
+    let stitched = c .before .before .before .before .before .before .before .before .before .before .before in
+    let test = stitched .before .before .before .before .before .before .before .before .before .before .before .before .before in
+    let seen = test .before .before .before .before .before .before .before in
     replay-stitched _ _ _ _ (seen .read .ensures) refl (test .if1 .left) _ _ _ _ (stitched .stitch-held .ensures) (told .replay-of .ensures)
 
 pub replay-spec : {M : Type 1} → statement M
@@ -87,9 +94,11 @@ replay-spec =
     slice-aggregate-read-2
     slice-aggregate-read-3
     slice-aggregate-read-4
+    slice-aggregate-read-5
     read-requires
     replay-refused-requires
     returns
+    cast-version
     slice-aggregate-stitch-held
     slice-aggregate-stitch-held-2
     slice-aggregate-stitch-held-3

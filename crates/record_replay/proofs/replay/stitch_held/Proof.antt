@@ -11,12 +11,13 @@ mul-n2 : tie.Need-mul-n2
 mul-n2 c = search needs
 
 mul-n3 : tie.Need-mul-n3
-mul-n3 c = search needs
+mul-n3 c =
+    let entry = c .before .before .before .before .before .before .before .before .before .before .before .before .before .before in
+    omega (arith, entry .pre .codes, entry .good)
 
 mul-n4 : tie.Need-mul-n4
 mul-n4 c =
-    let lent = c .before .before .before .before .before .before in
-    let entry = lent .before .before .before .before .before .before .before .before in
+    let entry = c .before .before .before .before .before .before .before .before .before .before .before .before .before .before .before in
     omega (arith, entry .pre .shapes, entry .good)
 
 sub-stitched : tie.Need-sub-stitched
@@ -53,10 +54,7 @@ part-stitched-start-4 : tie.Need-part-stitched-start-4
 part-stitched-start-4 c = search needs
 
 part-stitched-end-4 : tie.Need-part-stitched-end-4
-part-stitched-end-4 c =
-    let lent = c .before .before in
-    let entry = lent .before .before .before .before .before .before .before .before .before .before .before .before .before .before .before in
-    omega (arith, entry .pre .shapes)
+part-stitched-end-4 c = search needs
 
 sub-stitched-5 : tie.Need-sub-stitched-5
 sub-stitched-5 c = search needs
@@ -88,9 +86,7 @@ same-length-5 c = search needs
 returns : tie.Need-returns
 returns c =
     let stitched = c .before .before .before .before .before .before .before .before .before .before in
-    let lent = stitched .before .before .before .before .before .before .before .before .before .before in
-    let entry = lent .before .before .before .before .before .before .before .before .before .before .before .before .before .before .before in
-    fronts-of _ _ _ (entry .pre .none) _ _ _ (stitched .stitched .ensures)
+    fronts-of _ _ _ _ _ (stitched .stitched .ensures)
 
 pub stitch-held-spec : {M : Type 1} → statement M
 stitch-held-spec =

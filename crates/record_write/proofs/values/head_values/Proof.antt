@@ -3,23 +3,34 @@ use Prim.Native.Nat.{ℕ}
 use mathlib.Core.Path.{_≡_}
 use mathlib.Core.List.{[], _∷_}
 use Rattle.fields.specs.Fields.{bitsOf}
-use Rattle.stitch_run.specs.declared.plan.Plan.{Plan}
-use Rattle.record.specs.Record.{headOf}
+use Rattle.record.specs.declared.head.Head.{Head}
+use Rattle.record.specs.Record.{headValues}
 use Rattle.record_write.proofs.values.head_values.Statement.{statement}
 use Rattle.record_write.proofs.values.head_values.Tie as tie
 
-told : (p : Plan) (b : ℕ) → b ≡ bitsOf (p .tolerance .x)
-    → (80 ∷ 66 ∷ 82 ∷ 1 ∷ p .vc1 ∷ p .vc2 ∷ p .selector ∷ b ∷ p .starts .pline2 ∷ p .starts .«pline1_overlapping» ∷ p .starts .«pline2_overlapping» ∷ p .slices ∷ []) ≡ headOf 1 p
-told p b e = rw e
+told : (n : ℕ) (h : Head) (x y : ℕ) → x ≡ bitsOf (h .plan .tolerance .x) → y ≡ bitsOf (h .plan .tolerance .y)
+    → (80 ∷ 66 ∷ 82 ∷ n ∷ h .plan .vc1 ∷ h .plan .vc2 ∷ h .plan .selector ∷ x ∷ y
+    ∷ h .edition1 ∷ h .edition2 ∷ h .plan .starts .pline2 ∷ h .plan .starts .«pline1_overlapping» ∷ h .plan .starts .«pline2_overlapping» ∷ h .plan .slices ∷ []) ≡ headValues n h
+told n h x y e f = rw (e, f)
 
 bits-requires : tie.Need-bits-requires
 bits-requires c κs = search needs
 
-cast-t5 : tie.Need-cast-t5
-cast-t5 c = search needs
+bits-requires-2 : tie.Need-bits-requires-2
+bits-requires-2 c κs = search needs
+
+cast-t8 : tie.Need-cast-t8
+cast-t8 c = search needs
+
+cast-t9 : tie.Need-cast-t9
+cast-t9 c = search needs
+
+cast-t10 : tie.Need-cast-t10
+cast-t10 c = search needs
 
 returns : tie.Need-returns
 returns c = search (needs, told)
 
 pub head-values-spec : {M : Type 1} → statement M
-head-values-spec = tie.close (tie.spec bits-requires cast-t5 returns)
+head-values-spec =
+    tie.close (tie.spec bits-requires bits-requires-2 cast-t8 cast-t9 cast-t10 returns)

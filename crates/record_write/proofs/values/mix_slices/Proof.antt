@@ -1,13 +1,14 @@
 use borrow.Author.Needs.{needs}
-use Rattle.record_write.proofs.Mixing.{Mixing, mixing-none, mixing-codes, mixing-numbers, mixing-more, mixing-end}
+use Prim.Native.Nat.{_-_}
+use Rattle.record_write.proofs.Mixing.{Mixing, mixing-none, mixing-codes, mixing-numbers, mixing-date, mixing-place, mixing-more, mixing-end}
 use Rattle.record_write.proofs.values.mix_slices.Statement.{statement}
 use Rattle.record_write.proofs.values.mix_slices.Tie as tie
 
 abbrev Inv-loop : tie.InvT-loop
-Inv-loop slice-at slice count values₀ to q₀ i₀ j₀ left₀ values q i j left = Mixing slice-at slice count values₀ to values q i j left
+Inv-loop slice-at slice slice-edition count values₀ to q₀ i₀ j₀ k₀ values q i j k = Mixing slice-at slice slice-edition count values₀ to values q i j k
 
 abbrev μ-loop : tie.MeasureT-loop
-μ-loop slice-at slice count values₀ to q₀ i₀ j₀ left₀ values q i j left = left
+μ-loop slice-at slice slice-edition count values₀ to q₀ i₀ j₀ k₀ values q i j k = count - k
 
 loop-holds : tie.Need-loop-holds Inv-loop μ-loop
 loop-holds c = search (needs, mixing-none)
@@ -21,6 +22,24 @@ add-copy-bits c = search needs
 copy-bits-requires : tie.Need-copy-bits-requires Inv-loop μ-loop
 copy-bits-requires c κs = search (needs, mixing-numbers)
 
+add-at : tie.Need-add-at Inv-loop μ-loop
+add-at c = search needs
+
+mul-wide : tie.Need-mul-wide Inv-loop μ-loop
+mul-wide c = search needs
+
+shared-slice-read-wide : tie.Need-shared-slice-read-wide Inv-loop μ-loop
+shared-slice-read-wide c = search (needs, mixing-date)
+
+wide-requires : tie.Need-wide-requires Inv-loop μ-loop
+wide-requires c κs = search needs
+
+mul-values : tie.Need-mul-values Inv-loop μ-loop
+mul-values c = search needs
+
+slice-write-values : tie.Need-slice-write-values Inv-loop μ-loop
+slice-write-values c = search (needs, mixing-place)
+
 add-q : tie.Need-add-q Inv-loop μ-loop
 add-q c = search needs
 
@@ -30,19 +49,19 @@ add-i c = search needs
 add-j : tie.Need-add-j Inv-loop μ-loop
 add-j c = search needs
 
-sub-left : tie.Need-sub-left Inv-loop μ-loop
-sub-left c = search needs
+add-k : tie.Need-add-k Inv-loop μ-loop
+add-k c = search needs
 
 loop-less : tie.Need-loop-less Inv-loop μ-loop
 loop-less c = search needs
 
 loop-again : tie.Need-loop-again Inv-loop μ-loop
 loop-again c =
-    let numbers = c .before .before in
+    let numbers = c .before .before .before .before in
     let codes = numbers .before .before .before .before in
     let test = codes .before .before in
     let turn = test .before in
-    mixing-more (turn .loop .inv) (test .loop-test .taken) (codes .copy .ensures) (numbers .copy-bits .ensures)
+    mixing-more (turn .loop .inv) (test .loop-test .taken) (codes .copy .ensures) (numbers .copy-bits .ensures) _ (c .wide .ensures)
 
 same-length : tie.Need-same-length Inv-loop μ-loop
 same-length c = search needs
@@ -60,10 +79,16 @@ mix-slices-spec =
     copy-requires
     add-copy-bits
     copy-bits-requires
+    add-at
+    mul-wide
+    shared-slice-read-wide
+    wide-requires
+    mul-values
+    slice-write-values
     add-q
     add-i
     add-j
-    sub-left
+    add-k
     loop-less
     loop-again
     same-length

@@ -3,6 +3,9 @@ use Rattle.basis.specs.RefuseLaws.{then-rows}
 use Rattle.record_write.proofs.write.handed_refusal.Statement.{statement}
 use Rattle.record_write.proofs.write.handed_refusal.Tie as tie
 
+version-refusal-requires : tie.Need-version-refusal-requires
+version-refusal-requires c κs = search needs
+
 list-refusal-requires : tie.Need-list-refusal-requires
 list-refusal-requires c κs = search needs
 
@@ -25,12 +28,13 @@ index-refusal-requires : tie.Need-index-refusal-requires
 index-refusal-requires c κs = search needs
 
 returns : tie.Need-returns
-returns c = search (then-rows) depth 16
+returns c = search (then-rows) depth 18
 
 pub handed-refusal-spec : {M : Type 1} → statement M
 handed-refusal-spec =
     tie.close
     (tie.spec
+    version-refusal-requires
     list-refusal-requires
     list-refusal-requires-2
     taken-refusal-requires

@@ -35,7 +35,10 @@ part-pack-kept-end : tie.Need-part-pack-kept-end
 part-pack-kept-end c = search needs
 
 pack-kept-requires : tie.Need-pack-kept-requires
-pack-kept-requires c κs = search needs
+pack-kept-requires c κs =
+    let listed = c .before .before .before .before in
+    let entry = listed .before .before .before .before .before .before .before .before .before .before .before in
+    kept-packs _ _ _ (entry .pre) _ _ refl (listed .list-values .ensures)
 
 same-length : tie.Need-same-length
 same-length c = search needs
@@ -44,9 +47,8 @@ returns : tie.Need-returns
 returns c =
     let packed = c .before .before in
     let listed = packed .before .before .before .before .before in
-    let lent = listed .before .before .before .before .before in
-    let entry = lent .before .before .before .before .before in
-    kept-written _ (entry .pre) _ _ refl (listed .list-values .ensures) _ _ (packed .pack-kept .ensures)
+    let entry = listed .before .before .before .before .before .before .before .before .before .before .before in
+    kept-written _ _ _ (entry .pre) _ _ refl (listed .list-values .ensures) _ _ (packed .pack-kept .ensures)
 
 pub write-kept-spec : {M : Type 1} → statement M
 write-kept-spec =
