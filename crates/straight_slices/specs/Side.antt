@@ -1,0 +1,128 @@
+-- One outline of the call of K11: its candidates by straight splits, an edition and an inside answer for each. And what a caller has shown.
+use Prim.Native.Nat.{ℕ, _+_, _*_, _≤_, _<_}
+use mathlib.Core.Path.{_≡_}
+use mathlib.Core.List.{List}
+use lib.ListN.{length, take, replicate}
+use lib.IntN.{ℤ}
+use lib.Ieee.{Float}
+use Rattle.basis.specs.Sizes.{mostCandidates}
+use Rattle.outline.specs.Outline.{Whole}
+use Rattle.cut.specs.declared.arrival.Case.{Case}
+use Rattle.cut.specs.Cuts.{Given, cutCount}
+use Rattle.cut.specs.Order as order
+use Rattle.candidate.specs.Candidates as slices
+use Rattle.candidate.specs.Ready.{Rooms, Roomy}
+use Rattle.candidate_entries.specs.Candidates.{alongCuts, InFront}
+use Rattle.slice.specs.Ready as slice
+use Rattle.prune.specs.Prune.{Cands, cands}
+use Rattle.prune.specs.Ready.{CandsFit}
+use Rattle.prune_write.specs.Ready.{KeepFit}
+use Rattle.straight_cut.specs.Microdegrees.{wholesOf}
+use Rattle.straight_cut.specs.Splits.{straightSplits, SplitsRoom}
+use Rattle.straight_cut.specs.Inside.{insidesOf, InsideRoom}
+
+-- what its slices are cut from: its cuts in their order, and straight splits along them
+abbrev pub alongStraight : Given → slices.Given
+alongStraight g = alongCuts g (straightSplits g)
+
+-- how many candidates it has
+abbrev pub sideCount : Given → ℕ
+sideCount g = slices.candCount (alongStraight g)
+
+-- they, each with the outline's edition, and with the answer whether the doubled midpoint of its two vertices is inside the other outline
+unfoldable pub sideCands : Given → List Float → ℕ → ℕ → Cands
+sideCands g other vc edition =
+    let a = alongStraight g in
+    cands (slices.candNumbers a) (slices.candShapes a) (replicate (sideCount g) edition) (insidesOf (wholesOf other vc) (slices.probeNumbers a) (sideCount g))
+
+-- ---- what a caller has shown, and what the functions leave
+
+-- cuts that stand in front of their lists, and room for their splits
+pub record FrontSplits (o : List Float) (cutAt : List ℕ) (cut : List Float) (s : Case) (splits : List Float) : Type 0 where
+  pub few : s .hits + 2 * s .laps ≤ mostCandidates
+  pub numbers : 3 * (s .hits + 2 * s .laps) ≤ length cutAt
+  pub points : 2 * (s .hits + 2 * s .laps) ≤ length cut
+  pub room : SplitsRoom o (take (3 * (s .hits + 2 * s .laps)) cutAt) (take (2 * (s .hits + 2 * s .laps)) cut) (s .hits + 2 * s .laps) splits
+
+pub record FrontWalk (o : List Float) (cutAt : List ℕ) (cut splits : List Float) (s : Case) (l : Rooms) : Type 0 where
+  pub few : s .hits + 2 * s .laps ≤ mostCandidates
+  pub long : 9 * (s .hits + 2 * s .laps) ≤ length splits
+  pub front : InFront o cutAt cut (take (9 * (s .hits + 2 * s .laps)) splits) s l
+
+-- lists for the order, the cuts in it, the splits and the candidates
+pub record CandsRoom (g : Given) (sorted cutAt : List ℕ) (cut splits : List Float) (l : Rooms) : Type 0 where
+  pub accepted : order.Accepted g
+  pub sortedLong : cutCount g ≤ length sorted
+  pub numberRoom : 3 * cutCount g ≤ length cutAt
+  pub pointRoom : 2 * cutCount g ≤ length cut
+  pub splitRoom : 9 * cutCount g ≤ length splits
+  pub roomy : Roomy (cutCount g) l
+
+-- the other outline in whole microdegrees and the vertices to be tested, in front of their lists
+pub record FrontAsk (wholes : List ℤ) (vc : ℕ) (probe : List Float) (count : ℕ) (inside : List ℕ) : Type 0 where
+  pub fewVertices : vc ≤ 1024
+  pub few : count ≤ mostCandidates
+  pub wide : 2 * vc ≤ length wholes
+  pub long : 6 * count ≤ length probe
+  pub ready : InsideRoom (take (2 * vc) wholes) vc (take (6 * count) probe) count inside
+
+-- lists for the other outline in whole microdegrees and for the answers
+pub record AskRoom (other : List Float) (vc : ℕ) (probe : List Float) (count : ℕ) (wholes : List ℤ) (inside : List ℕ) : Type 0 where
+  pub whole : Whole other vc
+  pub few : count ≤ mostCandidates
+  pub there : 6 * count ≤ length probe
+  pub wholesRoom : 2 * vc ≤ length wholes
+  pub fits : count ≤ length inside
+
+-- the lists of the candidates of one outline
+pub record Lists : Type 0 where
+  pub at : List ℕ
+  pub cand : List Float
+  pub edition : List ℕ
+  pub inside : List ℕ
+
+abbrev pub listsOf : List ℕ → List Float → List ℕ → List ℕ → Lists
+listsOf at cand edition inside = record { at = at; cand = cand; edition = edition; inside = inside }
+
+-- the first r of them
+abbrev pub fronts : ℕ → Lists → Cands
+fronts r l = cands (take (2 * r) (l .at)) (take (6 * r) (l .cand)) (take r (l .edition)) (take r (l .inside))
+
+-- all of those lists, long enough
+pub record SideRoom (g : Given) (other : List Float) (vc : ℕ) (sorted cutAt : List ℕ) (cut splits probe : List Float) (wholes : List ℤ) (l : Lists) : Type 0 where
+  pub accepted : order.Accepted g
+  pub whole : Whole other vc
+  pub sortedLong : cutCount g ≤ length sorted
+  pub numberRoom : 3 * cutCount g ≤ length cutAt
+  pub pointRoom : 2 * cutCount g ≤ length cut
+  pub splitRoom : 9 * cutCount g ≤ length splits
+  pub probeRoom : 6 * cutCount g ≤ length probe
+  pub wholesRoom : 2 * vc ≤ length wholes
+  pub atRoom : 2 * cutCount g ≤ length (l .at)
+  pub candRoom : 6 * cutCount g ≤ length (l .cand)
+  pub editionRoom : cutCount g ≤ length (l .edition)
+  pub insideRoom : cutCount g ≤ length (l .inside)
+
+-- the candidates stand in front
+pub record Sided (g : Given) (other : List Float) (vc edition r : ℕ) (l : Lists) : Type 0 where
+  pub counted : r ≡ sideCount g
+  pub few : r ≤ cutCount g
+  pub fit : CandsFit (fronts r l) r
+  pub longAt : 2 * r ≤ length (l .at)
+  pub longCand : 6 * r ≤ length (l .cand)
+  pub longEdition : r ≤ length (l .edition)
+  pub longInside : r ≤ length (l .inside)
+  pub holds : fronts r l ≡ sideCands g other vc edition
+
+-- candidates that stand in front, and room for those that stay, from slice number m on
+pub record FrontKeep (l : Lists) (count : ℕ) (room : slice.Rooms) (m : ℕ) : Type 0 where
+  pub longAt : 2 * count ≤ length (l .at)
+  pub longCand : 6 * count ≤ length (l .cand)
+  pub longEdition : count ≤ length (l .edition)
+  pub longInside : count ≤ length (l .inside)
+  pub fit : KeepFit (fronts count l) count room m
+
+pub record KeptRoom (g : Given) (other : List Float) (vc : ℕ) (sorted cutAt : List ℕ) (cut splits probe : List Float) (wholes : List ℤ) (l : Lists) (room : slice.Rooms) (m : ℕ) : Type 0 where
+  pub side : SideRoom g other vc sorted cutAt cut splits probe wholes l
+  pub low : m ≤ mostCandidates
+  pub roomy : slice.Roomy (m + cutCount g) room
