@@ -92,7 +92,7 @@ fn refusal(
 }
 
 // The candidates over cuts that stand in order in front of their lists.
-pub fn walked(
+fn walked(
     outline: &[f64],
     cut_at: &[usize],
     cut: &[f64],
