@@ -1,0 +1,4 @@
+pub mod Slices
+pub mod Ready
+pub mod Rows
+pub mod RowsLaws
