@@ -7,9 +7,9 @@ use native.Mathlib.Omega.{arith}
 use lib.ListN.{length}
 use borrow.Author.Tests.{ltb-false, not-false}
 use Rattle.basis.specs.Sizes.{mostHits, mostLaps}
-use Rattle.basis.specs.Refuse.{firstFrom}
+use Rattle.basis.specs.Refuse.{Row, firstFrom}
 use Rattle.basis.specs.RefuseLaws.{Clear, clear, clear-left, clear-right, first-from, stop-rows, go-rows, length-ok, answer-no, answer-yes}
-use Rattle.slice.specs.Ready.{Countable, Rooms}
+use Rattle.slice.specs.Ready.{Countable, Rooms, Roomy}
 use Rattle.cut.specs.Cuts as cut
 use Rattle.cut.specs.Cuts.{whichOf}
 use Rattle.cut_entries.specs.CutRows as cuts
@@ -144,24 +144,31 @@ module _ (g : Given) (found : ℕ) (e : found ≡ firstFrom 0 (inputRows g)) whe
   unfolding slicesRefusal inputRows cuts.listRows
   lent-found at slice edition n z q = go-rows (inputRows g) (lentRows g at slice edition) found n tt tt e z q
 
+-- an accepted call: nothing was found in what is handed in, and there is room for the need
+module _ (g : Given) (l : Rooms) (none : slicesNumber g l ≡ 0) where
+  abbrev lent : List Row
+  lent = lentRows g (length (l .at)) (length (l .shape)) (length (l .edition))
+
+  all : Clear (inputRows g ++ lent)
+  unfolding slicesRefusal inputRows cuts.listRows
+  all = clear (inputRows g ++ lent) tt none
+
+  pub accepted-parts : Parts g
+  accepted-parts = parts g (clear-left (inputRows g) lent all)
+
+  pub accepted-room : Roomy (needAll (g .job)) l
+  accepted-room = let room = clear-right (inputRows g) lent all in record { at = ltb-false _ _ (room .0); shape = ltb-false _ _ (room .1 .0); edition = ltb-false _ _ (room .1 .1 .0) }
+
 module _ (g : Given) (l : Rooms) (number : ℕ) (is : number ≡ slicesNumber g l) where
   pub slices-accepted : (call : Call) → call ≡ mostCall (g .job) → number ≡ 0 → Accepted g call l
-  unfolding slicesRefusal inputRows cuts.listRows
   slices-accepted call m z =
-      let lent = lentRows g (length (l .at)) (length (l .shape)) (length (l .edition)) in
-      let all : Clear (inputRows g ++ lent) = clear (inputRows g ++ lent) tt (sym is ∙ z) in
-      let p = parts g (clear-left (inputRows g) lent all) in
-      let room : Clear lent = clear-right (inputRows g) lent all in
+      let none : slicesNumber g l ≡ 0 = sym is ∙ z in
+      let p = accepted-parts g l none in
       let c = first-pass g p in
       let first = cuts-accepted (firstCuts g) c in
       let second = cuts-accepted (secondCuts g) (second-pass g p) in
       record {
-        sides =
-            record {
-              first = record { accepted = first; whole = second .ready .whole };
-              second = record { accepted = second; whole = first .ready .whole };
-              roomy = record { at = ltb-false _ _ (room .0); shape = ltb-false _ _ (room .1 .0); edition = ltb-false _ _ (room .1 .1 .0) };
-            };
+        sides = record { first = record { accepted = first; whole = second .ready .whole }; second = record { accepted = second; whole = first .ready .whole }; roomy = accepted-room g l none };
         laps = record { few = c .fewLaps; at = c .lapAtLength; shape = c .lapLength; edition = p .editions };
         most = m;
       }

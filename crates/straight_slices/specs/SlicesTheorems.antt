@@ -7,11 +7,11 @@ use native.Mathlib.Nat.{add-zero}
 use native.Mathlib.Omega.{arith}
 use lib.Dec.{ltb, eqb}
 use lib.ListN.{length, getD, getD-replicate}
-use lib.Ieee.{Float, nan}
+use lib.Ieee.{Float, nan, ofBits, le}
 use borrow.Author.Tests.{not-false}
 use Rattle.basis.specs.Choice.{by-test}
 use Rattle.basis.specs.All.{allOf, all-append, all-at}
-use Rattle.basis.specs.Number.{+0, within, allWithin}
+use Rattle.basis.specs.Number.{+0, absF, within, allWithin}
 use Rattle.basis.specs.Items.{firstItems}
 use Rattle.outline.specs.declared.point.Vertex.{Vertex}
 use Rattle.outline.specs.Points.{atPoint, withBulge, vertexNumbers}
@@ -40,10 +40,14 @@ use Rattle.straight_slices.specs.RowsLaws.{Parts, first-pass, second-pas
 both-in : (xs ys : List Float) → allWithin xs ≡ true → allWithin ys ≡ true → allWithin (xs ++ ys) ≡ true
 both-in xs ys e f = all-append within xs ys ∙ rw (e, f)
 
+zero-in : within +0 ≡ true
+unfolding within absF ofBits le
+zero-in = refl
+
 -- a position with bulge +0
 flat-in : (v : Vertex) → within (v .x) ≡ true → within (v .y) ≡ true → allWithin (vertexNumbers (withBulge v +0)) ≡ true
-unfolding allOf within
-flat-in v e f = rw (e, f)
+unfolding allOf
+flat-in v e f = rw (e, f, zero-in)
 
 module _ (o : List Float) (cutAt : List ℕ) (cut : List Float) (outline : allWithin o ≡ true) (points : allWithin cut ≡ true) where
   cut-in : (p : ℕ) → 2 * p + 1 < length cut → allWithin (vertexNumbers (cutVertex cut p)) ≡ true
