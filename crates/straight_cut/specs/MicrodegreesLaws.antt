@@ -48,8 +48,7 @@ module _ (x : Float) where
     pub whole-reaches : b ≡ true → T (le (fin true 1 (pos 63)) x) × T (lt x (fin false 1 (pos 63)))
     unfolding isWhole reach
     whole-reaches t =
-        let r : reach x ≡ true = and-left (reach x) _ (sym e ∙ t) in
-        (
+        let r : reach x ≡ true = and-left (reach x) _ (sym e ∙ t) in (
           subst T (sym (and-left (le (fin true 1 (pos 63)) x) (lt x (fin false 1 (pos 63))) r)) tt,
           subst T (sym (and-right (le (fin true 1 (pos 63)) x) (lt x (fin false 1 (pos 63))) r)) tt,
         )

@@ -34,17 +34,7 @@ fn side(
     requires { ⌜ SideRoom (given (now outline) (now «hit_at») (now hit) (now «lap_at») (now lap) s) (now other) «other_vc» (now probe) (listsOf (now «cand_at») (now cand) (now «cand_edition») (now inside)) ⌝ }
     ensures { λ r. ⌜ Sided (given (now (outline .entry)) (now («hit_at» .entry)) (now (hit .entry)) (now («lap_at» .entry)) (now (lap .entry)) s) (now (other .entry)) «other_vc» edition r (listsOf (now («cand_at» .exit)) (now (cand .exit)) (now («cand_edition» .exit)) (now (inside .exit))) ⌝ }
 {
-    let m = slicing::candidates(
-        outline,
-        hit_at,
-        hit,
-        lap_at,
-        lap,
-        s,
-        cand_at,
-        cand,
-        probe,
-    );
+    let m = slicing::candidates(outline, hit_at, hit, lap_at, lap, s, cand_at, cand, probe);
     asking::asked(other, other_vc, probe, m, inside);
     candidates::write_editions(cand_edition, m, s.hits + 2 * s.laps, edition);
     m

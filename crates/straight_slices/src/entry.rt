@@ -27,7 +27,16 @@ pub fn entry(
 ) -> PruneAnswer
     ensures { λ r. ⌜ SlicesLeft (given job (now (outline1 .entry)) (now (outline2 .entry)) (now («hit_at» .entry)) (now (hit .entry)) (now («lap_at» .entry)) (now (lap .entry)) (now («lap_edition» .entry))) (rooms (now («slice_at» .entry)) (now (slice .entry)) (now («slice_edition» .entry))) r (rooms (now («slice_at» .exit)) (now (slice .exit)) (now («slice_edition» .exit))) ⌝ }
 {
-    let found = faults::input_refusal(job, outline1, outline2, hit_at, hit, lap_at, lap, lap_edition);
+    let found = faults::input_refusal(
+        job,
+        outline1,
+        outline2,
+        hit_at,
+        hit,
+        lap_at,
+        lap,
+        lap_edition,
+    );
     if found != 0 {
         return answer::prune_refused(found);
     }
@@ -42,12 +51,7 @@ pub fn entry(
         laps: job.laps,
     };
     let need = call::need_of(call);
-    let found = pruning::lent_refusal(
-        need,
-        slice_at.len(),
-        slice.len(),
-        slice_edition.len(),
-    );
+    let found = pruning::lent_refusal(need, slice_at.len(), slice.len(), slice_edition.len());
     if found != 0 {
         return answer::prune_refused(found);
     }

@@ -76,13 +76,7 @@ fn number_refusal(
 }
 
 // Number 18.
-fn straight_refusal(
-    r: u32,
-    outline1: &[f64],
-    outline2: &[f64],
-    hit: &[f64],
-    lap: &[f64],
-) -> u32
+fn straight_refusal(r: u32, outline1: &[f64], outline2: &[f64], hit: &[f64], lap: &[f64]) -> u32
     ensures { λ n. ⌜ n ≡ firstFrom r (straightRows (now (outline1 .entry)) (now (outline2 .entry)) (now (hit .entry)) (now (lap .entry))) ⌝ }
 {
     let r = refuse::or_else(r, !flat::straight_outline(outline1), 18);
@@ -118,7 +112,16 @@ pub(crate) fn input_refusal(
 ) -> u32
     ensures { λ n. ⌜ n ≡ firstFrom 0 (inputRows (given job (now (outline1 .entry)) (now (outline2 .entry)) (now («hit_at» .entry)) (now (hit .entry)) (now («lap_at» .entry)) (now (lap .entry)) (now («lap_edition» .entry)))) ⌝ }
 {
-    let r = list_refusal(job, outline1, outline2, hit_at, hit, lap_at, lap, lap_edition);
+    let r = list_refusal(
+        job,
+        outline1,
+        outline2,
+        hit_at,
+        hit,
+        lap_at,
+        lap,
+        lap_edition,
+    );
     let r = code_refusal(r, job, lap_at);
     let r = number_refusal(r, job.tolerance, outline1, outline2, hit, lap);
     let r = straight_refusal(r, outline1, outline2, hit, lap);
