@@ -116,7 +116,7 @@ impl fmt::Display for Counts {
 /// One pair of straight outlines: the slices of every mode, and the four operations.
 pub fn scenario(tally: &mut Tally, rng: &mut Random) {
     let [a, b] = pair(rng);
-    let tolerance = rng.pick(&[1e-5, 1.0 / 1024.0, 0.25, 1.0]);
+    let tolerance = rng.pick(&[1e-5, 1.0 / 1024.0, 0.25, 1.0, 1e-12]);
     let Some(case) = caught(|| Case::new(a, b, tolerance)) else {
         return;
     };
@@ -147,11 +147,36 @@ fn diamond(rng: &mut Random) -> Vec<f64> {
     vec![x + r, y, 0.0, x, y + r, 0.0, x - r, y, 0.0, x, y - r, 0.0]
 }
 
-/// Two outlines through the same far corners. What else they have lies within a few microdegrees of lines
-/// between those, so that a side is told only where nothing is rounded.
+/// A point between two others whose triangle with them has this doubled area, times what both steps have in
+/// common: as near to their line as whole numbers come.
+fn beside(p: [f64; 2], q: [f64; 2], area: i64) -> [f64; 2] {
+    let (dx, dy) = ((q[0] - p[0]) as i64, (q[1] - p[1]) as i64);
+    if dx == 0 {
+        return [p[0] + area as f64, (p[1] + q[1]) / 2.0].map(f64::round);
+    }
+    // dx * y - dy * x is the greatest common divisor, of either sign.
+    let (mut a, mut b) = ((dx, 1, 0), (dy, 0, 1));
+    while b.0 != 0 {
+        let times = a.0 / b.0;
+        (a, b) = (b, (a.0 - times * b.0, a.1 - times * b.1, a.2 - times * b.2));
+    }
+    let (step_x, step_y) = (i128::from(dx / a.0), i128::from(dy / a.0));
+    let (x, y) = (
+        -i128::from(a.2) * i128::from(area),
+        i128::from(a.1) * i128::from(area),
+    );
+    let steps = (i128::from(dx) / 2 - x) / step_x;
+    [
+        p[0] + (x + steps * step_x) as f64,
+        p[1] + (y + steps * step_y) as f64,
+    ]
+}
+
+/// Two outlines through the same far corners. What else they have lies within a fraction of a microdegree of
+/// the lines between those, so that its side is told only where nothing is rounded.
 fn close_lines(rng: &mut Random) -> [Vec<f64>; 2] {
-    let count = rng.from(2, 3);
-    let mut far = || (rng.below(2 * MOST as usize - 7) as f64) - MOST + 4.0;
+    let count = rng.from(3, 4);
+    let mut far = || (rng.below(2 * MOST as usize + 1) as f64) - MOST;
     let corners: Vec<[f64; 2]> = (0..count).map(|_| [far(), far()]).collect();
     [0; 2].map(|_| {
         let mut outline = Vec::new();
@@ -159,18 +184,17 @@ fn close_lines(rng: &mut Random) -> [Vec<f64>; 2] {
             outline.extend([p[0], p[1], 0.0]);
             let q = corners[(i + 1) % corners.len()];
             if rng.once_in(2) {
-                let part = rng.part();
-                let mut beside =
-                    |a: f64, b: f64| (a + part * (b - a)).round() + rng.below(3) as f64 - 1.0;
-                let (x, y) = (beside(p[0], q[0]), beside(p[1], q[1]));
-                outline.extend([x, y, 0.0]);
+                let [x, y] = beside(*p, q, rng.pick(&[-40, -7, -2, -1, 1, 2, 7, 40]));
+                if [x, y].iter().all(is_whole) {
+                    outline.extend([x, y, 0.0]);
+                }
             }
         }
         outline
     })
 }
 
-/// A drawn whole number of the second in the first, from the origin; all stay in range.
+/// Both outlines so many times as large.
 fn stretched(rng: &mut Random, outlines: [Vec<f64>; 2]) -> [Vec<f64>; 2] {
     let factor = rng.pick(&[1.0, 1.0, 1.0, 2.0, 1000.0, 123_457.0, 1e6]);
     outlines.map(|mut outline| {
@@ -184,12 +208,12 @@ fn stretched(rng: &mut Random, outlines: [Vec<f64>; 2]) -> [Vec<f64>; 2] {
 
 /// Bulges of either zero.
 fn with_zeros(rng: &mut Random, mut outline: Vec<f64>) -> Vec<f64> {
-    let all = rng.below(3);
+    let all = rng.below(10);
     for v in outline.chunks_exact_mut(3) {
         v[2] = match all {
-            0 => 0.0,
-            1 => -0.0,
-            _ => rng.pick(&[0.0, -0.0]),
+            0 => -0.0,
+            1 => rng.pick(&[0.0, -0.0]),
+            _ => 0.0,
         };
     }
     outline
