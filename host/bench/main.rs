@@ -241,6 +241,70 @@ fn prune(families: &[Family]) {
     }
 }
 
+/// Straight masks in whole microdegrees.
+fn straight_families() -> [Family; 2] {
+    let mut comb = family("comb", 1, shapes::whole_comb);
+    let most = Input::new(shapes::whole_flat_comb(MOST_CUTS), MOST_CUTS);
+    comb.inputs.push((MOST_CUTS, most));
+    [family("wave", 0, shapes::wave), comb]
+}
+
+/// Cut order, splits, candidates and inside answers of both outlines and the prune: the calls that the
+/// one call stands for.
+fn three_in_turn(
+    pair: &Pair,
+    whole: &[Vec<i64>; 2],
+    rooms: &mut [CutRoom; 2],
+    slices: &mut Slices,
+) {
+    for (outline, room) in rooms.iter_mut().enumerate() {
+        ours::cut_order(pair, outline, room);
+        ours::straight_splits(pair, outline, room);
+        ours::candidates(pair, outline, room);
+        ours::answer_inside(&whole[1 - outline], room);
+    }
+    done(ours::prune(pair, UNION, rooms, slices));
+}
+
+fn check_straight(input: &Input, slices: &mut Slices) {
+    let theirs = input.shared.slices(UNION);
+    let answer = ours::straight_slices(&input.pair, UNION, slices);
+    assert_eq!(answer.slices, theirs.count());
+    assert_eq!(slices.slice_at[..4 * answer.slices], theirs.slice_at);
+    assert_eq!(slices.slice[..6 * answer.slices], theirs.slice);
+    assert_eq!(answer.starts.pline2, theirs.starts[0]);
+    assert_eq!(answer.starts.pline1_overlapping, theirs.starts[1]);
+    assert_eq!(answer.starts.pline2_overlapping, theirs.starts[2]);
+}
+
+fn straight() {
+    for family in straight_families() {
+        for (size, input) in &family.inputs {
+            let (pair, shared) = (&input.pair, &input.shared);
+            let whole = ours::whole_outlines(pair);
+            let mut rooms = [0; 2].map(|_| CutRoom::new(pair.cuts()));
+            let [mut at_once, mut in_turn] = [0; 2].map(|_| ours::straight_room(pair));
+            check_straight(input, &mut at_once);
+            let times = measure(&mut [
+                &mut || done(ours::straight_slices(black_box(pair), UNION, &mut at_once)),
+                &mut || done(shared.prune(UNION)),
+                &mut || three_in_turn(black_box(pair), &whole, &mut rooms, &mut in_turn),
+            ]);
+            let count = shared.prune(UNION).len();
+            assert_eq!(at_once.slice_at[..4 * count], in_turn.slice_at[..4 * count]);
+            assert_eq!(at_once.slice[..6 * count], in_turn.slice[..6 * count]);
+            tables::tell(tables::STRAIGHT, family.name, *size, times.ratio(0, 1));
+            tables::tell(
+                tables::STRAIGHT_THREE,
+                family.name,
+                *size,
+                times.ratio(0, 2),
+            );
+            tables::tell(tables::THREE, family.name, *size, times.ratio(2, 1));
+        }
+    }
+}
+
 /// Slices for a stitch, with the outlines they are of.
 struct Job {
     outlines: Outlines,
@@ -472,7 +536,9 @@ fn repeat(stage: &str, input: &str, size: usize, calls: Option<usize>) {
         "star" => (shapes::star, 0),
         "comb" => (shapes::comb, 1),
         "arcs" => (shapes::round_star, 0),
-        _ => panic!("the inputs are star, comb and arcs"),
+        "wave" => (shapes::wave, 0),
+        "whole" => (shapes::whole_comb, 1),
+        _ => panic!("the inputs are star, comb and arcs, and in whole numbers wave and whole"),
     };
     let many = |call: &mut dyn FnMut()| call_again(calls, call);
     if stage.ends_with("stitch") {
@@ -502,6 +568,11 @@ fn repeat(stage: &str, input: &str, size: usize, calls: Option<usize>) {
         "splits" => many(&mut || shared.split_cuts(outline, room)),
         "midpoints" => many(&mut || shared.use_midpoints(room)),
         "slicing" => many(&mut || shared.our_candidates(pair, outline, room)),
+        "straight" => {
+            let mut slices = ours::straight_room(pair);
+            many(&mut || done(ours::straight_slices(pair, UNION, &mut slices)));
+        }
+        "rust-straight" => many(&mut || done(shared.prune(UNION))),
         "pruning" => many(&mut || our_pruning(&input, &mut rooms, &mut slices)),
         "rust-order" => many(&mut || shared.cut_order(&input.order, outline)),
         "rust-slicing" => many(&mut || done(shared.candidates(outline))),
@@ -519,6 +590,7 @@ fn time_all() {
     cut_order(&families[..2]);
     candidates(&families);
     prune(&families);
+    straight();
     stitch();
     area_pass();
     view_vertices();

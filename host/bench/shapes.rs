@@ -83,6 +83,65 @@ pub fn flat_comb(cuts: usize) -> Outlines {
     [comb, band(right + 1.0)]
 }
 
+/// Outlines in whole microdegrees, whose crossings are whole too.
+fn whole(outlines: Outlines) -> Outlines {
+    outlines.map(|numbers| numbers.iter().map(|n| n * 262_144.0).collect())
+}
+
+/// A square wave over a line of short segments, which each of its upright sides crosses once: one cut
+/// on a segment.
+pub fn wave(crossings: usize) -> Outlines {
+    let (mut wave, mut line) = (Vec::new(), Vec::new());
+    let last = crossings / 2 - 1;
+    for i in 0..=last {
+        let left = 2.0 * i as f64;
+        let bottom = |at: usize| if i == at { -3.0 } else { -1.0 };
+        add(&mut wave, left, bottom(0), 0.0);
+        add(&mut wave, left, 1.0, 0.0);
+        add(&mut wave, left + 1.0, 1.0, 0.0);
+        add(&mut wave, left + 1.0, bottom(last), 0.0);
+    }
+    for i in 0..=crossings {
+        add(&mut line, i as f64 - 0.5, 0.0, 0.0);
+    }
+    add(&mut line, crossings as f64 - 0.5, 4.0, 0.0);
+    add(&mut line, -0.5, 4.0, 0.0);
+    whole([wave, line])
+}
+
+/// The comb with teeth whose sides go down as far as they go across.
+pub fn whole_comb(crossings: usize) -> Outlines {
+    let teeth = crossings / 4;
+    let right = 6.0 * teeth as f64;
+    let mut comb = Vec::new();
+    for i in 0..teeth {
+        add(&mut comb, 6.0 * i as f64, 1.0, 0.0);
+        add(&mut comb, 6.0 * i as f64 + 3.0, -2.0, 0.0);
+    }
+    add(&mut comb, right, 1.0, 0.0);
+    add(&mut comb, right, 5.0, 0.0);
+    add(&mut comb, 0.0, 5.0, 0.0);
+    whole([comb, band(right + 1.0)])
+}
+
+/// The same, of which each second tooth ends flat on the band's edge.
+pub fn whole_flat_comb(cuts: usize) -> Outlines {
+    let pairs = cuts / 6;
+    let right = 10.0 * pairs as f64;
+    let mut comb = Vec::new();
+    for i in 0..pairs {
+        let left = 10.0 * i as f64;
+        let corners = [[0.0, 1.0], [3.0, -2.0], [6.0, 1.0], [7.0, 0.0], [9.0, 0.0]];
+        for [x, y] in corners {
+            add(&mut comb, left + x, y, 0.0);
+        }
+    }
+    add(&mut comb, right, 1.0, 0.0);
+    add(&mut comb, right, 5.0, 0.0);
+    add(&mut comb, 0.0, 5.0, 0.0);
+    whole([comb, band(right + 1.0)])
+}
+
 /// Outlines for slices that no pipeline made. Their vertices are far from the slices' ends.
 pub fn plain() -> Outlines {
     [0.2, 0.7].map(|turn| ring(8, turn, 0.0, |_| 1e6))
