@@ -1,7 +1,8 @@
 //! Our stages and the original's, timed side by side on the same inputs in one run.
 //!
 //! `bench FILE.svg` prints tables of ratios, and writes the plot of times against sizes to the file.
-//! `bench once` is what it starts, some times over.
+//! `bench straight` prints only the tables of straight masks.
+//! `bench once` and `bench once straight` are what they start, some times over.
 //! `bench repeat STAGE INPUT SIZE` makes one of our calls again and again, for a profiler.
 
 mod ours;
@@ -596,10 +597,10 @@ fn time_all() {
     view_vertices();
 }
 
-/// What a process of this program tells, which times every stage.
-fn told_by_a_process() -> String {
+/// What a process of this program tells, which times every stage, or the one that is named.
+fn told_by_a_process(stage: Option<&str>) -> String {
     let program = std::env::current_exe().expect("this program cannot be found");
-    let output = Command::new(program).arg("once").output();
+    let output = Command::new(program).arg("once").args(stage).output();
     let output = output.expect("this program cannot be run again");
     let errors = String::from_utf8_lossy(&output.stderr);
     assert!(output.status.success(), "{errors}");
@@ -607,10 +608,10 @@ fn told_by_a_process() -> String {
 }
 
 /// Times differ from process to process, so several are asked.
-fn compare(to: &str) {
+fn told(stage: Option<&str>) -> (Vec<Table>, [plot::Panel; 4]) {
     let (mut tables, mut panels) = (tables::all(), plot::panels());
     for _ in 0..PROCESSES {
-        for line in told_by_a_process().lines() {
+        for line in told_by_a_process(stage).lines() {
             let words: Vec<&str> = line.split('\t').collect();
             let number = |i: usize| words[i].parse::<f64>().expect("a number");
             let (title, input, size) = (words[1], words[2], number(3) as usize);
@@ -627,10 +628,23 @@ fn compare(to: &str) {
             }
         }
     }
+    (tables, panels)
+}
+
+fn compare(to: &str) {
+    let (tables, panels) = told(None);
     tables::print_goal(&tables);
     tables.iter().for_each(Table::print);
     tables::print_spread(&tables);
     std::fs::write(to, plot::svg(&panels)).expect("the plot cannot be written");
+}
+
+/// The tables of straight masks alone.
+fn compare_straight() {
+    let (mut tables, _) = told(Some("straight"));
+    tables.retain(|table| !table.is_empty());
+    tables.iter().for_each(Table::print);
+    tables::print_spread(&tables);
 }
 
 fn main() {
@@ -643,7 +657,12 @@ fn main() {
             repeat(stage, input, number(size), Some(number(calls)));
         }
         ["once"] => time_all(),
+        ["once", "straight"] => straight(),
+        ["straight"] => compare_straight(),
         [to] => compare(to),
-        _ => panic!("usage: bench FILE.svg, bench once, or bench repeat STAGE INPUT SIZE [CALLS]"),
+        _ => panic!(
+            "usage: bench FILE.svg, bench [once] straight, bench once, or bench repeat STAGE INPUT \
+             SIZE [CALLS]"
+        ),
     }
 }

@@ -126,6 +126,10 @@ impl Table {
         inputs
     }
 
+    pub fn is_empty(&self) -> bool {
+        self.cells.is_empty()
+    }
+
     fn at(&self, input: &str, size: usize) -> Option<&Cell> {
         let mut cells = self.cells.iter();
         cells.find(|cell| cell.input == input && cell.size == size)
