@@ -865,3 +865,99 @@ struct Mode {
     slices: Slices,
     causes: Vec<&'static str>,
 }
+
+/// How large a pair is: its vertices, then its numbers.
+fn size(case: &Case) -> (usize, i128) {
+    let numbers = case.outlines.iter().flatten();
+    let total = numbers.map(|n| n.abs() as i128).sum();
+    (case.outlines.iter().map(Vec::len).sum(), total)
+}
+
+/// The smallest of many drawn pairs, none of area zero, whose slices differ by one cause alone, with its mode.
+fn smallest(
+    cause: &str,
+    draw: fn(&mut Random) -> [Vec<f64>; 2],
+    tolerance: f64,
+) -> Option<(Case, u64)> {
+    let mut rng = Random::new(11);
+    let mut found: Option<(Case, u64)> = None;
+    for _ in 0..60_000 {
+        let [a, b] = draw(&mut rng);
+        let Some(case) = caught(|| Case::new(a, b, tolerance)) else {
+            continue;
+        };
+        let known = found
+            .as_ref()
+            .is_some_and(|(known, _)| size(known) <= size(&case));
+        if known || !case.cuts_are_whole || case.longer_than_the_outline() {
+            continue;
+        }
+        if !case.info.any_intersects() || case.info.completely_overlapping() {
+            continue;
+        }
+        if case.plines.iter().any(|pline| pline.area() == 0.0) {
+            continue;
+        }
+        let tally = &mut Tally::default();
+        let Some(sides) = case.sides(tally) else {
+            continue;
+        };
+        let answers = case.answers(tally, &sides);
+        let differs = |mode: &u64| {
+            let told = case.mode(&mut Tally::default(), *mode, &sides, &answers);
+            told.is_some_and(|told| told.causes == [cause])
+        };
+        if let Some(mode) = (0..4).find(differs) {
+            found = Some((case, mode));
+        }
+    }
+    found
+}
+
+fn slices_text(slices: &Slices) -> String {
+    let one = |(at, n): (&[usize], &[u64])| {
+        let n: Vec<String> = n
+            .iter()
+            .map(|n| format!("{:?}", f64::from_bits(*n)))
+            .collect();
+        format!("{at:?} {}", n.join(" "))
+    };
+    let items = slices
+        .at
+        .chunks_exact(4)
+        .zip(slices.numbers.chunks_exact(6));
+    items.map(one).collect::<Vec<_>>().join("; ")
+}
+
+/// The differences, each at the smallest input that was found.
+pub fn show() {
+    let zeros = |rng: &mut Random| {
+        let [mut a, b] = [0; 2].map(|_| scattered(rng, 2.0, 4, 4));
+        a.chunks_exact_mut(3).for_each(|v| v[2] = -0.0);
+        [a, b]
+    };
+    let small = |rng: &mut Random| [0; 2].map(|_| scattered(rng, 2.0, 4, 4));
+    for (cause, found) in [
+        (ON_EDGE, smallest(ON_EDGE, small, 1e-5)),
+        (ROUNDED, smallest(ROUNDED, close_lines, 1e-12)),
+        (MINUS_ZERO, smallest(MINUS_ZERO, zeros, 1e-5)),
+    ] {
+        println!("straight masks: {cause}");
+        let Some((case, mode)) = found else {
+            println!("  none was found");
+            continue;
+        };
+        println!("  mode {mode}, {}", case.text());
+        let original = case.original(mode, false, None);
+        println!(
+            "  original: {}",
+            original.as_ref().map(slices_text).unwrap_or_default()
+        );
+        let ours = case.at_once(mode);
+        println!(
+            "  archive:  {}",
+            ours.as_ref().map(slices_text).unwrap_or_default()
+        );
+    }
+    println!();
+}
