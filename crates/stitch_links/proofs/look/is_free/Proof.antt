@@ -1,0 +1,19 @@
+use Rattle.basis.specs.Choice.{cases}
+use Rattle.stitch_run.specs.Run.{free}
+use borrow.Author.Needs.{needs}
+use Rattle.stitch_links.proofs.look.is_free.Statement.{statement}
+use Rattle.stitch_links.proofs.look.is_free.Tie as tie
+
+shared-slice-read-if1 : tie.Need-shared-slice-read-if1
+shared-slice-read-if1 c = search needs
+
+returns : tie.Need-returns
+unfolding free
+returns c = search (needs, cases)
+
+returns-2 : tie.Need-returns-2
+unfolding free
+returns-2 c = search (needs, cases)
+
+pub is-free-spec : {M : Type 1} → statement M
+is-free-spec = tie.close (tie.spec shared-slice-read-if1 returns returns-2)
