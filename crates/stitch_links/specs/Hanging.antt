@@ -37,10 +37,11 @@ pub record Hanged (points : List Float) (link : List ℕ) (p : Plan) (w : Layout
   pub laid : Laid w (p .slices) (p .starts)
   pub linked : 0 < w .lists → Linked everFree (homeOf points w) (w .lists) (w .count) link
 
-module _ (points : List Float) (link : List ℕ) (p : Plan) (lists : ℕ) (h : Hangable points link p lists) (w : Layout) (l : LaidBy w lists (p .slices) (p .starts)) where
-  pub hang-none : lists ≡ 0 → Hanged points link p w
-  hang-none e = record { laid = l .laid; linked = λ s. absurd (omega (arith, l .by)) }
+-- with no lists nothing hangs
+pub hang-none : (points : List Float) (link : List ℕ) (p : Plan) (w : Layout) → LaidBy w 0 (p .slices) (p .starts) → Hanged points link p w
+hang-none points link p w l = record { laid = l .laid; linked = λ s. absurd (omega (arith, l .by)) }
 
+module _ (points : List Float) (link : List ℕ) (p : Plan) (lists : ℕ) (h : Hangable points link p lists) (w : Layout) (l : LaidBy w lists (p .slices) (p .starts)) where
   pub hang-empty : (lists ≡ 0 → ⊥) → Empty points w link
   hang-empty e =
       let b = l .by in
@@ -58,8 +59,7 @@ module _ (points : List Float) (link : List ℕ) (p : Plan) (lists : ℕ) (h : H
         none = λ i d. omega (arith, h .none i (omega arith));
       }
 
-  pub hang-linked : (link′ : List ℕ) → Linked everFree (homeOf points w) (w .lists) (w .count) link′ → Hanged points link′ p w
-  hang-linked link′ k = record { laid = l .laid; linked = λ s. k }
+pub ruleset hanging = (hang-none, hang-empty)
 
 -- the first look finds all slices on their lists
 pub hanged-between : (points : List Float) (link : List ℕ) (p : Plan) (w : Layout) (visited : List Bool) → Hanged points link p w → Between points visited w link (p .slices) (p .starts)
