@@ -12,7 +12,6 @@ use Rattle.select.specs.declared.class.Starts.{Starts}
 use Rattle.select.specs.declared.best.Selected.{Selected}
 use Rattle.select.specs.declared.best.Selected.the-variants.{Slice, NoSlice}
 use Rattle.select.specs.Select.{noNumber, classOf, preferenceOf, suitsOf, orElse, choose, choicesOf, pickOf, selectOf}
-use Rattle.select.specs.SelectLaws.{class-few}
 use Rattle.stitch_links.specs.declared.layout.Layout.{Layout}
 use Rattle.stitch_links.specs.Slices.{groupOf, lowestOf}
 use Rattle.stitch_links.specs.BlockLaws.{lowest-none}
@@ -49,6 +48,17 @@ module _ (a b o y : ℕ) (none : eqb a noNumber ≡ true → eqb b noNumber ≡ 
       by-test (eqb a noNumber)
       (λ e. by-test (eqb b noNumber) (λ f. rw (none e f, e, f) (by-test (eqb o noNumber) (λ g. rw g) (λ g. rw g))) (λ f. rw (other e f, e, f)))
       (λ e. rw (some e, e))
+
+-- there are four classes
+class-few : (s : Starts) (i k : ℕ) → k ≡ classOf s i → k < 4
+unfolding classOf
+class-few s i k e = rw e (few (ltb i (s .pline2)) (ltb i (s .«pline1_overlapping»)) (ltb i (s .«pline2_overlapping»)))
+  where
+    few : (a b c : Bool) → cond a 0 (cond b 1 (cond c 2 3)) < 4
+    few true b c = omega arith
+    few false true c = omega arith
+    few false false true = omega arith
+    few false false false = omega arith
 
 module _ (p : ℕ → Bool) (w : Layout) (s : Starts) (n : ℕ) (few : n ≤ mostSlices) (k : Classed w s) where
   abbrev X : ℕ → ℕ
