@@ -1,5 +1,6 @@
 // The stitch over lists that have been looked at: what it writes into the lent room and what it reports.
 ghost use mathlib.Core.Path.{_≡_};
+ghost use Prim.Native.Nat.{_≤_};
 ghost use Rattle.stitch_run.specs.Stitch.{given, needOf};
 ghost use Rattle.stitch.specs.Lent.{lists, NeedFit, RestFit, RestCleared, StitchFit, Few, Tabled, Written};
 use crate::turn;
@@ -7,6 +8,7 @@ use crate::turn::Tally;
 use basis::room;
 use basis::sizes::MOST_SLICES;
 use slice::data::CODE_WIDTH;
+use stitch_links::hang;
 use stitch_round::slices;
 use stitch_run::plan::Plan;
 
@@ -56,10 +58,12 @@ fn clear_rest(
     room::clear_counts(chain_how, w.chains, count);
 }
 
-// The stitch by a table of start points and marks that are long enough. Nothing has been visited.
+// The stitch by a table of start points, marks, and links for so many lists, that are long enough. Nothing has been visited, and the lists hold nothing.
 fn write_with(
     points: &mut [f64],
     visited: &mut [bool],
+    link: &mut [usize],
+    held: usize,
     outline1: &[f64],
     outline2: &[f64],
     slice_at: &[usize],
@@ -71,12 +75,14 @@ fn write_with(
     chain_ends: &mut [usize],
     chain_how: &mut [usize],
 ) -> Stitched
-    requires { ⌜ Tabled (given (now outline1) (now outline2) (now «slice_at») (now slice) p) (now points) (now visited) (lists (now room) (now ends) (now chain) (now «chain_ends») (now «chain_how»)) ⌝ }
+    requires { ⌜ Tabled (given (now outline1) (now outline2) (now «slice_at») (now slice) p) (now points) (now visited) (now link) held (lists (now room) (now ends) (now chain) (now «chain_ends») (now «chain_how»)) ⌝ }
     ensures { λ r. ⌜ Written (given (now (outline1 .entry)) (now (outline2 .entry)) (now («slice_at» .entry)) (now (slice .entry)) p) (lists (now (room .entry)) (now (ends .entry)) (now (chain .entry)) (now («chain_ends» .entry)) (now («chain_how» .entry))) r (lists (now (room .exit)) (now (ends .exit)) (now (chain .exit)) (now («chain_ends» .exit)) (now («chain_how» .exit))) ⌝ }
 {
     slices::fill_points(points, outline1, outline2, slice_at, slice, p);
+    let layout = hang::hang(points, link, p, held);
     let w = turn::take_turns(
         visited,
+        link,
         room,
         ends,
         chain,
@@ -87,6 +93,7 @@ fn write_with(
         slice_at,
         slice,
         points,
+        layout,
         p,
     );
     let need = room_need(slice_at, p.slices);
@@ -100,6 +107,19 @@ fn write_with(
 
 // For so many slices the working lists are small, and cost little to set up.
 const FEW: usize = 64;
+
+// For so many a scan is as fast as lists of cells.
+const SCANNED: usize = 12;
+
+// How many lists few slices hang on.
+fn few_lists(count: usize) -> usize
+    ensures { λ r. ⌜ r ≤ 64 ⌝ }
+{
+    if count <= SCANNED { 0 } else { FEW }
+}
+
+// How many lists the most hang on.
+const MOST_LISTS: usize = 2048;
 
 fn write_few(
     outline1: &[f64],
@@ -118,9 +138,12 @@ fn write_few(
 {
     let mut points = [0.0; 2 * FEW];
     let mut visited = [false; FEW];
+    let mut link = [2 * FEW; 2 * FEW];
     write_with(
         &mut points,
         &mut visited[..p.slices],
+        &mut link,
+        few_lists(p.slices),
         outline1,
         outline2,
         slice_at,
@@ -152,9 +175,12 @@ fn write_many(
 {
     let mut points = [0.0; 2 * MOST_SLICES];
     let mut visited = [false; MOST_SLICES];
+    let mut link = [MOST_LISTS + MOST_SLICES; MOST_LISTS + MOST_SLICES];
     write_with(
         &mut points,
         &mut visited[..p.slices],
+        &mut link,
+        MOST_LISTS,
         outline1,
         outline2,
         slice_at,
