@@ -292,4 +292,4 @@ module _ (o1 o2 : List Float) (at : List ℕ) (numbers : List Float) (p : Plan) 
             size = t .size;
           }
 
-pub ruleset walking = (open-place, walk-start, walk-look, walk-more)
+pub ruleset walking = (open-place, walk-start, walk-more)
