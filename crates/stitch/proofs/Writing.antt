@@ -22,7 +22,7 @@ use Rattle.stitch_run.specs.StitchLaws.{among}
 use Rattle.stitch_run.specs.Demand3Theorems.{room-items, end-items, chain-items, how-items, chains-at-most, loops-at-most}
 use Rattle.stitch_links.specs.declared.layout.Layout.{Layout}
 use Rattle.stitch_links.specs.Hung.{Between}
-use Rattle.stitch_links.specs.Hanging.{Hangable, Hanged, hanged-between}
+use Rattle.stitch_links.specs.Hanging.{Hanged, hanged-between}
 use Rattle.stitch_round.specs.Ready.{Sound, Points}
 use Rattle.stitch_chain.specs.Ready.{Begun, chainsTo}
 use Rattle.stitch.specs.Lent.{Lists, Long, Holds, TurnFit, Turned, TurnsFit, AllTurned, NeedFit, RestFit, RestCleared, StitchFit, Few, Tabled, Written}
@@ -222,12 +222,6 @@ tabled-of most full held g x f points visited link e m l h s =
 
 pub few-of : (g : Given) (x : Lists) → StitchFit g x → Few mostSlices g x
 few-of g x f = record { fit = f; few = f .sound .few }
-
--- the slices hang on their lists once their start points are known
-pub hang-fit : (o1 o2 : List Float) (at : List ℕ) (numbers : List Float) (p : Plan) (points points′ : List Float) (visited : List Bool) (link : List ℕ) (held : ℕ) (x : Lists)
-    → Tabled (given o1 o2 at numbers p) points visited link held x → Points (given o1 o2 at numbers p) points′ → Hangable points′ link p held
-hang-fit o1 o2 at numbers p points points′ visited link held x d t =
-    record { far = record { size = t .size; few = d .fit .sound .few }; laying = record { small = d .small }; long = d .long; none = d .none }
 
 pub begin-turns : (o1 o2 : List Float) (at : List ℕ) (numbers : List Float) (p : Plan) (points points′ : List Float) (visited : List Bool) (link link′ : List ℕ) (held : ℕ) (by : Layout) (x : Lists)
     → Tabled (given o1 o2 at numbers p) points visited link held x → Points (given o1 o2 at numbers p) points′ → Hanged points′ link′ p by → TurnsFit (given o1 o2 at numbers p) points′ by visited link′ x

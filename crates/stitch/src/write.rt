@@ -1,6 +1,5 @@
 // The stitch over lists that have been looked at: what it writes into the lent room and what it reports.
 ghost use mathlib.Core.Path.{_≡_};
-ghost use Prim.Native.Nat.{_≤_};
 ghost use Rattle.stitch_run.specs.Stitch.{given, needOf};
 ghost use Rattle.stitch.specs.Lent.{lists, NeedFit, RestFit, RestCleared, StitchFit, Few, Tabled, Written};
 use crate::turn;
@@ -105,21 +104,49 @@ fn write_with(
     }
 }
 
-// For so many slices the working lists are small, and cost little to set up.
-const FEW: usize = 64;
+// So many slices are scanned: that is as fast as lists of cells.
+const SCANNED: usize = 16;
 
-// For so many a scan is as fast as lists of cells.
-const SCANNED: usize = 12;
-
-// How many lists few slices hang on.
-fn few_lists(count: usize) -> usize
-    ensures { λ r. ⌜ r ≤ 64 ⌝ }
+fn write_scanned(
+    outline1: &[f64],
+    outline2: &[f64],
+    slice_at: &[usize],
+    slice: &[f64],
+    p: Plan,
+    room: &mut [f64],
+    ends: &mut [usize],
+    chain: &mut [usize],
+    chain_ends: &mut [usize],
+    chain_how: &mut [usize],
+) -> Stitched
+    requires { ⌜ Few 16 (given (now outline1) (now outline2) (now «slice_at») (now slice) p) (lists (now room) (now ends) (now chain) (now «chain_ends») (now «chain_how»)) ⌝ }
+    ensures { λ r. ⌜ Written (given (now (outline1 .entry)) (now (outline2 .entry)) (now («slice_at» .entry)) (now (slice .entry)) p) (lists (now (room .entry)) (now (ends .entry)) (now (chain .entry)) (now («chain_ends» .entry)) (now («chain_how» .entry))) r (lists (now (room .exit)) (now (ends .exit)) (now (chain .exit)) (now («chain_ends» .exit)) (now («chain_how» .exit))) ⌝ }
 {
-    if count <= SCANNED { 0 } else { FEW }
+    let mut points = [0.0; 2 * SCANNED];
+    let mut visited = [false; SCANNED];
+    let mut link = [SCANNED; SCANNED];
+    write_with(
+        &mut points,
+        &mut visited[..p.slices],
+        &mut link,
+        0,
+        outline1,
+        outline2,
+        slice_at,
+        slice,
+        p,
+        room,
+        ends,
+        chain,
+        chain_ends,
+        chain_how,
+    )
 }
 
-// How many lists the most hang on.
-const MOST_LISTS: usize = 2048;
+// So many slices have small working lists, which cost little to set up: as many lists as slices.
+const FEW: usize = 64;
+
+const FEW_LINKS: usize = 128;
 
 fn write_few(
     outline1: &[f64],
@@ -138,12 +165,12 @@ fn write_few(
 {
     let mut points = [0.0; 2 * FEW];
     let mut visited = [false; FEW];
-    let mut link = [2 * FEW; 2 * FEW];
+    let mut link = [FEW_LINKS; FEW_LINKS];
     write_with(
         &mut points,
         &mut visited[..p.slices],
         &mut link,
-        few_lists(p.slices),
+        FEW,
         outline1,
         outline2,
         slice_at,
@@ -157,7 +184,11 @@ fn write_few(
     )
 }
 
-// The same by lists for the most.
+// Lists for the most.
+const MOST_LISTS: usize = 2048;
+
+const MOST_LINKS: usize = 3840;
+
 fn write_many(
     outline1: &[f64],
     outline2: &[f64],
@@ -175,7 +206,7 @@ fn write_many(
 {
     let mut points = [0.0; 2 * MOST_SLICES];
     let mut visited = [false; MOST_SLICES];
-    let mut link = [MOST_LISTS + MOST_SLICES; MOST_LISTS + MOST_SLICES];
+    let mut link = [MOST_LINKS; MOST_LINKS];
     write_with(
         &mut points,
         &mut visited[..p.slices],
@@ -210,6 +241,20 @@ pub fn write_stitch(
     requires { ⌜ StitchFit (given (now outline1) (now outline2) (now «slice_at») (now slice) p) (lists (now room) (now ends) (now chain) (now «chain_ends») (now «chain_how»)) ⌝ }
     ensures { λ r. ⌜ Written (given (now (outline1 .entry)) (now (outline2 .entry)) (now («slice_at» .entry)) (now (slice .entry)) p) (lists (now (room .entry)) (now (ends .entry)) (now (chain .entry)) (now («chain_ends» .entry)) (now («chain_how» .entry))) r (lists (now (room .exit)) (now (ends .exit)) (now (chain .exit)) (now («chain_ends» .exit)) (now («chain_how» .exit))) ⌝ }
 {
+    if p.slices <= SCANNED {
+        return write_scanned(
+            outline1,
+            outline2,
+            slice_at,
+            slice,
+            p,
+            room,
+            ends,
+            chain,
+            chain_ends,
+            chain_how,
+        );
+    }
     if p.slices <= FEW {
         return write_few(
             outline1,
