@@ -268,7 +268,7 @@ fn extreme(slices: Slices) -> Job {
 type MakeJob = fn(usize) -> Job;
 
 /// A name, how it is made, and up to which size.
-const JOBS: [(&str, MakeJob, usize); 7] = [
+const JOBS: [(&str, MakeJob, usize); 13] = [
     (
         "star, union",
         |n| pruned(shapes::star(n), UNION),
@@ -302,6 +302,36 @@ const JOBS: [(&str, MakeJob, usize); 7] = [
     (
         "all at one point",
         |n| extreme(shapes::one_point(n)),
+        MOST_SLICES,
+    ),
+    (
+        "one chain, shuffled",
+        |n| extreme(shapes::shuffled(n)),
+        MOST_SLICES,
+    ),
+    (
+        "two vertical sides",
+        |n| extreme(shapes::two_sides(n)),
+        MOST_SLICES,
+    ),
+    (
+        "all on one line",
+        |n| extreme(shapes::one_line(n)),
+        MOST_SLICES,
+    ),
+    (
+        "two rings of equal radii",
+        |n| extreme(shapes::equal_rings(n)),
+        MOST_SLICES,
+    ),
+    (
+        "all begin at one point",
+        |n| extreme(shapes::one_start(n)),
+        MOST_SLICES,
+    ),
+    (
+        "comb from the other side, union",
+        |n| pruned(shapes::other_comb(n), UNION),
         MOST_SLICES,
     ),
 ];

@@ -68,9 +68,7 @@ pub fn walk_chain(
     loop {
         chain[rounds] = current;
         rounds += 1;
-        match step::next_of(
-            points, visited, link, layout, room, n, first, current, p,
-        ) {
+        match step::next_of(points, visited, link, layout, room, n, first, current, p) {
             Step::Onto(j) => {
                 n = place(
                     visited,

@@ -14,7 +14,6 @@ use Rattle.basis.specs.Sizes.{mostSlices}
 use Rattle.select.specs.Select.{noNumber}
 use Rattle.basis.specs.Choice.{or-left, or-right}
 use Rattle.stitch_run.specs.Run.{free}
-
 use Rattle.stitch_links.specs.Links.{Next, placeOf, Linked, Linking, everFree, Found, Looked}
 
 -- ---- what is free only gets less: the lists stay good
