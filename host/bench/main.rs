@@ -1,7 +1,7 @@
 //! Our stages and the original's, timed side by side on the same inputs in one run.
 //!
 //! `bench FILE.svg` prints tables of ratios, and writes the plot of times against sizes to the file.
-//! `bench once` is what it starts, some times over.
+//! `bench once` is what it starts, some times over; `bench once stitch` times the stitch alone.
 //! `bench repeat STAGE INPUT SIZE` makes one of our calls again and again, for a profiler.
 
 mod ours;
@@ -601,7 +601,10 @@ fn main() {
             repeat(stage, input, number(size), Some(number(calls)));
         }
         ["once"] => time_all(),
+        ["once", "stitch"] => stitch(),
         [to] => compare(to),
-        _ => panic!("usage: bench FILE.svg, bench once, or bench repeat STAGE INPUT SIZE [CALLS]"),
+        _ => panic!(
+            "usage: bench FILE.svg, bench once [stitch], or bench repeat STAGE INPUT SIZE [CALLS]"
+        ),
     }
 }

@@ -160,7 +160,9 @@ pub fn shuffled(count: usize) -> Slices {
     let mut order: Vec<usize> = (0..count).collect();
     let mut seed = 0x9e37_79b9_7f4a_7c15_u64;
     for i in (1..count).rev() {
-        seed = seed.wrapping_mul(6364136223846793005).wrapping_add(1442695040888963407);
+        seed = seed
+            .wrapping_mul(6364136223846793005)
+            .wrapping_add(1442695040888963407);
         order.swap(i, (seed >> 33) as usize % (i + 1));
     }
     chain_by(&order, |i| on_circle(i, count))

@@ -22,7 +22,7 @@ use Rattle.stitch_links.specs.Links.{Linked}
 use Rattle.stitch_links.specs.Ready.{ScanFit, Lookable}
 use Rattle.stitch_links.specs.Hung.{Hung}
 use Rattle.stitch_answer.specs.declared.answer.Answer.{Answer}
-use Rattle.stitch_answer.specs.declared.answer.Answer.the-variants.{Chosen, NoCandidate, NoChoice}
+use Rattle.stitch_answer.specs.declared.answer.Answer.the-variants.{NoCandidate, Asked}
 
 -- slice j is a candidate of the end
 abbrev pub nearEnd : List Float → List Bool → ℕ → Point → Tolerance → ℕ → Bool
@@ -32,13 +32,9 @@ abbrev pub hasAny : List ℕ → Bool
 hasAny [] = false
 hasAny (j ∷ l) = true
 
-abbrev pub selectionOf : Selected → Answer
-selectionOf (Slice j) = Chosen j
-selectionOf NoSlice = NoChoice
-
 -- no candidate, or what the selector answers among them
 unfoldable pub answerOf : ℕ → Starts → ℕ → List ℕ → Answer
-answerOf selector s current l = cond (hasAny l) (selectionOf (selectOf selector s current l)) NoCandidate
+answerOf selector s current l = cond (hasAny l) (Asked (selectOf selector s current l)) NoCandidate
 
 -- the same of the candidates of an end, for a plan
 abbrev pub answerAt : List Float → List Bool → ℕ → ℕ → Point → Plan → Answer
@@ -55,7 +51,7 @@ refusedOf selector class = eqb selector 1 && leb 2 class
 
 -- a of the group that is looked for first, b of the other, o of the overlaps
 unfoldable pub inOrder : Bool → ℕ → ℕ → ℕ → Answer
-inOrder refused a b o = cond (eqb a noNumber) (cond (eqb b noNumber) (cond (eqb o noNumber) NoCandidate (cond refused NoChoice (Chosen o))) (Chosen b)) (Chosen a)
+inOrder refused a b o = cond (eqb a noNumber) (cond (eqb b noNumber) (cond (eqb o noNumber) NoCandidate (cond refused (Asked NoSlice) (Asked (Slice o)))) (Asked (Slice b))) (Asked (Slice a))
 
 -- slice j passes, and is of a group
 abbrev pub inGroup : (ℕ → Bool) → Layout → ℕ → ℕ → Bool

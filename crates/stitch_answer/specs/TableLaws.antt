@@ -16,14 +16,14 @@ use Rattle.stitch_links.specs.declared.layout.Layout.{Layout}
 use Rattle.stitch_links.specs.Slices.{groupOf, lowestOf}
 use Rattle.stitch_links.specs.BlockLaws.{lowest-none}
 use Rattle.stitch_answer.specs.declared.answer.Answer.{Answer}
-use Rattle.stitch_answer.specs.declared.answer.Answer.the-variants.{Chosen, NoCandidate, NoChoice}
-use Rattle.stitch_answer.specs.Answer.{hasAny, selectionOf, answerOf, groupFirst, refusedOf, inOrder, inGroup, Classed}
+use Rattle.stitch_answer.specs.declared.answer.Answer.the-variants.{NoCandidate, Asked}
+use Rattle.stitch_answer.specs.Answer.{hasAny, answerOf, groupFirst, refusedOf, inOrder, inGroup, Classed}
 use Rattle.stitch_answer.specs.GroupLaws.{selectedOf, first-lowest, any-lowest, lowest-same, rest, only-0, only-1, some-any}
 
 -- ---- three rows of choices, over numbers: a and b the lowest of the preferred outline and of the other, o of the overlaps, y of all
 module _ (a b o y : ℕ) (none : eqb a noNumber ≡ true → eqb b noNumber ≡ true → y ≡ o) (other : eqb a noNumber ≡ true → eqb b noNumber ≡ false → y ≡ b) (some : eqb a noNumber ≡ false → eqb y noNumber ≡ false) where
   abbrev pickedOf : Selected → Selected → Answer
-  pickedOf u v = cond (not (eqb y noNumber)) (selectionOf (orElse (selectedOf a) (orElse u v))) NoCandidate
+  pickedOf u v = cond (not (eqb y noNumber)) (Asked (orElse (selectedOf a) (orElse u v))) NoCandidate
 
   -- the preferred, the other, any
   pub row-any : pickedOf (selectedOf b) (selectedOf y) ≡ inOrder false a b o
@@ -105,7 +105,7 @@ module _ (p : ℕ → Bool) (w : Layout) (s : Starts) (n : ℕ) (few : n ≤ mos
 
   -- ---- the table's eight rows
   table : (selector class : ℕ) → selector < 2 → class < 4
-      → cond (not (eqb (lowestOf p n) noNumber)) (selectionOf (orElse (choose s (preferenceOf selector class 0) (passing p n)) (orElse (choose s (preferenceOf selector class 1) (passing p n)) (choose s (preferenceOf selector class 2) (passing p n))))) NoCandidate
+      → cond (not (eqb (lowestOf p n) noNumber)) (Asked (orElse (choose s (preferenceOf selector class 0) (passing p n)) (orElse (choose s (preferenceOf selector class 1) (passing p n)) (choose s (preferenceOf selector class 2) (passing p n))))) NoCandidate
       ≡ inOrder (refusedOf selector class) (X (groupFirst class)) (X (1 - groupFirst class)) (X 2)
   unfolding preferenceOf
   table zero zero h l = rw (choose-2, choose-1, choose-any) (row-any (X 1) (X 0) (X 2) (lowestOf p n) (λ a b. rest p w n few b a) (only-0 p w n few) (some-any p w n few 1))

@@ -3,6 +3,7 @@ ghost use mathlib.Core.Path.{_≡_};
 ghost use Rattle.stitch_answer.specs.Answer.{groupFirst, refusedOf, grouped, Ready, Grouped, Asking, Answered};
 use outline::point::Point;
 use select::best::NO_NUMBER;
+use select::best::Selected;
 use select::class;
 use select::class::Starts;
 use stitch_links::layout::Layout;
@@ -10,10 +11,10 @@ use stitch_links::look;
 use stitch_links::look::Query;
 use stitch_run::plan::Plan;
 
+// The selector is asked where there is a candidate.
 pub enum Answer {
-    Chosen(usize),
     NoCandidate,
-    NoChoice,
+    Asked(Selected),
 }
 
 // After outline 1 or an overlap of it, outline 2 is looked for first.
@@ -65,20 +66,20 @@ fn by_groups(
     let g = group_first(class);
     let a = look::lowest(points, visited, link, w, of_group(q, g), c);
     if a != NO_NUMBER {
-        return Answer::Chosen(a);
+        return Answer::Asked(Selected::Slice(a));
     }
     let b = look::lowest(points, visited, link, w, of_group(q, 1 - g), c);
     if b != NO_NUMBER {
-        return Answer::Chosen(b);
+        return Answer::Asked(Selected::Slice(b));
     }
     let o = look::lowest(points, visited, link, w, of_group(q, 2), c);
     if o == NO_NUMBER {
         return Answer::NoCandidate;
     }
     if is_refused(selector, class) {
-        return Answer::NoChoice;
+        return Answer::Asked(Selected::NoSlice);
     }
-    Answer::Chosen(o)
+    Answer::Asked(Selected::Slice(o))
 }
 
 // The candidates of an end, and the selector's answer after the slice that was joined last.

@@ -17,8 +17,8 @@ use Rattle.stitch_vertices.specs.RestLaws.{chain-length, chain-last}
 use Rattle.stitch_run.specs.declared.plan.Plan.{Plan}
 use Rattle.stitch_links.specs.declared.layout.Layout.{Layout}
 use Rattle.stitch_answer.specs.declared.answer.Answer.{Answer}
-use Rattle.stitch_answer.specs.declared.answer.Answer.the-variants.{Chosen, NoCandidate, NoChoice}
-use Rattle.stitch_answer.specs.Answer.{nearEnd, selectionOf, answerOf, answerAt, Asking, Answered}
+use Rattle.stitch_answer.specs.declared.answer.Answer.the-variants.{NoCandidate, Asked}
+use Rattle.stitch_answer.specs.Answer.{nearEnd, answerOf, answerAt, Asking, Answered}
 use Rattle.stitch_round.specs.declared.step.Step.{Step}
 use Rattle.stitch_round.specs.declared.step.Step.the-variants.{Onto, Ends}
 use Rattle.stitch_run.specs.Run.{Rules, onto, ends, closed, tooSmall, passing, free, candidate, candidatesOf, taken, answered, asked, nextOf}
@@ -28,18 +28,18 @@ use Rattle.stitch_round.specs.Ready.{Points, toldOf, stepOf, comesTo, Ro
 
 -- what each answer comes to
 module _ (n first : ℕ) (a : Answer) where
-  pub step-chosen : (j : ℕ) (r : Step) → a ≡ Chosen j → r ≡ stepOf n first j → r ≡ comesTo n first a
-  step-chosen j r e q = q ∙ ap (comesTo n first) (sym e)
-
   pub step-none : a ≡ NoCandidate → Ends 2 ≡ comesTo n first a
   unfolding howOf
   step-none e = ap (comesTo n first) (sym e)
 
-  pub step-no : a ≡ NoChoice → Ends 3 ≡ comesTo n first a
+  pub step-no : (z : Selected) → a ≡ Asked z → z ≡ NoSlice → Ends 3 ≡ comesTo n first a
   unfolding howOf
-  step-no e = ap (comesTo n first) (sym e)
+  step-no z e f = ap (λ (y : Selected). comesTo n first (Asked y)) (sym f) ∙ ap (comesTo n first) (sym e)
 
-pub ruleset stepping = (step-chosen, step-none, step-no)
+  pub step-chosen : (z : Selected) (j : ℕ) (r : Step) → a ≡ Asked z → z ≡ Slice j → r ≡ stepOf n first j → r ≡ comesTo n first a
+  step-chosen z j r e f q = q ∙ ap (λ (y : Selected). comesTo n first (Asked y)) (sym f) ∙ ap (comesTo n first) (sym e)
+
+pub ruleset stepping = (step-none, step-no, step-chosen)
 
 module _ (points : List Float) (visited : List Bool) (link : List ℕ) (w : Layout) (room : List Float) (n first : ℕ) (p : Plan) (f : RoundFit points visited link w room n first p) where
   -- what lists of cells ask
@@ -78,7 +78,7 @@ module _ (points : List Float) (visited : List Bool) (room : List Float) (n firs
       go true false = refl
       go false b = refl
 
-  answered-is : (z : Selected) → comesTo n first (selectionOf z) ≡ toldOf (answered (rulesOf g) first (chainOf room n) z)
+  answered-is : (z : Selected) → comesTo n first (Asked z) ≡ toldOf (answered (rulesOf g) first (chainOf room n) z)
   unfolding answered howOf
   answered-is (Slice j) = taken-is j
   answered-is NoSlice = refl

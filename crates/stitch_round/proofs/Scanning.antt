@@ -16,13 +16,11 @@ use Rattle.select.specs.declared.class.Starts.{Starts}
 use Rattle.select.specs.declared.table.Choices.{Choices}
 use Rattle.select.specs.declared.best.Best.{Best}
 use Rattle.select.specs.declared.best.Selected.{Selected}
-use Rattle.select.specs.declared.best.Selected.the-variants.{Slice, NoSlice}
 use Rattle.select.specs.Select.{classOf, choicesOf, noneYet, offerOf, chosenOf, Scanned}
 use Rattle.select.specs.SelectLaws as select
 use Rattle.stitch_run.specs.Run.{passing}
-use Rattle.stitch_answer.specs.declared.answer.Answer.{Answer}
-use Rattle.stitch_answer.specs.declared.answer.Answer.the-variants.{Chosen, NoCandidate, NoChoice}
-use Rattle.stitch_answer.specs.Answer.{hasAny, selectionOf, answerOf}
+use Rattle.stitch_answer.specs.declared.answer.Answer.the-variants.{NoCandidate, Asked}
+use Rattle.stitch_answer.specs.Answer.{hasAny, answerOf}
 use Rattle.stitch_round.specs.declared.scan.Seen.{Seen}
 use Rattle.stitch_round.specs.Ready.{Met}
 
@@ -83,16 +81,10 @@ module _ (p : ℕ → Bool) (s : Starts) (selector current n : ℕ) (c : Choices
   unfolding answerOf
   answer-none h = rw (sym (m .any) ∙ not-true (seen .any) h)
 
-  selected : (z : Selected) → not (seen .any) ≡ false → z ≡ chosenOf (seen .best) → selectionOf z ≡ answerOf selector s current (passing p n)
+  pub answer-asked : (z : Selected) → not (seen .any) ≡ false → z ≡ chosenOf (seen .best) → Asked z ≡ answerOf selector s current (passing p n)
   unfolding answerOf
-  selected z h q =
+  answer-asked z h q =
       rw (sym (m .any) ∙ not-false (seen .any) h)
-      (ap selectionOf (select.scan-select selector s current c (passing p n) z e (select.scan-end c s (passing p n) (seen .best) z (m .best) q)))
+      (ap (λ (y : Selected). Asked y) (select.scan-select selector s current c (passing p n) z e (select.scan-end c s (passing p n) (seen .best) z (m .best) q)))
 
-  pub answer-no : (z : Selected) → not (seen .any) ≡ false → z ≡ chosenOf (seen .best) → z ≡ NoSlice → NoChoice ≡ answerOf selector s current (passing p n)
-  answer-no z h q f = ap selectionOf (sym f) ∙ selected z h q
-
-  pub answer-slice : (z : Selected) (j : ℕ) → not (seen .any) ≡ false → z ≡ chosenOf (seen .best) → z ≡ Slice j → Chosen j ≡ answerOf selector s current (passing p n)
-  answer-slice z j h q f = ap selectionOf (sym f) ∙ selected z h q
-
-pub ruleset answering = (answer-none, answer-no, answer-slice)
+pub ruleset answering = (answer-none, answer-asked)

@@ -11,6 +11,7 @@ use Rattle.basis.specs.Sizes.{mostSlices}
 use Rattle.outline.specs.declared.point.Vertex.{Vertex}
 use Rattle.view.specs.View.{Fit}
 use Rattle.select.specs.declared.class.Starts.{Starts}
+use Rattle.select.specs.declared.best.Selected.the-variants.{Slice, NoSlice}
 use Rattle.select.specs.declared.table.Choices.{Choices}
 use Rattle.select.specs.Select.{Scanned}
 use Rattle.stitch_vertices.specs.Held.{chainOf, Grown}
@@ -22,7 +23,7 @@ use Rattle.stitch_links.specs.declared.layout.Layout.{Layout}
 use Rattle.stitch_links.specs.Ready.{There, Marked, ScanFit}
 use Rattle.stitch_links.specs.Hung.{Hung}
 use Rattle.stitch_answer.specs.declared.answer.Answer.{Answer}
-use Rattle.stitch_answer.specs.declared.answer.Answer.the-variants.{Chosen, NoCandidate, NoChoice}
+use Rattle.stitch_answer.specs.declared.answer.Answer.the-variants.{NoCandidate, Asked}
 use Rattle.stitch_answer.specs.Answer.{hasAny}
 use Rattle.stitch_run.specs.Run.{Next, onto, ends, closed, tooSmall, noCandidate, noSelection, Underway, passing, nextOf}
 use Rattle.stitch_run.specs.Stitch.{Given, given, sliceOutline, sliceCount, startPoint, addSlice, rulesOf, howOf}
@@ -89,9 +90,9 @@ stepOf n first j = cond (eqb j first) (cond (ltb n 3) (Ends (howOf tooSmall)) (E
 
 -- what the selector answered, for a chain of n vertices
 abbrev pub comesTo : ℕ → ℕ → Answer → Step
-comesTo n first (Chosen j) = stepOf n first j
 comesTo n first NoCandidate = Ends (howOf noCandidate)
-comesTo n first NoChoice = Ends (howOf noSelection)
+comesTo n first (Asked (Slice j)) = stepOf n first j
+comesTo n first (Asked NoSlice) = Ends (howOf noSelection)
 
 pub record RoundFit (points : List Float) (visited : List Bool) (link : List ℕ) (w : Layout) (room : List Float) (n first : ℕ) (p : Plan) : Type 0 where
   pub scan : ScanFit points visited (p .slices)

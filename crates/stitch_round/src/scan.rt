@@ -14,7 +14,6 @@ use outline::point::Point;
 use outline::read;
 use select::best;
 use select::best::Best;
-use select::best::Selected;
 use select::class;
 use select::class::Starts;
 use select::table;
@@ -107,8 +106,5 @@ pub(crate) fn answer_of(
     if !seen.any {
         return Answer::NoCandidate;
     }
-    let Selected::Slice(j) = best::chosen(seen.best) else {
-        return Answer::NoChoice;
-    };
-    Answer::Chosen(j)
+    Answer::Asked(best::chosen(seen.best))
 }

@@ -8,6 +8,7 @@ ghost use Rattle.stitch_round.specs.Ready.{stepOf, comesTo, RoundFit, Ro
 use crate::scan;
 use outline::point;
 use outline::read;
+use select::best::Selected;
 use stitch_answer::answer;
 use stitch_answer::answer::Answer;
 use stitch_links::layout::Layout;
@@ -45,11 +46,13 @@ fn taken(n: usize, first: usize, j: usize) -> Step
 fn step_of(n: usize, first: usize, answer: Answer) -> Step
     ensures { λ r. ⌜ r ≡ comesTo n first answer ⌝ }
 {
-    match answer {
-        Answer::Chosen(j) => taken(n, first, j),
-        Answer::NoCandidate => Step::Ends(NO_CANDIDATE),
-        Answer::NoChoice => Step::Ends(NO_SELECTION),
-    }
+    let Answer::Asked(selected) = answer else {
+        return Step::Ends(NO_CANDIDATE);
+    };
+    let Selected::Slice(j) = selected else {
+        return Step::Ends(NO_SELECTION);
+    };
+    taken(n, first, j)
 }
 
 // What the selector answers for the last vertex of a chain of n vertices: by lists of cells, or by a scan where the slices hang on no lists.
