@@ -268,7 +268,7 @@ fn extreme(slices: Slices) -> Job {
 type MakeJob = fn(usize) -> Job;
 
 /// A name, how it is made, and up to which size.
-const JOBS: [(&str, MakeJob, usize); 13] = [
+const JOBS: [(&str, MakeJob, usize); 14] = [
     (
         "star, union",
         |n| pruned(shapes::star(n), UNION),
@@ -327,6 +327,11 @@ const JOBS: [(&str, MakeJob, usize); 13] = [
     (
         "all begin at one point",
         |n| extreme(shapes::one_start(n)),
+        MOST_SLICES,
+    ),
+    (
+        "all begin at one point, and end beside it",
+        |n| extreme(shapes::beside_one_start(n)),
         MOST_SLICES,
     ),
     (

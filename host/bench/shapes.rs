@@ -192,8 +192,18 @@ pub fn equal_rings(count: usize) -> Slices {
     slices
 }
 
-/// All slices begin at one point, and end near it, out of reach of the tolerance.
+/// All slices begin at one point, and end around it.
 pub fn one_start(count: usize) -> Slices {
+    let mut slices = Slices::default();
+    for i in 0..count {
+        push_slice(&mut slices, 0, [1.0, 1.0], on_circle(i, count));
+    }
+    slices.starts = [count; 3];
+    slices
+}
+
+/// All slices begin at one point, and end four tolerances beside it, where no slice starts.
+pub fn beside_one_start(count: usize) -> Slices {
     let mut slices = Slices::default();
     for _ in 0..count {
         push_slice(&mut slices, 0, [1.0, 1.0], [1.00004, 1.0]);

@@ -104,8 +104,8 @@ fn write_with(
     }
 }
 
-// So many slices are scanned: that is as fast as lists of cells.
-const SCANNED: usize = 16;
+// So many slices are scanned: that is as fast as lists of cells, and takes less room.
+const SCANNED: usize = 4;
 
 fn write_scanned(
     outline1: &[f64],
@@ -119,7 +119,7 @@ fn write_scanned(
     chain_ends: &mut [usize],
     chain_how: &mut [usize],
 ) -> Stitched
-    requires { ⌜ Few 16 (given (now outline1) (now outline2) (now «slice_at») (now slice) p) (lists (now room) (now ends) (now chain) (now «chain_ends») (now «chain_how»)) ⌝ }
+    requires { ⌜ Few 4 (given (now outline1) (now outline2) (now «slice_at») (now slice) p) (lists (now room) (now ends) (now chain) (now «chain_ends») (now «chain_how»)) ⌝ }
     ensures { λ r. ⌜ Written (given (now (outline1 .entry)) (now (outline2 .entry)) (now («slice_at» .entry)) (now (slice .entry)) p) (lists (now (room .entry)) (now (ends .entry)) (now (chain .entry)) (now («chain_ends» .entry)) (now («chain_how» .entry))) r (lists (now (room .exit)) (now (ends .exit)) (now (chain .exit)) (now («chain_ends» .exit)) (now («chain_how» .exit))) ⌝ }
 {
     let mut points = [0.0; 2 * SCANNED];
@@ -143,7 +143,7 @@ fn write_scanned(
     )
 }
 
-// So many slices have small working lists, which cost little to set up: as many lists as slices.
+// So many slices have small working lists, which cost little to set up: so many lists of cells, and a link for each list and slice.
 const FEW: usize = 64;
 
 const FEW_LINKS: usize = 128;
@@ -184,7 +184,7 @@ fn write_few(
     )
 }
 
-// Lists for the most.
+// The same for the most.
 const MOST_LISTS: usize = 2048;
 
 const MOST_LINKS: usize = 3840;

@@ -17,7 +17,7 @@ slice-aggregate-write-with-2 : tie.Need-slice-aggregate-write-with-2
 slice-aggregate-write-with-2 c =
     let lent = c .before .before .before .before .before in
     let entry = lent .before .before .before .before .before .before in
-    marks-length 16 _ (entry .pre .few)
+    marks-length 4 _ (entry .pre .few)
 
 slice-aggregate-write-with-3 : tie.Need-slice-aggregate-write-with-3
 slice-aggregate-write-with-3 c = search needs
@@ -27,7 +27,7 @@ write-with-requires c κs =
     let made = c .before .before .before .before .before .before .before in
     let lent = made .before .before .before .before in
     let entry = lent .before .before .before .before .before .before in
-    tabled-of 16 16 0 _ _ (entry .pre) _ _ _ (length-replicate 32 +0) refl refl (omega arith) (omega arith)
+    tabled-of 4 4 0 _ _ (entry .pre) _ _ _ (length-replicate 8 +0) refl refl (omega arith) (omega arith)
 
 same-length : tie.Need-same-length
 same-length c = search needs
