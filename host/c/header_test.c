@@ -37,6 +37,10 @@ static void numbers(void)
     check(MASK_MOST_WHOLE == 400000000 && MASK_MOST_WHOLE_DOUBLED == 2 * MASK_MOST_WHOLE &&
               MASK_MOST_OUTLINES == 4096,
           "mask.h: the sizes of masks without arcs");
+    check(MASK_RECORD_MOST_VERTICES == 64 && MASK_RECORD_MOST_SLICES == 28 &&
+              MASK_RECORD_MOST_BYTES == 42 + 24 * 2 * 64 + 58 * 28 &&
+              MASK_RECORD_MOST_ROOM == 1 + 28 * (64 + 1),
+          "mask.h: the sizes of a record of a stitch");
     check(MASK_STORE_PLACES == 1792 && 2 * MASK_STORE_SHARE == MASK_STORE_PLACES, "mask.h: the size of a store");
 }
 
@@ -50,7 +54,9 @@ enum {
     CANDIDATES = MASK_MOST_CANDIDATES,
     SLICES = MASK_MOST_SLICES,
     OUTLINES = MASK_MOST_OUTLINES,
-    PLACES = MASK_STORE_PLACES
+    PLACES = MASK_STORE_PLACES,
+    RECORD_VC = MASK_RECORD_MOST_VERTICES,
+    RECORD_SLICES = MASK_RECORD_MOST_SLICES
 };
 
 static double outline[3 * VC], hit[2 * HITS], lap[6 * LAPS], splits[9 * CUTS];
@@ -67,6 +73,7 @@ static int64_t points[2 * VC], many[2 * 2 * OUTLINES];
 static size_t many_ends[OUTLINES];
 static size_t entered[1];
 static double settings[MASK_WIDTH_SETTINGS * MASK_MOST_SETTINGS];
+static uint8_t bytes[MASK_RECORD_MOST_BYTES];
 static size_t held[PLACES], kept_at[4 * PLACES], handles[PLACES];
 static double kept_slice[6 * PLACES];
 static uint32_t kept_edition[PLACES], list_edition[PLACES];
@@ -220,6 +227,30 @@ static void settings_ask(void)
     refusal = mask_settings_ask(ALL(entered), ALL(settings), MASK_MOST_SETTINGS).refusal;
 }
 
+/* The most that a record holds, with the first vertices and slices; none of the latter meet. */
+static void record_write(void)
+{
+    size_t at[4 * RECORD_SLICES];
+    for (size_t i = 0; i < RECORD_SLICES; i++) {
+        at[4 * i] = 1 + i % 2;
+        at[4 * i + 1] = 1;
+        at[4 * i + 2] = i;
+        at[4 * i + 3] = RECORD_VC;
+    }
+    refusal = mask_record_write(2, outline, 3 * RECORD_VC, RECORD_VC, 0, outline, 3 * RECORD_VC,
+                                RECORD_VC, 0, ALL(at), slice, 6 * RECORD_SLICES, slice_edition,
+                                RECORD_SLICES, RECORD_SLICES, 0, RECORD_SLICES, RECORD_SLICES,
+                                MASK_SELECTOR_NOT_XOR, 1, T, ALL(bytes))
+                  .refusal;
+}
+
+static void record_replay(void)
+{
+    refusal = mask_record_replay(ALL(bytes), ALL(room), ALL(ends), ALL(chain), ALL(chain_ends),
+                                 ALL(chain_how))
+                  .refusal;
+}
+
 static void straight_winding(void)
 {
     refusal = mask_straight_winding(ALL(points), VC, 7, 7).refusal;
@@ -325,6 +356,8 @@ int main(void)
     measure("mask_unmoved", unmoved, MASK_STACK_UNMOVED);
     measure("mask_cut_order", cut_order, MASK_STACK_CUT_ORDER);
     measure("mask_stitch", stitch, MASK_STACK_STITCH); /* before the slices are written over */
+    measure("mask_record_write", record_write, MASK_STACK_RECORD_WRITE);
+    measure("mask_record_replay", record_replay, MASK_STACK_RECORD_REPLAY); /* of what it wrote */
     measure("mask_candidates", candidates, MASK_STACK_CANDIDATES);
     measure("mask_prune", prune, MASK_STACK_PRUNE);
     measure("mask_area_pass", area_pass, MASK_STACK_AREA_PASS);

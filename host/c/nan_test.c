@@ -5,7 +5,8 @@
  * NaNs, quiet and signalling, of several payloads, and is compared as bits: beyond the
  * need after an accepted call, all of it after a refused one. NaNs among the numbers
  * handed in are refused, and leave the room as it was too. Rooms of editions hold bits
- * of their own, and are compared in the same way.
+ * of their own, and are compared in the same way. The room of a replay, which is handed
+ * bytes, is compared so in record_test.c.
  *
  * One line for each check; the status is 0 where none failed. How lists are lent, and
  * what they hold before a call, stands in testing.h.

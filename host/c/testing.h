@@ -29,7 +29,9 @@
     _Static_assert(offsetof(type, field) == (place), #type "." #field " stands elsewhere")
 #define SIZE(type, size) _Static_assert(sizeof(type) == (size), #type " has another size")
 
-/* Every list written has elements of 8 bytes, but for editions. They are compared as words of 64 bits.
+/*
+ * Every list written has elements of 8 bytes, but for editions and the bytes of a record. They are
+ * compared as words of 64 bits.
  */
 SIZE(size_t, 8);
 SIZE(double, 8);
@@ -343,6 +345,44 @@ static inline int editions_as_expected(int list)
 {
     const uint32_t *editions = left_editions(list, want[list].len) - BEFORE;
     return memcmp(editions, want[list].words, 4 * (BEFORE + want[list].len)) == 0;
+}
+
+/* ---- Lists of bytes, in the same way ---- */
+
+static inline void guard_bytes(uint8_t *bytes, size_t len)
+{
+    for (size_t i = 0; i < BEFORE + len; i++)
+        bytes[i] = (uint8_t)(guard_word(i) ^ guard_word(i) >> 56 ^ 0xa5);
+}
+
+static inline uint8_t *lend_byte_room(int list, size_t len)
+{
+    uint8_t *bytes = (uint8_t *)lent[list].end - len;
+    guard_bytes(bytes - BEFORE, len);
+    return len == 0 ? NULL : bytes;
+}
+
+static inline const uint8_t *left_bytes(int list, size_t len)
+{
+    return (const uint8_t *)lent[list].end - len;
+}
+
+static inline void expect_bytes(int list, size_t len)
+{
+    guard_bytes((uint8_t *)want[list].words, len);
+    want[list].len = len;
+    want[list].used = 0;
+}
+
+static inline void put_byte(int list, uint8_t byte)
+{
+    ((uint8_t *)want[list].words)[BEFORE + want[list].used++] = byte;
+}
+
+static inline int bytes_as_expected(int list)
+{
+    const uint8_t *bytes = left_bytes(list, want[list].len) - BEFORE;
+    return memcmp(bytes, want[list].words, BEFORE + want[list].len) == 0;
 }
 
 /* ---- Drawn numbers ---- */

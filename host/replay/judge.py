@@ -1,4 +1,4 @@
-"""An independent reading of a record `PBR` and an independent stitch, written from documents 01 and 02 and from nothing else.
+"""An independent reading of a record `PBR`, of both versions, and an independent stitch, written from documents 01 and 02 and from nothing else.
 
 `answer(data)` gives the lines that the program `replay` has to print for the bytes `data`.
 """
@@ -10,6 +10,14 @@ CLASSES_OR_AND = ([1, 0, "any"], [0, 1, "any"], [1, 0, "any"], [0, 1, "any"])
 CLASSES_NOT_XOR = ([1, "any", "any"], [0, "any", "any"], [1, 0, None], [0, 1, None])
 LIMIT = 2.0**30
 
+# Document 02, K1 and K14: the head, a slice, and the most bytes of each version. Version 2 has both tolerances where the one stood, then two editions; and an
+# edition at the end of a slice.
+FORMS = {
+    1: ("<3s HHH B d HHH H", "<BB HH 6d", 4610),
+    2: ("<3s HHH B dd II HHH H", "<BB HH 6d I", 4738),
+}
+VERTEX = "<3d"
+
 
 class Refused(Exception):
     pass
@@ -19,24 +27,27 @@ def taken(data):
     """The fields of a record, by their places; the faults of documents 02 and 01 in the order in which they are looked at."""
     if len(data) < 5 or data[0:3] != b"PBR":
         raise Refused(11)
-    if data[3] + 256 * data[4] != 1:
+    version = data[3] + 256 * data[4]
+    if version not in FORMS:
         raise Refused(12)
-    if len(data) < 26 or len(data) > 4610:
+    head, entry, most = FORMS[version]
+    if not struct.calcsize(head) <= len(data) <= most:
         raise Refused(13)
-    u16 = lambda at: data[at] | data[at + 1] << 8
-    f64 = lambda at: struct.unpack("<d", data[at : at + 8])[0]
-    vc, selector, tolerance = [u16(5), u16(7)], data[9], f64(10)
-    starts, n = [u16(18), u16(20), u16(22)], u16(24)
-    if len(data) != 26 + 24 * vc[0] + 24 * vc[1] + 54 * n:
+    _, _, one, two, selector, *between, first, second, third, n = struct.unpack_from(head, data)
+    vc, starts = [one, two], [first, second, third]
+    # "a version 1 record reads as equal tolerances and edition 0"
+    tolerances, editions = (between[:2], between[2:]) if version == 2 else (between * 2, [0, 0])
+    at, width, stride = struct.calcsize(head), struct.calcsize(VERTEX), struct.calcsize(entry)
+    if len(data) != at + width * (one + two) + stride * n:
         raise Refused(13)
-    at, outlines = 26, []
+    outlines = []
     for count in vc:
-        outlines.append([(f64(at + 24 * k), f64(at + 24 * k + 8), f64(at + 24 * k + 16)) for k in range(count)])
-        at += 24 * count
+        outlines.append([struct.unpack_from(VERTEX, data, at + width * k) for k in range(count)])
+        at += width * count
     slices = []
     for k in range(n):
-        place = at + 54 * k
-        slices.append((data[place], data[place + 1], u16(place + 2), u16(place + 4), [f64(place + 6 + 8 * i) for i in range(6)]))
+        source, inverted, start, offset, *numbers = struct.unpack_from(entry, data, at + stride * k)
+        slices.append((source, inverted, start, offset, numbers[:6], numbers[6] if version == 2 else 0))
 
     def bad(x):
         return not math.isfinite(x) or abs(x) > LIMIT
@@ -45,21 +56,22 @@ def taken(data):
         (1, n > 28),
         (2, any(c < 2 or c > 64 for c in vc)),
         (3, selector > 1 or any(s[0] not in (1, 2) or s[1] > 1 for s in slices)),
-        (4, not 0 < tolerance <= 1),
+        (4, any(not 0 < t <= 1 for t in tolerances)),
         (5, any(bad(x) for o in outlines for v in o for x in v) or any(bad(x) for s in slices for x in s[4])),
         (6, any(s[2] >= vc[s[0] - 1] for s in slices if s[0] in (1, 2))),
         (7, any(s[3] > vc[s[0] - 1] for s in slices if s[0] in (1, 2))),
         (8, not starts[0] <= starts[1] <= starts[2] <= n),
+        (14, any(s[5] != editions[s[0] - 1] for s in slices if s[0] in (1, 2))),
     ]
     for number, there in faults:
         if there:
             raise Refused(number)
-    return outlines, slices, starts, selector, tolerance
+    return outlines, slices, starts, selector, tolerances
 
 
 def view(outline, piece):
     """The vertices of a slice's view, forward or inverted: document 01, "Vertices of a view"."""
-    _, inverted, start, offset, (x, y, bulge, end_bulge, ex, ey) = piece
+    _, inverted, start, offset, (x, y, bulge, end_bulge, ex, ey), _ = piece
     vc = len(outline)
     if not inverted:
         made = [(x, y, bulge)]
@@ -81,9 +93,9 @@ def view(outline, piece):
     return made + [(x, y, 0.0)]
 
 
-def stitch(outlines, slices, starts, selector, tolerance):
+def stitch(outlines, slices, starts, selector, tolerances):
     """Chains of slices, each with how it ended and its loop's vertices: document 01, "Stitching"."""
-    t = tolerance
+    tx, ty = tolerances
     views = [view(outlines[s[0] - 1], s) for s in slices]
     table = (CLASSES_OR_AND, CLASSES_NOT_XOR)[selector]
 
@@ -92,7 +104,7 @@ def stitch(outlines, slices, starts, selector, tolerance):
 
     def add(chain, vertices):
         for v in vertices:
-            if chain and abs(chain[-1][0] - v[0]) < t and abs(chain[-1][1] - v[1]) < t:
+            if chain and abs(chain[-1][0] - v[0]) < tx and abs(chain[-1][1] - v[1]) < ty:
                 chain[-1] = (chain[-1][0], chain[-1][1], v[2])
             else:
                 chain.append(v)
@@ -118,7 +130,7 @@ def stitch(outlines, slices, starts, selector, tolerance):
             offered = [
                 i
                 for i in range(len(slices))
-                if (not visited[i] or i == first) and ex - t <= views[i][0][0] <= ex + t and ey - t <= views[i][0][1] <= ey + t
+                if (not visited[i] or i == first) and ex - tx <= views[i][0][0] <= ex + tx and ey - ty <= views[i][0][1] <= ey + ty
             ]
             if not offered:
                 chains.append((order, "empty", 0))
@@ -140,11 +152,11 @@ def stitch(outlines, slices, starts, selector, tolerance):
 
 def answer(data):
     try:
-        outlines, slices, starts, selector, tolerance = taken(data)
+        held = taken(data)
     except Refused as number:
         return f"refused {number}\n"
-    rounds, chains = stitch(outlines, slices, starts, selector, tolerance)
+    rounds, chains = stitch(*held)
     loops = sum(how == "closed" for _, how, _ in chains)
-    lines = [f"slices {len(slices)} rounds {rounds} loops {loops}"]
+    lines = [f"slices {len(held[1])} rounds {rounds} loops {loops}"]
     lines += [" ".join(map(str, [*order, how, vertices])) for order, how, vertices in chains]
     return "\n".join(lines) + "\n"
