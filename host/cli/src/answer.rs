@@ -35,7 +35,12 @@ impl Answer {
     /// That, and the vertices of the loops, each number to its last bit.
     pub fn full_text(&self) -> String {
         let mut text = self.text();
-        for (number, vertices) in self.replay().iter().flat_map(|r| r.stitched.loops()).enumerate() {
+        for (number, vertices) in self
+            .replay()
+            .iter()
+            .flat_map(|r| r.stitched.loops())
+            .enumerate()
+        {
             text.push_str(&format!("loop {number}\n"));
             for vertex in vertices {
                 text.push_str(&pbr::vertex_words(vertex));
@@ -71,7 +76,12 @@ fn replay_json(name: &str, replay: &Replay) -> Value {
     let vertices: Vec<Value> = replay
         .stitched
         .loops()
-        .map(|vertices| vertices.iter().map(|v| json!([v.x, v.y, v.bulge])).collect())
+        .map(|vertices| {
+            vertices
+                .iter()
+                .map(|v| json!([v.x, v.y, v.bulge]))
+                .collect()
+        })
         .collect();
     let chain = |chain: Chain<'_>| json!({ "slices": chain.slices, "end": end_word(chain.end) });
     json!({

@@ -111,13 +111,30 @@ mod tests {
         let name = || "a".to_string();
         let error = || io::Error::from_raw_os_error(2);
         let found = [
-            Failure::Line { name: name(), line: 3, why: name() },
-            Failure::Unfit { name: name(), why: name() },
-            Failure::Refused { name: name(), number: 13, why: name() },
+            Failure::Line {
+                name: name(),
+                line: 3,
+                why: name(),
+            },
+            Failure::Unfit {
+                name: name(),
+                why: name(),
+            },
+            Failure::Refused {
+                name: name(),
+                number: 13,
+                why: name(),
+            },
         ];
         let failed = [
-            Failure::Read { name: name(), error: error() },
-            Failure::Write { name: name(), error: error() },
+            Failure::Read {
+                name: name(),
+                error: error(),
+            },
+            Failure::Write {
+                name: name(),
+                error: error(),
+            },
             Failure::ClosedInput,
             Failure::Usage(name()),
             Failure::Helper(name()),

@@ -44,13 +44,20 @@ impl Arc {
     /// The point after a part of the arc, from 0 to 1.
     pub fn at(&self, part: f64) -> Point {
         let angle = self.start + part * self.sweep;
-        Point::new(self.center.x + self.radius * angle.cos(), self.center.y + self.radius * angle.sin())
+        Point::new(
+            self.center.x + self.radius * angle.cos(),
+            self.center.y + self.radius * angle.sin(),
+        )
     }
 
     /// Whether the arc runs through this angle.
     pub fn covers(&self, angle: f64) -> bool {
         let turn = std::f64::consts::TAU;
-        let gone = if self.sweep > 0.0 { angle - self.start } else { self.start - angle };
+        let gone = if self.sweep > 0.0 {
+            angle - self.start
+        } else {
+            self.start - angle
+        };
         gone.rem_euclid(turn) <= self.sweep.abs()
     }
 }
@@ -59,7 +66,10 @@ impl Arc {
 pub fn along(from: Vertex, to: Point, part: f64) -> Point {
     match Arc::of(from, to) {
         Some(arc) => arc.at(part),
-        None => Point::new(from.x + part * (to.x - from.x), from.y + part * (to.y - from.y)),
+        None => Point::new(
+            from.x + part * (to.x - from.x),
+            from.y + part * (to.y - from.y),
+        ),
     }
 }
 
@@ -70,7 +80,10 @@ pub fn extremes(from: Vertex, to: Point) -> Vec<Point> {
         let quarters = (0..4).map(|k| f64::from(k) * std::f64::consts::FRAC_PI_2);
         let covered = quarters.filter(|angle| arc.covers(*angle));
         points.extend(covered.map(|angle| {
-            Point::new(arc.center.x + arc.radius * angle.cos(), arc.center.y + arc.radius * angle.sin())
+            Point::new(
+                arc.center.x + arc.radius * angle.cos(),
+                arc.center.y + arc.radius * angle.sin(),
+            )
         }));
     }
     points
@@ -103,13 +116,21 @@ fn nearest(from: Vertex, to: Point, point: Point) -> Point {
         return Point::new(arc.center.x + scale * dx, arc.center.y + scale * dy);
     }
     let distance = |end: Point| (end.x - point.x).hypot(end.y - point.y);
-    if distance(from.pos()) < distance(to) { from.pos() } else { to }
+    if distance(from.pos()) < distance(to) {
+        from.pos()
+    } else {
+        to
+    }
 }
 
 fn nearest_on_line(from: Point, to: Point, point: Point) -> Point {
     let (dx, dy) = (to.x - from.x, to.y - from.y);
     let square = dx * dx + dy * dy;
-    let part = if square > 0.0 { ((point.x - from.x) * dx + (point.y - from.y) * dy) / square } else { 0.0 };
+    let part = if square > 0.0 {
+        ((point.x - from.x) * dx + (point.y - from.y) * dy) / square
+    } else {
+        0.0
+    };
     let part = part.clamp(0.0, 1.0);
     Point::new(from.x + part * dx, from.y + part * dy)
 }
@@ -132,7 +153,11 @@ mod tests {
         let (from, to) = half();
         let arc = Arc::of(from, to).unwrap();
         assert!(close(arc.center, 4.0, 0.0) && (arc.radius - 4.0).abs() < 1e-9);
-        assert!(close(arc.at(0.0), 8.0, 0.0) && close(arc.at(0.5), 4.0, 4.0) && close(arc.at(1.0), 0.0, 0.0));
+        assert!(
+            close(arc.at(0.0), 8.0, 0.0)
+                && close(arc.at(0.5), 4.0, 4.0)
+                && close(arc.at(1.0), 0.0, 0.0)
+        );
         assert!((length(from, to) - 4.0 * std::f64::consts::PI).abs() < 1e-9);
         let back = Arc::of(Vertex::new(0.0, 0.0, -1.0), Point::new(8.0, 0.0)).unwrap();
         assert!(close(back.at(0.5), 4.0, 4.0));
@@ -140,17 +165,32 @@ mod tests {
 
     #[test]
     fn a_large_arc_and_a_small_one() {
-        let small = Arc::of(Vertex::new(1.0, 0.0, (std::f64::consts::PI / 8.0).tan()), Point::new(0.0, 1.0)).unwrap();
+        let small = Arc::of(
+            Vertex::new(1.0, 0.0, (std::f64::consts::PI / 8.0).tan()),
+            Point::new(0.0, 1.0),
+        )
+        .unwrap();
         assert!(close(small.center, 0.0, 0.0) && (small.radius - 1.0).abs() < 1e-9);
-        let large = Arc::of(Vertex::new(0.0, 1.0, (3.0 * std::f64::consts::PI / 8.0).tan()), Point::new(1.0, 0.0)).unwrap();
-        assert!(close(large.center, 0.0, 0.0) && (large.sweep - 1.5 * std::f64::consts::PI).abs() < 1e-9);
+        let large = Arc::of(
+            Vertex::new(0.0, 1.0, (3.0 * std::f64::consts::PI / 8.0).tan()),
+            Point::new(1.0, 0.0),
+        )
+        .unwrap();
+        assert!(
+            close(large.center, 0.0, 0.0)
+                && (large.sweep - 1.5 * std::f64::consts::PI).abs() < 1e-9
+        );
     }
 
     #[test]
     fn what_encloses_an_arc() {
         let (from, to) = half();
-        let highest = extremes(from, to).iter().fold(f64::MIN, |most, p| most.max(p.y));
-        let lowest = extremes(from, to).iter().fold(f64::MAX, |least, p| least.min(p.y));
+        let highest = extremes(from, to)
+            .iter()
+            .fold(f64::MIN, |most, p| most.max(p.y));
+        let lowest = extremes(from, to)
+            .iter()
+            .fold(f64::MAX, |least, p| least.min(p.y));
         assert!((highest - 4.0).abs() < 1e-9 && lowest.abs() < 1e-9);
     }
 

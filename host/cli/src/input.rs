@@ -65,7 +65,11 @@ pub fn open(path: &Path) -> Result<(Box<dyn Read>, Option<u64>), Failure> {
         return Ok((Box::new(io::stdin()), None));
     }
     let file = File::open(path).map_err(|error| unread(path, error))?;
-    let length = file.metadata().ok().filter(|m| m.is_file()).map(|m| m.len());
+    let length = file
+        .metadata()
+        .ok()
+        .filter(|m| m.is_file())
+        .map(|m| m.len());
     Ok((Box::new(file), length))
 }
 
@@ -78,7 +82,11 @@ pub fn record(path: &Path) -> Result<RecordBytes, Failure> {
         .read_to_end(&mut bytes)
         .map_err(|error| unread(path, error))?;
     let read = bytes.len() as u64;
-    let length = if read < READ_OF_A_RECORD { read } else { length.unwrap_or(read) };
+    let length = if read < READ_OF_A_RECORD {
+        read
+    } else {
+        length.unwrap_or(read)
+    };
     Ok(RecordBytes { bytes, length })
 }
 
@@ -95,7 +103,9 @@ pub fn text(path: &Path) -> Result<String, Failure> {
         why: why.to_string(),
     };
     if bytes.len() as u64 > MOST_OF_A_TEXT {
-        return Err(unfit("more than 1,048,576 bytes, which no text of a record has"));
+        return Err(unfit(
+            "more than 1,048,576 bytes, which no text of a record has",
+        ));
     }
     String::from_utf8(bytes).map_err(|_| unfit("no text: it has bytes that are not UTF-8"))
 }
@@ -118,7 +128,9 @@ fn input_is_closed() -> bool {
 
 /// Whether what the system says of an open file has the flag "to be read and written" (octal 2).
 fn both_ways(information: &str) -> bool {
-    let flags = information.lines().find_map(|line| line.strip_prefix("flags:"));
+    let flags = information
+        .lines()
+        .find_map(|line| line.strip_prefix("flags:"));
     let flags = flags.and_then(|flags| u32::from_str_radix(flags.trim(), 8).ok());
     flags.map_or(false, |flags| flags & 3 == 2)
 }

@@ -14,8 +14,8 @@ mod failure;
 mod geometry;
 mod input;
 mod number;
-mod output;
 mod outline;
+mod output;
 mod pbr;
 mod picture;
 mod save;
@@ -52,8 +52,14 @@ fn run(command: &Command) -> Result<Status, Failure> {
 
 /// Prints help where it was asked for, and else what is wrong with the command line.
 fn help_or_usage(error: &clap::Error) -> Status {
-    let asked = matches!(error.kind(), ErrorKind::DisplayHelp | ErrorKind::DisplayVersion);
-    match error.print().and_then(|()| std::io::Write::flush(&mut std::io::stdout())) {
+    let asked = matches!(
+        error.kind(),
+        ErrorKind::DisplayHelp | ErrorKind::DisplayVersion
+    );
+    match error
+        .print()
+        .and_then(|()| std::io::Write::flush(&mut std::io::stdout()))
+    {
         Ok(()) if asked => Status::Good,
         Ok(()) => Status::Failed,
         Err(error) => {

@@ -25,11 +25,15 @@ fn pattern(word: &str, digits: &str) -> Result<f64, String> {
 /// A fraction of whole numbers. Both are exact as f64, so one division rounds once.
 fn fraction(word: &str, above: &str, below: &str) -> Result<f64, String> {
     let whole = |part: &str| -> Result<i64, String> {
-        let value = part.parse().map_err(|_| format!("`{word}` is no fraction of two whole numbers"))?;
+        let value = part
+            .parse()
+            .map_err(|_| format!("`{word}` is no fraction of two whole numbers"))?;
         if (-EXACT..=EXACT).contains(&value) {
             return Ok(value);
         }
-        Err(format!("`{word}`: the numbers of a fraction are at most 2^53 in size"))
+        Err(format!(
+            "`{word}`: the numbers of a fraction are at most 2^53 in size"
+        ))
     };
     let (above, below) = (whole(above)?, whole(below)?);
     if below == 0 {
@@ -43,10 +47,14 @@ fn decimal(word: &str) -> Result<f64, String> {
     let value: f64 = word.parse().map_err(|_| format!("`{word}` is no number"))?;
     let has_digits = word.bytes().any(|b| b.is_ascii_digit());
     if has_digits && value.is_infinite() {
-        return Err(format!("`{word}` is larger than 64 bits hold; infinity is written inf"));
+        return Err(format!(
+            "`{word}` is larger than 64 bits hold; infinity is written inf"
+        ));
     }
     if value == 0.0 && mantissa(word).any(|b| (b'1'..=b'9').contains(&b)) {
-        return Err(format!("`{word}` is nearer to 0 than 64 bits hold; zero is written 0"));
+        return Err(format!(
+            "`{word}` is nearer to 0 than 64 bits hold; zero is written 0"
+        ));
     }
     Ok(value)
 }
@@ -74,7 +82,12 @@ pub fn told(value: f64) -> String {
         return format!("not a number (0x{:016x})", value.to_bits());
     }
     if value.is_infinite() {
-        return if value > 0.0 { "infinite" } else { "minus infinite" }.to_string();
+        return if value > 0.0 {
+            "infinite"
+        } else {
+            "minus infinite"
+        }
+        .to_string();
     }
     word(value)
 }
@@ -140,19 +153,47 @@ mod tests {
 
     #[test]
     fn every_number_comes_back() {
-        let patterns = [0, 1, 1 << 63, 0x7ff8_0000_0000_0001, 0x7ff0_0000_0000_0000, u64::MAX];
-        let numbers = [0.0, -0.0, 1.0, 0.1, 1.0 / 3.0, 1e15, 1e16, 1e300, -4.0, 1073741824.5, 2f64.powi(-1074)];
+        let patterns = [
+            0,
+            1,
+            1 << 63,
+            0x7ff8_0000_0000_0001,
+            0x7ff0_0000_0000_0000,
+            u64::MAX,
+        ];
+        let numbers = [
+            0.0,
+            -0.0,
+            1.0,
+            0.1,
+            1.0 / 3.0,
+            1e15,
+            1e16,
+            1e300,
+            -4.0,
+            1073741824.5,
+            2f64.powi(-1074),
+        ];
         let all = patterns.iter().map(|&b| f64::from_bits(b)).chain(numbers);
         for value in all {
             let word = word(value);
             assert_eq!(number(&word).unwrap().to_bits(), value.to_bits(), "{word}");
         }
-        assert_eq!((word(4.0), word(-0.0), word(0.5)), ("4".into(), "-0.0".into(), "0.5".into()));
+        assert_eq!(
+            (word(4.0), word(-0.0), word(0.5)),
+            ("4".into(), "-0.0".into(), "0.5".into())
+        );
     }
 
     #[test]
     fn counts_in_groups() {
-        assert_eq!((grouped(7), grouped(4610), grouped(1_000_000)), ("7".into(), "4,610".into(), "1,000,000".into()));
-        assert_eq!((counted(1, "slice"), counted(0, "slice")), ("1 slice".into(), "0 slices".into()));
+        assert_eq!(
+            (grouped(7), grouped(4610), grouped(1_000_000)),
+            ("7".into(), "4,610".into(), "1,000,000".into())
+        );
+        assert_eq!(
+            (counted(1, "slice"), counted(0, "slice")),
+            ("1 slice".into(), "0 slices".into())
+        );
     }
 }

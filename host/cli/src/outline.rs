@@ -23,7 +23,10 @@ impl OutlineText {
 
 /// Reads the text called `name`: a vertex a line, and perhaps an edition.
 pub fn read(name: &str, text: &str) -> Result<OutlineText, Failure> {
-    let mut outline = OutlineText { vertices: Vec::new(), edition: None };
+    let mut outline = OutlineText {
+        vertices: Vec::new(),
+        edition: None,
+    };
     for (number, line) in text.lines().enumerate() {
         let items = line.split('#').next().unwrap_or("");
         let words: Vec<&str> = items.split_whitespace().collect();
@@ -35,7 +38,10 @@ pub fn read(name: &str, text: &str) -> Result<OutlineText, Failure> {
     }
     if outline.vertices.is_empty() {
         let why = "the text has no vertex".to_string();
-        return Err(Failure::Unfit { name: name.to_string(), why });
+        return Err(Failure::Unfit {
+            name: name.to_string(),
+            why,
+        });
     }
     Ok(outline)
 }
@@ -44,15 +50,26 @@ fn item(outline: &mut OutlineText, words: &[&str]) -> Result<(), String> {
     match words {
         [] => {}
         ["edition", edition] => {
-            let why = |_| format!("`{edition}` is no edition: it is a whole number from 0 to 4,294,967,295");
+            let why = |_| {
+                format!("`{edition}` is no edition: it is a whole number from 0 to 4,294,967,295")
+            };
             let edition = edition.parse().map_err(why)?;
             if outline.edition.replace(edition).is_some() {
                 return Err("an edition was said already".to_string());
             }
         }
-        [x, y] => outline.vertices.push(Vertex::new(number(x)?, number(y)?, 0.0)),
-        [x, y, bulge] => outline.vertices.push(Vertex::new(number(x)?, number(y)?, number(bulge)?)),
-        _ => return Err(format!("a vertex has x, y and perhaps a bulge; here are {} words", words.len())),
+        [x, y] => outline
+            .vertices
+            .push(Vertex::new(number(x)?, number(y)?, 0.0)),
+        [x, y, bulge] => outline
+            .vertices
+            .push(Vertex::new(number(x)?, number(y)?, number(bulge)?)),
+        _ => {
+            return Err(format!(
+                "a vertex has x, y and perhaps a bulge; here are {} words",
+                words.len()
+            ))
+        }
     }
     Ok(())
 }
@@ -73,9 +90,15 @@ mod tests {
     #[test]
     fn faults_with_their_line() {
         let said = |text: &str| read("a", text).unwrap_err().to_string();
-        assert_eq!(said("0 0\n1\n"), "a: line 2: a vertex has x, y and perhaps a bulge; here are 1 words");
+        assert_eq!(
+            said("0 0\n1\n"),
+            "a: line 2: a vertex has x, y and perhaps a bulge; here are 1 words"
+        );
         assert_eq!(said("0 zero\n"), "a: line 1: `zero` is no number");
-        assert_eq!(said("edition 1\nedition 2\n"), "a: line 2: an edition was said already");
+        assert_eq!(
+            said("edition 1\nedition 2\n"),
+            "a: line 2: an edition was said already"
+        );
         assert!(said("edition -1\n").contains("line 1: `-1` is no edition"));
         assert_eq!(said("# nothing\n"), "a: the text has no vertex");
     }

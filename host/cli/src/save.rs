@@ -10,7 +10,11 @@ use std::path::{Path, PathBuf};
 /// that is cut short is never seen; a device is written to as it is.
 pub fn save(path: &Path, bytes: &[u8]) -> Result<(), Failure> {
     let is_other = fs::metadata(path).map_or(false, |there| !there.is_file());
-    let written = if is_other { fs::write(path, bytes) } else { replace(path, bytes) };
+    let written = if is_other {
+        fs::write(path, bytes)
+    } else {
+        replace(path, bytes)
+    };
     written.map_err(|error| Failure::Write {
         name: path.display().to_string(),
         error,

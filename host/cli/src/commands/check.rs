@@ -9,7 +9,9 @@ use crate::number::word;
 use crate::outline;
 use crate::output::Out;
 use crate::pbr;
-use mask_tools::{OnSegment, Outline, Point, Record, RecordContents, RecordSlice, Refusal, Verdict, Vertex, View};
+use mask_tools::{
+    OnSegment, Outline, Point, Record, RecordContents, RecordSlice, Refusal, Verdict, Vertex, View,
+};
 use serde_json::{json, Value};
 
 /// What is known of one slice.
@@ -50,7 +52,8 @@ pub fn run(args: &Check) -> Result<Status, Failure> {
         .filter(|(_, slice)| slice.source_code == question.source)
         .map(|(number, slice)| judged(number, slice, &question))
         .collect();
-    let whole = same(question.old.vertices(), question.new.vertices()) && judged.iter().all(|j| j.advice() == Advice::Reopen);
+    let whole = same(question.old.vertices(), question.new.vertices())
+        && judged.iter().all(|j| j.advice() == Advice::Reopen);
     let mut out = Out::new();
     if args.json {
         out.json(&json(&question, &judged, whole))?;
@@ -80,7 +83,11 @@ fn question(args: &Check, contents: &RecordContents) -> Result<Question, Failure
     let read = |path| outline::read(&input::name_of(path), &input::text(path)?);
     let (old, new) = (read(&args.old)?, read(&args.new)?);
     let source = source_of(args, contents, &old.vertices)?;
-    let sealed = if source == 1 { &contents.pline1 } else { &contents.pline2 };
+    let sealed = if source == 1 {
+        &contents.pline1
+    } else {
+        &contents.pline2
+    };
     let old = old.outline(sealed.edition());
     let new = new.outline(old.edition().wrapping_add(1));
     Ok(Question { source, old, new })
@@ -88,8 +95,14 @@ fn question(args: &Check, contents: &RecordContents) -> Result<Question, Failure
 
 /// Which outline of the record the old one is.
 fn source_of(args: &Check, contents: &RecordContents, old: &[Vertex]) -> Result<u8, Failure> {
-    let is = [same(old, contents.pline1.vertices()), same(old, contents.pline2.vertices())];
-    let unfit = |why: String| Failure::Unfit { name: input::name_of(&args.old), why };
+    let is = [
+        same(old, contents.pline1.vertices()),
+        same(old, contents.pline2.vertices()),
+    ];
+    let unfit = |why: String| Failure::Unfit {
+        name: input::name_of(&args.old),
+        why,
+    };
     match (args.outline, is) {
         (Some(number), _) if is[usize::from(number) - 1] => Ok(number),
         (Some(number), _) => Err(unfit(format!("this is not outline {number} of {}", input::name_of(&args.record)))),
@@ -129,7 +142,10 @@ fn ends(view: &View, outline: &Outline) -> OnSegment {
     };
     OnSegment {
         start: lies(view.start_index, view.updated_start.pos()),
-        end: lies(view.start_index.saturating_add(view.end_index_offset), view.end_point),
+        end: lies(
+            view.start_index.saturating_add(view.end_index_offset),
+            view.end_point,
+        ),
     }
 }
 
@@ -171,16 +187,33 @@ fn verdict_words(verdict: &Verdict) -> String {
     let at = |p: &Point| format!("({}, {})", word(p.x), word(p.y));
     match verdict {
         Verdict::SourceHasNoSegments => "the new outline has no segments".to_string(),
-        Verdict::OffsetOutOfRange { offset, source_length } => {
+        Verdict::OffsetOutOfRange {
+            offset,
+            source_length,
+        } => {
             format!("its offset {offset} is past the new outline's {source_length} vertices")
         }
-        Verdict::UpdatedStartNotOnSegment { start_point } => format!("its start {} is off its segment", at(start_point)),
-        Verdict::EndPointNotOnSegment { end_point } => format!("its end {} is off its segment", at(end_point)),
-        Verdict::EndPointOnFinalOffsetVertex { end_point, .. } => {
-            format!("its end {} is on the vertex with which its last segment starts", at(end_point))
+        Verdict::UpdatedStartNotOnSegment { start_point } => {
+            format!("its start {} is off its segment", at(start_point))
         }
-        Verdict::UpdatedBulgeDoesNotMatch { updated_bulge, expected } => {
-            format!("its end bulge {} is not its start's, {}", word(*updated_bulge), word(*expected))
+        Verdict::EndPointNotOnSegment { end_point } => {
+            format!("its end {} is off its segment", at(end_point))
+        }
+        Verdict::EndPointOnFinalOffsetVertex { end_point, .. } => {
+            format!(
+                "its end {} is on the vertex with which its last segment starts",
+                at(end_point)
+            )
+        }
+        Verdict::UpdatedBulgeDoesNotMatch {
+            updated_bulge,
+            expected,
+        } => {
+            format!(
+                "its end bulge {} is not its start's, {}",
+                word(*updated_bulge),
+                word(*expected)
+            )
         }
         Verdict::IsValid => "valid".to_string(),
     }
@@ -189,7 +222,15 @@ fn verdict_words(verdict: &Verdict) -> String {
 fn lines(question: &Question, judged: &[Judged], whole: bool) -> Vec<String> {
     let mut lines: Vec<String> = judged
         .iter()
-        .map(|one| format!("slice {}: {}; {}: {}", one.number, one.verdict(), one.moved(), one.what_to_do()))
+        .map(|one| {
+            format!(
+                "slice {}: {}; {}: {}",
+                one.number,
+                one.verdict(),
+                one.moved(),
+                one.what_to_do()
+            )
+        })
         .collect();
     if judged.is_empty() {
         lines.push(format!("no slice is of outline {}", question.source));
@@ -202,9 +243,15 @@ fn lines(question: &Question, judged: &[Judged], whole: bool) -> Vec<String> {
 fn stitch_words(question: &Question, whole: bool) -> String {
     let same = same(question.old.vertices(), question.new.vertices());
     match (whole, same) {
-        (true, _) => "stitch: both outlines are the same as a whole: reopen every slice, and stitch".to_string(),
+        (true, _) => {
+            "stitch: both outlines are the same as a whole: reopen every slice, and stitch"
+                .to_string()
+        }
         (false, true) => "stitch: cut both outlines again".to_string(),
-        (false, false) => format!("stitch: outline {} has changed: cut both outlines again", question.source),
+        (false, false) => format!(
+            "stitch: outline {} has changed: cut both outlines again",
+            question.source
+        ),
     }
 }
 

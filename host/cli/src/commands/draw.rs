@@ -12,7 +12,10 @@ use std::process::{Command, Stdio};
 /// The programs that make a PNG of an SVG, with what each is called with; the SVG comes on standard input.
 const CONVERTERS: [(&str, &[&str]); 3] = [
     ("rsvg-convert", &["--format", "png", "--zoom", "2"]),
-    ("inkscape", &["--pipe", "--export-type=png", "--export-filename=-"]),
+    (
+        "inkscape",
+        &["--pipe", "--export-type=png", "--export-filename=-"],
+    ),
     ("magick", &["svg:-", "png:-"]),
 ];
 
@@ -26,7 +29,11 @@ enum Kind {
 pub fn run(args: &Draw) -> Result<Status, Failure> {
     let kind = kind(&args.out)?;
     let paths = [Some(&args.record), args.beside.as_ref()];
-    let subjects: Vec<Subject> = paths.into_iter().flatten().map(|path| Subject::read(path)).collect::<Result<_, _>>()?;
+    let subjects: Vec<Subject> = paths
+        .into_iter()
+        .flatten()
+        .map(|path| Subject::read(path))
+        .collect::<Result<_, _>>()?;
     let svg = picture(&subjects);
     let bytes = match kind {
         Kind::Svg => svg.into_bytes(),
@@ -36,7 +43,11 @@ pub fn run(args: &Draw) -> Result<Status, Failure> {
     let mut status = Status::Good;
     for subject in subjects {
         if let Some((number, why)) = subject.refused {
-            tell(&Failure::Refused { name: subject.name, number, why });
+            tell(&Failure::Refused {
+                name: subject.name,
+                number,
+                why,
+            });
             status = Status::Found;
         }
     }
@@ -48,7 +59,11 @@ fn kind(out: &Path) -> Result<Kind, Failure> {
     match out.extension().and_then(|ending| ending.to_str()) {
         Some("svg") => Ok(Kind::Svg),
         Some("png") => Ok(Kind::Png),
-        None if std::fs::metadata(out).map_or(false, |there| !there.is_file() && !there.is_dir()) => Ok(Kind::Svg),
+        None if std::fs::metadata(out)
+            .map_or(false, |there| !there.is_file() && !there.is_dir()) =>
+        {
+            Ok(Kind::Svg)
+        }
         _ => Err(Failure::Usage(format!(
             "{}: the name of a picture ends in .svg or .png",
             out.display()
@@ -59,7 +74,11 @@ fn kind(out: &Path) -> Result<Kind, Failure> {
 /// The PNG that the first converter makes that is there.
 fn png(svg: &str) -> Result<Vec<u8>, Failure> {
     for (program, words) in CONVERTERS {
-        let started = Command::new(program).args(words).stdin(Stdio::piped()).stdout(Stdio::piped()).spawn();
+        let started = Command::new(program)
+            .args(words)
+            .stdin(Stdio::piped())
+            .stdout(Stdio::piped())
+            .spawn();
         let mut child = match started {
             Ok(child) => child,
             Err(error) if error.kind() == ErrorKind::NotFound => continue,
@@ -70,8 +89,12 @@ fn png(svg: &str) -> Result<Vec<u8>, Failure> {
         }
         let done = child.wait_with_output();
         return match done {
-            Ok(done) if done.status.success() && done.stdout.starts_with(b"\x89PNG") => Ok(done.stdout),
-            _ => Err(Failure::Helper(format!("{program} did not make a PNG of the picture"))),
+            Ok(done) if done.status.success() && done.stdout.starts_with(b"\x89PNG") => {
+                Ok(done.stdout)
+            }
+            _ => Err(Failure::Helper(format!(
+                "{program} did not make a PNG of the picture"
+            ))),
         };
     }
     let programs: Vec<&str> = CONVERTERS.iter().map(|(program, _)| *program).collect();

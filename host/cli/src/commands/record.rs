@@ -5,20 +5,26 @@ use crate::failure::{Failure, Status};
 use crate::input;
 use crate::pbr::{self, Draft};
 use crate::save;
+use std::path::Path;
 
 /// Makes the record.
 pub fn run(args: &Record) -> Result<Status, Failure> {
     let name = input::name_of(&args.text);
-    let draft = pbr::draft(&name, &input::text(&args.text)?)?;
-    let bytes = if args.unchecked { pbr::laid_out(&draft) } else { written(name, &draft)? };
+    let folder = args.text.parent().unwrap_or_else(|| Path::new(""));
+    let draft = pbr::draft(&name, &input::text(&args.text)?, folder)?;
+    let bytes = if args.unchecked {
+        pbr::laid_out(&draft).map_err(|why| Failure::Unfit { name, why })?
+    } else {
+        written(name, &draft)?
+    };
     save::save(&args.record, &bytes)?;
     Ok(Status::Good)
 }
 
 /// What the proved writer makes of a draft, or why it refuses.
 fn written(name: String, draft: &Draft) -> Result<Vec<u8>, Failure> {
-    if let Some(line) = draft.damage.line {
-        let why = "this asks for a record that is refused; with --unchecked it is written all the same".to_string();
+    if let Some(line) = draft.edited_on {
+        let why = "this edits the record's bytes, which is for --unchecked alone".to_string();
         return Err(Failure::Line { name, line, why });
     }
     match draft.contents.write(draft.contents.version) {

@@ -25,7 +25,8 @@ pub fn run(args: &Replay) -> Result<Status, Failure> {
     let mut out = Out::new();
     let mut status = Status::Good;
     for part in files.chunks(AT_A_TIME) {
-        let replayed: Vec<Result<Replayed, Failure>> = part.par_iter().map(|path| replayed(path)).collect();
+        let replayed: Vec<Result<Replayed, Failure>> =
+            part.par_iter().map(|path| replayed(path)).collect();
         for one in replayed {
             status = status.max(print(args, &files, one, &mut out)?);
         }
@@ -38,11 +39,20 @@ fn replayed(path: &Path) -> Result<Replayed, Failure> {
     let record = input::record(path)?;
     let answer = Answer::of(&record);
     let name = input::name_of(path);
-    Ok(Replayed { name, record, answer })
+    Ok(Replayed {
+        name,
+        record,
+        answer,
+    })
 }
 
 /// Prints one answer. What could not be read is said, and the others go on.
-fn print(args: &Replay, files: &[PathBuf], one: Result<Replayed, Failure>, out: &mut Out) -> Result<Status, Failure> {
+fn print(
+    args: &Replay,
+    files: &[PathBuf],
+    one: Result<Replayed, Failure>,
+    out: &mut Out,
+) -> Result<Status, Failure> {
     let one = match one {
         Ok(one) => one,
         Err(failure) => {
@@ -53,8 +63,16 @@ fn print(args: &Replay, files: &[PathBuf], one: Result<Replayed, Failure>, out: 
     if args.json {
         out.json(&one.answer.json(&one.name, &one.record))?;
     } else {
-        let text = if args.loops { one.answer.full_text() } else { one.answer.text() };
-        let prefix = if files.len() > 1 { format!("{}: ", one.name) } else { String::new() };
+        let text = if args.loops {
+            one.answer.full_text()
+        } else {
+            one.answer.text()
+        };
+        let prefix = if files.len() > 1 {
+            format!("{}: ", one.name)
+        } else {
+            String::new()
+        };
         for line in text.lines() {
             out.line(&format!("{prefix}{line}"))?;
         }

@@ -67,7 +67,8 @@ enum Line {
 /// Reports on each file.
 pub fn run(args: &Report) -> Result<Status, Failure> {
     let files = input::or_standard_input(&args.files);
-    let gathered: Vec<Result<Gathered, Failure>> = files.par_iter().map(|path| gathered(path)).collect();
+    let gathered: Vec<Result<Gathered, Failure>> =
+        files.par_iter().map(|path| gathered(path)).collect();
     let mut out = Out::new();
     let mut status = Status::Good;
     for (path, one) in files.iter().zip(gathered) {
@@ -122,7 +123,10 @@ fn skip_line(reader: &mut impl BufRead, line: &mut Vec<u8>) -> std::io::Result<(
         }
         let end = part.iter().position(|b| *b == b'\n');
         let rest = &part[..end.unwrap_or(part.len())];
-        if line.len() == KEPT_OF_A_LINE && !line.contains(&b'#') && !rest.iter().all(|b| is_blank(*b)) {
+        if line.len() == KEPT_OF_A_LINE
+            && !line.contains(&b'#')
+            && !rest.iter().all(|b| is_blank(*b))
+        {
             line.push(b'?');
         }
         let used = end.map_or(part.len(), |at| at + 1);
@@ -140,13 +144,18 @@ fn is_blank(byte: u8) -> bool {
 /// What a line is.
 fn understood(line: &[u8]) -> Line {
     let before = line.split(|b| *b == b'#').next().unwrap_or(&[]);
-    let words: Vec<&[u8]> = before.split(|b| is_blank(*b)).filter(|w| !w.is_empty()).collect();
+    let words: Vec<&[u8]> = before
+        .split(|b| is_blank(*b))
+        .filter(|w| !w.is_empty())
+        .collect();
     match words[..] {
         [] if before.len() < line.len() => Line::Comment,
         [] => Line::Empty,
         [x, y] => match (whole(x), whole(y)) {
             (Some(first), Some(second)) => {
-                let far = [(first, x), (second, y)].into_iter().find(|(value, _)| value.abs() > LARGEST);
+                let far = [(first, x), (second, y)]
+                    .into_iter()
+                    .find(|(value, _)| value.abs() > LARGEST);
                 Line::Pair([first, second], far.map(|(_, word)| short(word)))
             }
             _ => Line::Bad(short(before)),
@@ -166,14 +175,22 @@ fn whole(word: &[u8]) -> Option<i64> {
         return None;
     }
     let size = digits.iter().fold(0, |size: i64, digit| {
-        if size > LARGEST { size } else { 10 * size + i64::from(digit - b'0') }
+        if size > LARGEST {
+            size
+        } else {
+            10 * size + i64::from(digit - b'0')
+        }
     });
     Some(if negative { -size } else { size })
 }
 
 /// The beginning of a text that is to be told.
 fn short(bytes: &[u8]) -> String {
-    let text: String = String::from_utf8_lossy(bytes).trim().chars().map(|c| if c.is_control() { '?' } else { c }).collect();
+    let text: String = String::from_utf8_lossy(bytes)
+        .trim()
+        .chars()
+        .map(|c| if c.is_control() { '?' } else { c })
+        .collect();
     if text.chars().count() <= 40 {
         return text;
     }
@@ -225,17 +242,28 @@ impl Gathered {
 
     /// The library's report.
     fn report(&self) -> Result<StraightReport, u32> {
-        let outlines: Vec<WholeOutline> = self.outlines.iter().map(|o| WholeOutline::new(&o.vertices)).collect();
+        let outlines: Vec<WholeOutline> = self
+            .outlines
+            .iter()
+            .map(|o| WholeOutline::new(&o.vertices))
+            .collect();
         straight_report(&outlines).map_err(|refusal| refusal.number())
     }
 
     /// Where the reason for a refusal lies.
     fn why(&self, number: u32) -> String {
         let place = match number {
-            2 => self.outlines.iter().find(|o| o.count < 2 || o.count > MOST_VERTICES).map(why_size),
+            2 => self
+                .outlines
+                .iter()
+                .find(|o| o.count < 2 || o.count > MOST_VERTICES)
+                .map(why_size),
             18 => self.outlines.iter().find_map(why_range),
             19 => self.past_most.map(|line| {
-                format!("line {line}: outline 4,097 begins, of {}; the most is 4,096", grouped(self.count as u64))
+                format!(
+                    "line {line}: outline 4,097 begins, of {}; the most is 4,096",
+                    grouped(self.count as u64)
+                )
             }),
             _ => None,
         };
@@ -245,29 +273,52 @@ impl Gathered {
 
 fn why_size(outline: &Lines) -> String {
     let (first, last) = outline.lines;
-    let lines = if first == last { format!("line {first}") } else { format!("lines {first} to {last}") };
+    let lines = if first == last {
+        format!("line {first}")
+    } else {
+        format!("lines {first} to {last}")
+    };
     let vertices = counted(outline.count, "vertex").replace("vertexs", "vertices");
-    format!("outline {}, {lines}: {vertices}; it has 2 to 1,024", outline.number)
+    format!(
+        "outline {}, {lines}: {vertices}; it has 2 to 1,024",
+        outline.number
+    )
 }
 
 fn why_range(outline: &Lines) -> Option<String> {
     let (line, word) = outline.out_of_range.as_ref()?;
-    Some(format!("outline {}, line {line}: the coordinate {word} is beyond 400,000,000", outline.number))
+    Some(format!(
+        "outline {}, line {line}: the coordinate {word} is beyond 400,000,000",
+        outline.number
+    ))
 }
 
 /// Prints the report on one file, or says why there is none.
-fn print(args: &Report, files: &[PathBuf], path: &Path, gathered: &Gathered, out: &mut Out) -> Result<Status, Failure> {
+fn print(
+    args: &Report,
+    files: &[PathBuf],
+    path: &Path,
+    gathered: &Gathered,
+    out: &mut Out,
+) -> Result<Status, Failure> {
     let name = input::name_of(path);
     if gathered.bad_count > 0 {
         return bad_lines(args, name, gathered, out);
     }
-    let prefix = if files.len() > 1 { format!("{name}: ") } else { String::new() };
+    let prefix = if files.len() > 1 {
+        format!("{name}: ")
+    } else {
+        String::new()
+    };
     match gathered.report() {
         Ok(report) if args.json => out.json(&report_json(&name, &report))?,
         Ok(report) => {
             out.line(&format!("{prefix}outlines {}", report.count))?;
             out.line(&format!("{prefix}area zero {}", report.zero))?;
-            out.line(&format!("{prefix}total of the absolute doubled areas {}", report.doubled_total))?;
+            out.line(&format!(
+                "{prefix}total of the absolute doubled areas {}",
+                report.doubled_total
+            ))?;
         }
         Err(number) => {
             let why = gathered.why(number);
@@ -283,7 +334,12 @@ fn print(args: &Report, files: &[PathBuf], path: &Path, gathered: &Gathered, out
     Ok(Status::Good)
 }
 
-fn bad_lines(args: &Report, name: String, gathered: &Gathered, out: &mut Out) -> Result<Status, Failure> {
+fn bad_lines(
+    args: &Report,
+    name: String,
+    gathered: &Gathered,
+    out: &mut Out,
+) -> Result<Status, Failure> {
     for (line, text) in &gathered.bad {
         tell(&Failure::Line {
             name: name.clone(),
@@ -293,12 +349,20 @@ fn bad_lines(args: &Report, name: String, gathered: &Gathered, out: &mut Out) ->
     }
     let untold = gathered.bad_count - gathered.bad.len();
     if untold > 0 {
-        let why = format!("{} more are no pair of whole numbers", counted(untold, "line"));
-        tell(&Failure::Unfit { name: name.clone(), why });
+        let why = format!(
+            "{} more are no pair of whole numbers",
+            counted(untold, "line")
+        );
+        tell(&Failure::Unfit {
+            name: name.clone(),
+            why,
+        });
     }
     if args.json {
         let lines: Vec<usize> = gathered.bad.iter().map(|(line, _)| *line).collect();
-        out.json(&json!({ "file": name, "bad_lines": gathered.bad_count, "first_bad_lines": lines }))?;
+        out.json(
+            &json!({ "file": name, "bad_lines": gathered.bad_count, "first_bad_lines": lines }),
+        )?;
     }
     Ok(Status::Found)
 }
@@ -335,11 +399,25 @@ mod tests {
         assert_eq!(understood(b"1 2 # a comment"), Line::Pair([1, 2], None));
         assert_eq!(understood(b"# a comment"), Line::Comment);
         assert_eq!(understood(b" \t\r"), Line::Empty);
-        assert_eq!(understood(b"400000001 0"), Line::Pair([400_000_001, 0], Some("400000001".into())));
-        for bad in [&b"1"[..], b"1 2 3", b"1.5 2", b"+ 2", b"--1 2", b"1 \0", b"\xff 1"] {
+        assert_eq!(
+            understood(b"400000001 0"),
+            Line::Pair([400_000_001, 0], Some("400000001".into()))
+        );
+        for bad in [
+            &b"1"[..],
+            b"1 2 3",
+            b"1.5 2",
+            b"+ 2",
+            b"--1 2",
+            b"1 \0",
+            b"\xff 1",
+        ] {
             assert!(matches!(understood(bad), Line::Bad(_)), "{bad:?}");
         }
-        assert_eq!(understood(b"99999999999999999999999 -99999999999999999999999").far(), Some("99999999999999999999999"));
+        assert_eq!(
+            understood(b"99999999999999999999999 -99999999999999999999999").far(),
+            Some("99999999999999999999999")
+        );
     }
 
     impl Line {
@@ -354,9 +432,16 @@ mod tests {
     #[test]
     fn outlines_and_their_lines() {
         let gathered = read(b"0 0\n# between\n4 0\n4 4\n\n\n1 1\n\n 2 2\n3 3");
-        let lines: Vec<_> = gathered.outlines.iter().map(|o| (o.number, o.lines, o.count)).collect();
+        let lines: Vec<_> = gathered
+            .outlines
+            .iter()
+            .map(|o| (o.number, o.lines, o.count))
+            .collect();
         assert_eq!(lines, [(1, (1, 4), 3), (2, (7, 7), 1), (3, (9, 10), 2)]);
-        assert_eq!(gathered.why(2), "outline 2, line 7: 1 vertex; it has 2 to 1,024");
+        assert_eq!(
+            gathered.why(2),
+            "outline 2, line 7: 1 vertex; it has 2 to 1,024"
+        );
     }
 
     #[test]
@@ -380,7 +465,13 @@ mod tests {
         text.push_str("7 7\n\n0 0\n1 1\n");
         let gathered = read(text.as_bytes());
         assert_eq!((gathered.count, gathered.outlines.len()), (5002, 4098));
-        assert_eq!(gathered.why(2), "outline 5001, line 15001: 1 vertex; it has 2 to 1,024");
-        assert_eq!(gathered.why(19), "line 12289: outline 4,097 begins, of 5,002; the most is 4,096");
+        assert_eq!(
+            gathered.why(2),
+            "outline 5001, line 15001: 1 vertex; it has 2 to 1,024"
+        );
+        assert_eq!(
+            gathered.why(19),
+            "line 12289: outline 4,097 begins, of 5,002; the most is 4,096"
+        );
     }
 }

@@ -12,14 +12,16 @@ use serde_json::{json, Value};
 pub fn run(args: &Show) -> Result<Status, Failure> {
     let record = input::record(&args.record)?;
     let name = input::name_of(&args.record);
-    let contents = Record::from_bytes(&record.bytes[..]).contents().map_err(|refusal| {
-        let number = refusal.number();
-        Failure::Refused {
-            name: name.clone(),
-            number,
-            why: pbr::why(number, &record),
-        }
-    })?;
+    let contents = Record::from_bytes(&record.bytes[..])
+        .contents()
+        .map_err(|refusal| {
+            let number = refusal.number();
+            Failure::Refused {
+                name: name.clone(),
+                number,
+                why: pbr::why(number, &record),
+            }
+        })?;
     let mut out = Out::new();
     if args.json {
         out.json(&contents_json(&name, &contents))?;
@@ -44,7 +46,11 @@ fn contents_json(name: &str, contents: &RecordContents) -> Value {
 }
 
 fn outline_json(outline: &Outline) -> Value {
-    let vertices: Vec<Value> = outline.vertices().iter().map(|v| json!([v.x, v.y, v.bulge])).collect();
+    let vertices: Vec<Value> = outline
+        .vertices()
+        .iter()
+        .map(|v| json!([v.x, v.y, v.bulge]))
+        .collect();
     json!({ "edition": outline.edition(), "vertices": vertices })
 }
 

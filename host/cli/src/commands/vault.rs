@@ -72,7 +72,10 @@ pub fn run(args: &Vault) -> Result<Status, Failure> {
         })
         .collect();
     bar.finish_and_clear();
-    let mut summary = Summary { gone: gone(&folder), ..Summary::default() };
+    let mut summary = Summary {
+        gone: gone(&folder),
+        ..Summary::default()
+    };
     for one in tried {
         summary.add(one, args);
     }
@@ -116,7 +119,9 @@ fn listed(root: &Path) -> Result<Folder, Failure> {
 /// The record that an answer is kept of; none where the file is no answer.
 fn record_of(answer: &Path) -> Option<PathBuf> {
     let record = answer.to_str()?.strip_suffix(ANSWER)?;
-    record.ends_with(&format!(".{RECORD}")).then(|| PathBuf::from(record))
+    record
+        .ends_with(&format!(".{RECORD}"))
+        .then(|| PathBuf::from(record))
 }
 
 fn answer_of(record: &Path) -> PathBuf {
@@ -128,7 +133,13 @@ fn answer_of(record: &Path) -> PathBuf {
 /// Answers whose records are not there any more.
 fn gone(folder: &Folder) -> Vec<String> {
     let is_gone = |record: &PathBuf| folder.records.binary_search(record).is_err();
-    folder.answers.iter().filter_map(|answer| record_of(answer)).filter(is_gone).map(|r| input::name_of(&r)).collect()
+    folder
+        .answers
+        .iter()
+        .filter_map(|answer| record_of(answer))
+        .filter(is_gone)
+        .map(|r| input::name_of(&r))
+        .collect()
 }
 
 /// Runs a record again, compares, and keeps the answer where that is asked for.
@@ -140,7 +151,10 @@ fn tried(path: &Path, args: &Vault) -> Result<Tried, Failure> {
     let compared = match kept(&beside)? {
         None => Compared::New,
         Some(kept) if kept == now => Compared::AsKept,
-        Some(kept) => Compared::Differs { kept, now: now.clone() },
+        Some(kept) => Compared::Differs {
+            kept,
+            now: now.clone(),
+        },
     };
     let keep = match compared {
         Compared::New => args.accept,
@@ -150,8 +164,14 @@ fn tried(path: &Path, args: &Vault) -> Result<Tried, Failure> {
     if keep {
         save::save(&beside, now.as_bytes())?;
     }
-    let refused = answer.refusal().map(|number| (number, pbr::why(number, &record)));
-    Ok(Tried { name: input::name_of(path), refused, compared })
+    let refused = answer
+        .refusal()
+        .map(|number| (number, pbr::why(number, &record)));
+    Ok(Tried {
+        name: input::name_of(path),
+        refused,
+        compared,
+    })
 }
 
 /// The answer that is kept, where there is one.
@@ -197,7 +217,11 @@ impl Summary {
             return Status::Failed;
         }
         let found = !self.differ.is_empty() || !self.gone.is_empty() || self.new_refused > 0;
-        if found { Status::Found } else { Status::Good }
+        if found {
+            Status::Found
+        } else {
+            Status::Good
+        }
     }
 
     fn lines(&self) -> Vec<String> {
@@ -207,7 +231,11 @@ impl Summary {
             format!("as kept  {}", count(self.as_kept)),
             format!("differ   {}", count(self.differ.len())),
             format!("new      {}{}", count(self.new), self.new_note()),
-            format!("refused  {}{}", count(self.refused.values().sum()), self.refused_note()),
+            format!(
+                "refused  {}{}",
+                count(self.refused.values().sum()),
+                self.refused_note()
+            ),
         ];
         if !self.gone.is_empty() {
             lines.push(format!("gone     {}", count(self.gone.len())));
@@ -230,16 +258,23 @@ impl Summary {
         if self.refused.is_empty() {
             return String::new();
         }
-        let of = |(number, count): (&u32, &usize)| format!("{} with {number}", grouped(*count as u64));
+        let of =
+            |(number, count): (&u32, &usize)| format!("{} with {number}", grouped(*count as u64));
         let each: Vec<String> = self.refused.iter().map(of).collect();
         format!(": {}", each.join(", "))
     }
 
     fn json(&self, folder: &Path) -> Value {
-        let refused: serde_json::Map<String, Value> =
-            self.refused.iter().map(|(number, count)| (number.to_string(), json!(count))).collect();
-        let differ: Vec<Value> =
-            self.differ.iter().map(|(name, kept, now)| json!({ "file": name, "kept": kept, "now": now })).collect();
+        let refused: serde_json::Map<String, Value> = self
+            .refused
+            .iter()
+            .map(|(number, count)| (number.to_string(), json!(count)))
+            .collect();
+        let differ: Vec<Value> = self
+            .differ
+            .iter()
+            .map(|(name, kept, now)| json!({ "file": name, "kept": kept, "now": now }))
+            .collect();
         json!({
             "folder": folder.display().to_string(),
             "replayed": self.replayed,
@@ -264,7 +299,14 @@ fn print(args: &Vault, summary: &Summary) -> Result<(), Failure> {
         out.line(&format!("{name}: gone, and its answer is still kept"))?;
     }
     for (name, kept, now) in &summary.differ {
-        out.line(&format!("{name}: differs{}", if args.accept_changed { ", and the new answer is kept" } else { "" }))?;
+        out.line(&format!(
+            "{name}: differs{}",
+            if args.accept_changed {
+                ", and the new answer is kept"
+            } else {
+                ""
+            }
+        ))?;
         for line in difference(kept, now) {
             out.line(&format!("  {line}"))?;
         }
@@ -274,7 +316,10 @@ fn print(args: &Vault, summary: &Summary) -> Result<(), Failure> {
     }
     out.finish()?;
     if summary.replayed == 0 {
-        say(&format!("{}: no record, which is a file whose name ends in .pbr", args.folder.display()));
+        say(&format!(
+            "{}: no record, which is a file whose name ends in .pbr",
+            args.folder.display()
+        ));
     }
     Ok(())
 }
@@ -284,7 +329,12 @@ fn difference(kept: &str, now: &str) -> Vec<String> {
     let (kept, now): (Vec<&str>, Vec<&str>) = (kept.lines().collect(), now.lines().collect());
     let same = kept.iter().zip(&now).take_while(|(a, b)| a == b).count();
     let (kept, now) = (&kept[same..], &now[same..]);
-    let tail = kept.iter().rev().zip(now.iter().rev()).take_while(|(a, b)| a == b).count();
+    let tail = kept
+        .iter()
+        .rev()
+        .zip(now.iter().rev())
+        .take_while(|(a, b)| a == b)
+        .count();
     let (kept, now) = (&kept[..kept.len() - tail], &now[..now.len() - tail]);
     let mut lines = Vec::new();
     for (sign, part) in [('-', kept), ('+', now)] {
@@ -307,7 +357,10 @@ mod tests {
     fn answers_and_their_records() {
         let record = Path::new("a/b.pbr");
         assert_eq!(answer_of(record), PathBuf::from("a/b.pbr.answer"));
-        assert_eq!(record_of(Path::new("a/b.pbr.answer")), Some(record.to_path_buf()));
+        assert_eq!(
+            record_of(Path::new("a/b.pbr.answer")),
+            Some(record.to_path_buf())
+        );
         assert_eq!(record_of(Path::new("a/b.answer")), None);
         assert_eq!(record_of(record), None);
     }
@@ -320,15 +373,32 @@ mod tests {
         assert_eq!(difference("a\n", "refused 14\n"), ["- a", "+ refused 14"]);
         assert_eq!(difference("a", "a\n"), ["the last line feed differs"]);
         let long: String = (0..20).map(|k| format!("{k}\n")).collect();
-        assert_eq!(difference(&long, "").last().unwrap(), "- ... and 8 lines more");
+        assert_eq!(
+            difference(&long, "").last().unwrap(),
+            "- ... and 8 lines more"
+        );
     }
 
     #[test]
     fn the_summary_decides_the_status() {
-        let gone = Summary { gone: vec!["a".into()], ..Summary::default() };
-        let failed = Summary { failed: vec!["a".into()], gone: vec!["b".into()], ..Summary::default() };
-        let refused = Summary { new: 1, new_refused: 1, ..Summary::default() };
+        let gone = Summary {
+            gone: vec!["a".into()],
+            ..Summary::default()
+        };
+        let failed = Summary {
+            failed: vec!["a".into()],
+            gone: vec!["b".into()],
+            ..Summary::default()
+        };
+        let refused = Summary {
+            new: 1,
+            new_refused: 1,
+            ..Summary::default()
+        };
         let statuses = [Summary::default(), gone, refused, failed].map(|s| s.status());
-        assert_eq!(statuses, [Status::Good, Status::Found, Status::Found, Status::Failed]);
+        assert_eq!(
+            statuses,
+            [Status::Good, Status::Found, Status::Found, Status::Failed]
+        );
     }
 }

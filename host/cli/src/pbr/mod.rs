@@ -8,7 +8,7 @@ mod text;
 pub use bytes::laid_out;
 pub use explain::{why, why_of_contents};
 pub use shown::{shown, vertex_words};
-pub use text::{draft, Damage, Draft};
+pub use text::{draft, Draft, Edit};
 
 /// The words for the selectors' codes.
 const SELECTORS: [&str; 2] = ["or_and", "not_xor"];

@@ -7,14 +7,17 @@ use mask_tools::{Outline, RecordContents, RecordSlice, RecordVersion, Vertex};
 /// The text of a record's contents. Read back, it gives the same contents, bit for bit.
 pub fn shown(contents: &RecordContents) -> String {
     let two = contents.version == RecordVersion::Two;
-    let mut lines = Vec::new();
-    if two {
-        lines.push("version 2".to_string());
-    }
-    lines.push(format!("selector {}", selector_word(contents.selector_code)));
+    let mut lines = vec![
+        format!("version {}", contents.version.number()),
+        format!("selector {}", selector_word(contents.selector_code)),
+    ];
     lines.push(tolerance_line(contents));
     if two {
-        lines.push(format!("editions {} {}", contents.pline1.edition(), contents.pline2.edition()));
+        lines.push(format!(
+            "editions {} {}",
+            contents.pline1.edition(),
+            contents.pline2.edition()
+        ));
     }
     let starts = &contents.starts;
     lines.push(format!(
@@ -29,7 +32,12 @@ pub fn shown(contents: &RecordContents) -> String {
 
 /// A vertex as three words.
 pub fn vertex_words(vertex: &Vertex) -> String {
-    format!("{} {} {}", word(vertex.x), word(vertex.y), word(vertex.bulge))
+    format!(
+        "{} {} {}",
+        word(vertex.x),
+        word(vertex.y),
+        word(vertex.bulge)
+    )
 }
 
 fn tolerance_line(contents: &RecordContents) -> String {
@@ -72,15 +80,20 @@ fn slice_line(slice: &RecordSlice, with_edition: bool) -> String {
 mod tests {
     use super::super::{draft, laid_out};
     use super::*;
+    use std::path::Path;
 
-    const TWO: &str = "version 2\nselector not_xor\ntolerance 0.5 0.25\neditions 7 3\nstarts 1 1 2\n\
+    const TWO: &str =
+        "version 2\nselector not_xor\ntolerance 0.5 0.25\neditions 7 3\nstarts 1 1 2\n\
         1 0 -0.0 0.1\n1 4 0x7ff8000000000001 0\n2 1e300 2 0\n2 6 2 0\n\
         slice 1 - 2 3 2 4 0 0 4 2 7\nslice 9 5 0 3 4 2 0 0 2 4 4294967295\n";
 
     #[test]
     fn a_text_comes_back_as_it_was() {
-        let made = draft("t", TWO).unwrap();
+        let made = draft("t", TWO, Path::new(".")).unwrap();
         assert_eq!(shown(&made.contents), TWO);
-        assert_eq!(laid_out(&draft("t", &shown(&made.contents)).unwrap()), laid_out(&made));
+        assert_eq!(
+            laid_out(&draft("t", &shown(&made.contents), Path::new(".")).unwrap()),
+            laid_out(&made)
+        );
     }
 }

@@ -51,13 +51,21 @@ impl Bounds {
 
 /// Whether a vertex can be drawn.
 pub fn drawable(vertex: &Vertex) -> bool {
-    [vertex.x, vertex.y, vertex.bulge].iter().all(|n| n.abs() <= LARGEST)
+    [vertex.x, vertex.y, vertex.bulge]
+        .iter()
+        .all(|n| n.abs() <= LARGEST)
 }
 
 /// The segments between vertices, in order.
 pub fn segments(vertices: &[Vertex], closed: bool) -> impl Iterator<Item = (Vertex, Point)> + '_ {
-    let ends = vertices.iter().skip(1).chain(vertices.first().filter(|_| closed));
-    vertices.iter().zip(ends).map(|(from, to)| (*from, to.pos()))
+    let ends = vertices
+        .iter()
+        .skip(1)
+        .chain(vertices.first().filter(|_| closed));
+    vertices
+        .iter()
+        .zip(ends)
+        .map(|(from, to)| (*from, to.pos()))
 }
 
 /// Where in the picture a point lies.
@@ -75,13 +83,22 @@ impl Frame {
     pub fn new(bounds: &Bounds, place: [f64; 4], margin: f64) -> Frame {
         let [_, _, width, height] = place;
         let (wide, high) = bounds.size();
-        let scale = ((width - 2.0 * margin) / wide.max(1e-300)).min((height - 2.0 * margin) / high.max(1e-300));
+        let scale = ((width - 2.0 * margin) / wide.max(1e-300))
+            .min((height - 2.0 * margin) / high.max(1e-300));
         let middle = Point::new(
             (bounds.least.x + bounds.most.x) / 2.0,
             (bounds.least.y + bounds.most.y) / 2.0,
         );
-        let middle = if middle.x.is_finite() && middle.y.is_finite() { middle } else { Point::new(0.0, 0.0) };
-        Frame { place, scale, middle }
+        let middle = if middle.x.is_finite() && middle.y.is_finite() {
+            middle
+        } else {
+            Point::new(0.0, 0.0)
+        };
+        Frame {
+            place,
+            scale,
+            middle,
+        }
     }
 
     /// Where a point lies.
@@ -95,7 +112,12 @@ impl Frame {
     /// The least and the most that the place shows on each axis.
     pub fn shown(&self) -> [(f64, f64); 2] {
         let [_, _, width, height] = self.place;
-        let around = |middle: f64, size: f64| (middle - size / 2.0 / self.scale, middle + size / 2.0 / self.scale);
+        let around = |middle: f64, size: f64| {
+            (
+                middle - size / 2.0 / self.scale,
+                middle + size / 2.0 / self.scale,
+            )
+        };
         [around(self.middle.x, width), around(self.middle.y, height)]
     }
 
@@ -141,9 +163,16 @@ pub fn ticks((least, most): (f64, f64), about: f64) -> Vec<f64> {
         return Vec::new();
     }
     let power = 10f64.powf(rough.log10().floor());
-    let step = [1.0, 2.0, 5.0, 10.0].iter().map(|k| k * power).find(|s| *s >= rough).unwrap_or(10.0 * power);
+    let step = [1.0, 2.0, 5.0, 10.0]
+        .iter()
+        .map(|k| k * power)
+        .find(|s| *s >= rough)
+        .unwrap_or(10.0 * power);
     let first = (least / step).ceil();
-    (0..100).map(|k| (first + f64::from(k)) * step).take_while(|t| *t <= most).collect()
+    (0..100)
+        .map(|k| (first + f64::from(k)) * step)
+        .take_while(|t| *t <= most)
+        .collect()
 }
 
 #[cfg(test)]
@@ -153,7 +182,10 @@ mod tests {
     const PLACE: [f64; 4] = [0.0, 0.0, 120.0, 120.0];
 
     fn square() -> Vec<Vertex> {
-        [(0.0, 0.0), (4.0, 0.0), (4.0, 4.0), (0.0, 4.0)].iter().map(|&(x, y)| Vertex::new(x, y, 0.0)).collect()
+        [(0.0, 0.0), (4.0, 0.0), (4.0, 4.0), (0.0, 4.0)]
+            .iter()
+            .map(|&(x, y)| Vertex::new(x, y, 0.0))
+            .collect()
     }
 
     #[test]
@@ -163,7 +195,10 @@ mod tests {
         let frame = Frame::new(&bounds, PLACE, 10.0);
         assert_eq!(frame.scale, 25.0);
         assert_eq!(frame.at(Point::new(0.0, 0.0)), (10.0, 110.0));
-        assert_eq!(frame.path(&square(), true), "M10 110L110 110L110 10L10 10L10 110Z");
+        assert_eq!(
+            frame.path(&square(), true),
+            "M10 110L110 110L110 10L10 10L10 110Z"
+        );
     }
 
     #[test]

@@ -22,14 +22,22 @@ impl Labels {
     }
 
     /// A place for a text near a point: where its middle lies. `towards` is the direction that is tried first.
-    pub fn place(&mut self, text: &str, size: f64, near: (f64, f64), towards: (f64, f64)) -> (f64, f64) {
+    pub fn place(
+        &mut self,
+        text: &str,
+        size: f64,
+        near: (f64, f64),
+        towards: (f64, f64),
+    ) -> (f64, f64) {
         let (width, height) = (LETTER * size * text.chars().count() as f64, size);
         let first = towards.1.atan2(towards.0);
         let mut best = (f64::INFINITY, near);
         for distance in [9.0, 14.0, 20.0, 28.0] {
             for turn in 0..16 {
                 let middle = around(near, first, turn, distance, (width, height));
-                let cost = self.cost(boxed(middle, width, height)) + 0.05 * distance + 0.02 * f64::from(turn);
+                let cost = self.cost(boxed(middle, width, height))
+                    + 0.05 * distance
+                    + 0.02 * f64::from(turn);
                 if cost < best.0 {
                     best = (cost, middle);
                 }
@@ -41,22 +49,44 @@ impl Labels {
 
     /// How bad a place is: other labels weigh more than lines.
     fn cost(&self, place: [f64; 4]) -> f64 {
-        let labels = self.taken.iter().filter(|other| overlap(place, **other)).count();
-        let lines = self.lines.iter().filter(|point| inside(place, **point)).count();
+        let labels = self
+            .taken
+            .iter()
+            .filter(|other| overlap(place, **other))
+            .count();
+        let lines = self
+            .lines
+            .iter()
+            .filter(|point| inside(place, **point))
+            .count();
         100.0 * labels as f64 + lines as f64
     }
 }
 
 /// The middle of a text's box that lies in a direction of a point. The directions fan out to both sides of the first.
-fn around(near: (f64, f64), first: f64, turn: u32, distance: f64, (width, height): (f64, f64)) -> (f64, f64) {
+fn around(
+    near: (f64, f64),
+    first: f64,
+    turn: u32,
+    distance: f64,
+    (width, height): (f64, f64),
+) -> (f64, f64) {
     let side = if turn % 2 == 0 { 1.0 } else { -1.0 };
     let angle = first + side * f64::from((turn + 1) / 2) * std::f64::consts::TAU / 16.0;
     let (dx, dy) = (angle.cos(), angle.sin());
-    (near.0 + dx * (distance + width / 2.0), near.1 + dy * (distance + height / 2.0))
+    (
+        near.0 + dx * (distance + width / 2.0),
+        near.1 + dy * (distance + height / 2.0),
+    )
 }
 
 fn boxed((x, y): (f64, f64), width: f64, height: f64) -> [f64; 4] {
-    [x - width / 2.0, y - height / 2.0, x + width / 2.0, y + height / 2.0]
+    [
+        x - width / 2.0,
+        y - height / 2.0,
+        x + width / 2.0,
+        y + height / 2.0,
+    ]
 }
 
 fn overlap(a: [f64; 4], b: [f64; 4]) -> bool {
@@ -74,10 +104,15 @@ mod tests {
     #[test]
     fn labels_stay_off_each_other() {
         let mut labels = Labels::default();
-        let places: Vec<(f64, f64)> = (0..12).map(|_| labels.place("12", 11.0, (0.0, 0.0), (1.0, 0.0))).collect();
+        let places: Vec<(f64, f64)> = (0..12)
+            .map(|_| labels.place("12", 11.0, (0.0, 0.0), (1.0, 0.0)))
+            .collect();
         for (k, a) in places.iter().enumerate() {
             for b in &places[..k] {
-                assert!(!overlap(boxed(*a, 13.0, 11.0), boxed(*b, 13.0, 11.0)), "{a:?} {b:?}");
+                assert!(
+                    !overlap(boxed(*a, 13.0, 11.0), boxed(*b, 13.0, 11.0)),
+                    "{a:?} {b:?}"
+                );
             }
         }
         assert!(places[0].0 > 0.0 && places[0].1.abs() < 1e-9);

@@ -27,18 +27,36 @@ pub enum Entry {
 
 /// The entries for what these records show.
 pub fn entries(subjects: &[Subject]) -> Vec<Entry> {
-    let slices = || subjects.iter().flat_map(|s| (0..s.contents.slices.len()).map(move |k| (s, k)));
-    let any = |test: &dyn Fn(&Subject, usize) -> bool| slices().any(|(s, k)| s.ways[k].is_some() && test(s, k));
+    let slices = || {
+        subjects
+            .iter()
+            .flat_map(|s| (0..s.contents.slices.len()).map(move |k| (s, k)))
+    };
+    let any = |test: &dyn Fn(&Subject, usize) -> bool| {
+        slices().any(|(s, k)| s.ways[k].is_some() && test(s, k))
+    };
     let of = |source: u8| any(&|s, k| s.contents.slices[k].source_code == source && !s.is_stale(k));
-    let ended = |end: ChainEnd| subjects.iter().any(|s| s.chains().iter().any(|chain| chain.end == end));
-    let changed = subjects.len() == 2 && [1, 2].iter().any(|k| subjects[0].vertices(*k) != subjects[1].vertices(*k));
-    let joined = subjects.iter().any(|s| s.answer.replay().is_some() && !s.contents.slices.is_empty());
+    let ended = |end: ChainEnd| {
+        subjects
+            .iter()
+            .any(|s| s.chains().iter().any(|chain| chain.end == end))
+    };
+    let changed = subjects.len() == 2
+        && [1, 2]
+            .iter()
+            .any(|k| subjects[0].vertices(*k) != subjects[1].vertices(*k));
+    let joined = subjects
+        .iter()
+        .any(|s| s.answer.replay().is_some() && !s.contents.slices.is_empty());
     let all = [
         (Entry::Outline(1), true),
         (Entry::Outline(2), true),
         (Entry::Slice(1), of(1)),
         (Entry::Slice(2), of(2)),
-        (Entry::Inverted, any(&|s, k| s.contents.slices[k].inverted_code == 1 && !s.is_stale(k))),
+        (
+            Entry::Inverted,
+            any(&|s, k| s.contents.slices[k].inverted_code == 1 && !s.is_stale(k)),
+        ),
         (Entry::Overlap, any(&|s, k| s.is_overlap(k))),
         (Entry::Stale, any(&|s, k| s.is_stale(k))),
         (Entry::Before, changed),
@@ -46,11 +64,20 @@ pub fn entries(subjects: &[Subject]) -> Vec<Entry> {
         (Entry::Join, joined),
         (Entry::Gap, joined),
         (Entry::Loop, ended(ChainEnd::Closed)),
-        (Entry::End(ChainEnd::NoCandidate), ended(ChainEnd::NoCandidate)),
-        (Entry::End(ChainEnd::NotSelected), ended(ChainEnd::NotSelected)),
+        (
+            Entry::End(ChainEnd::NoCandidate),
+            ended(ChainEnd::NoCandidate),
+        ),
+        (
+            Entry::End(ChainEnd::NotSelected),
+            ended(ChainEnd::NotSelected),
+        ),
         (Entry::End(ChainEnd::TooSmall), ended(ChainEnd::TooSmall)),
     ];
-    all.iter().filter(|(_, there)| *there).map(|(entry, _)| *entry).collect()
+    all.iter()
+        .filter(|(_, there)| *there)
+        .map(|(entry, _)| *entry)
+        .collect()
 }
 
 fn columns(width: f64) -> usize {
@@ -66,7 +93,10 @@ pub fn height(entries: &[Entry], width: f64) -> f64 {
 /// Draws the legend at this left and top, in this width.
 pub fn draw(svg: &mut Svg, entries: &[Entry], [left, top, width]: [f64; 3]) {
     svg.open("legend");
-    svg.path("grid", &format!("M{} {}H{}", px(left), px(top), px(left + width)));
+    svg.path(
+        "grid",
+        &format!("M{} {}H{}", px(left), px(top), px(left + width)),
+    );
     for (number, entry) in entries.iter().enumerate() {
         let (column, row) = (number % columns(width), number / columns(width));
         let at = (left + column as f64 * COLUMN, top + 18.0 + row as f64 * ROW);
@@ -112,7 +142,11 @@ fn sign(svg: &mut Svg, entry: Entry, (x, y): (f64, f64)) {
 }
 
 fn colour(source: u8) -> &'static str {
-    if source == 1 { "one" } else { "two" }
+    if source == 1 {
+        "one"
+    } else {
+        "two"
+    }
 }
 
 fn words(entry: Entry) -> &'static str {

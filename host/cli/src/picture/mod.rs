@@ -27,8 +27,13 @@ const MARGIN: f64 = 44.0;
 /// The picture of one record, or of two side by side on the same scale.
 pub fn picture(subjects: &[Subject]) -> String {
     let mut bounds = Bounds::default();
-    subjects.iter().for_each(|subject| subject.enclose(&mut bounds));
-    let header = subjects.iter().map(panel::header_height).fold(0.0, f64::max);
+    subjects
+        .iter()
+        .for_each(|subject| subject.enclose(&mut bounds));
+    let header = subjects
+        .iter()
+        .map(panel::header_height)
+        .fold(0.0, f64::max);
     let mut svg = Svg::default();
     let width = GAP + subjects.len() as f64 * (WIDTH + GAP);
     let below = GAP + header + HEIGHT;
@@ -49,6 +54,9 @@ pub fn picture(subjects: &[Subject]) -> String {
         panel.draw(&mut svg, below);
     }
     legend::draw(&mut svg, &legend, [GAP, below + lists, width - 2.0 * GAP]);
-    let names: Vec<&str> = subjects.iter().map(|subject| subject.name.as_str()).collect();
+    let names: Vec<&str> = subjects
+        .iter()
+        .map(|subject| subject.name.as_str())
+        .collect();
     svg.finished(width, height, &names.join(" beside "), style::STYLE)
 }

@@ -68,7 +68,11 @@ impl Panel<'_> {
         svg.text("name", (self.left, y), &self.subject.name);
         y += LINE;
         svg.text("said", (self.left, y), &settings_line(self.subject));
-        let class = if self.subject.refused.is_some() { "refused" } else { "said" };
+        let class = if self.subject.refused.is_some() {
+            "refused"
+        } else {
+            "said"
+        };
         for line in result_lines(self.subject) {
             y += LINE;
             svg.text(class, (self.left, y), &line);
@@ -81,12 +85,18 @@ impl Panel<'_> {
         svg.open("axes");
         for x in ticks(across, 8.0) {
             let (at, _) = self.frame.at(Point::new(x, 0.0));
-            svg.path("grid", &format!("M{} {}V{}", px(at), px(top), px(top + height)));
+            svg.path(
+                "grid",
+                &format!("M{} {}V{}", px(at), px(top), px(top + height)),
+            );
             svg.text("tick", (at, top + height + 14.0), &word(rounded(x)));
         }
         for y in ticks(up, 6.0) {
             let (_, at) = self.frame.at(Point::new(0.0, y));
-            svg.path("grid", &format!("M{} {}H{}", px(left), px(at), px(left + width)));
+            svg.path(
+                "grid",
+                &format!("M{} {}H{}", px(left), px(at), px(left + width)),
+            );
             svg.text("tick-y", (left - 5.0, at + 3.5), &word(rounded(y)));
         }
         svg.close();
@@ -96,11 +106,19 @@ impl Panel<'_> {
     fn avoid_lines(&self, labels: &mut Labels) {
         let outlines = [self.subject.vertices(1), self.subject.vertices(2)];
         let closed = outlines.iter().flat_map(|outline| segments(outline, true));
-        let open = self.subject.ways.iter().flatten().flat_map(|way| segments(way, false));
+        let open = self
+            .subject
+            .ways
+            .iter()
+            .flatten()
+            .flat_map(|way| segments(way, false));
         for (from, to) in closed.chain(open) {
             let steps = (length(from, to) * self.frame.scale / APART).clamp(1.0, 400.0) as u32;
             for k in 0..=steps {
-                labels.avoid(self.frame.at(along(from, to, f64::from(k) / f64::from(steps))));
+                labels.avoid(
+                    self.frame
+                        .at(along(from, to, f64::from(k) / f64::from(steps))),
+                );
             }
         }
     }
@@ -115,11 +133,17 @@ impl Panel<'_> {
     fn outlines(&self, svg: &mut Svg) {
         for source in [1, 2] {
             let now = self.subject.vertices(source);
-            let was = self.before.map(|before| before.vertices(source)).filter(|was| *was != now);
+            let was = self
+                .before
+                .map(|before| before.vertices(source))
+                .filter(|was| *was != now);
             if let Some(was) = was {
                 svg.path("before", &self.frame.path(&was, true));
             }
-            svg.path(&format!("outline {}", colour(source)), &self.frame.path(&now, true));
+            svg.path(
+                &format!("outline {}", colour(source)),
+                &self.frame.path(&now, true),
+            );
         }
     }
 
@@ -149,7 +173,11 @@ impl Panel<'_> {
         if self.subject.is_stale(number) {
             return "stale".to_string();
         }
-        let direction = if slice.inverted_code == 1 { " inverted" } else { "" };
+        let direction = if slice.inverted_code == 1 {
+            " inverted"
+        } else {
+            ""
+        };
         format!("{}{direction}", colour(slice.source_code))
     }
 
@@ -164,9 +192,18 @@ impl Panel<'_> {
         }
         let (dx, dy) = ((x - bx) / size, (y - by) / size);
         let corner = |ahead: f64, aside: f64| {
-            format!("{} {}", px(x + ahead * dx - aside * dy), px(y + ahead * dy + aside * dx))
+            format!(
+                "{} {}",
+                px(x + ahead * dx - aside * dy),
+                px(y + ahead * dy + aside * dx)
+            )
         };
-        Some(format!("M{}L{}L{}Z", corner(9.0, 0.0), corner(-7.0, 7.0), corner(-7.0, -7.0)))
+        Some(format!(
+            "M{}L{}L{}Z",
+            corner(9.0, 0.0),
+            corner(-7.0, 7.0),
+            corner(-7.0, -7.0)
+        ))
     }
 
     /// A ring at each join, with a dot where the two ends are not the same; the box of the tolerances where it can be seen.
@@ -174,7 +211,10 @@ impl Panel<'_> {
         for (end, start) in chains.iter().flat_map(|chain| self.joined(chain)) {
             let (x, y) = self.frame.at(end);
             let tolerance = &self.subject.contents.tolerance;
-            let (wide, high) = (tolerance.x * self.frame.scale, tolerance.y * self.frame.scale);
+            let (wide, high) = (
+                tolerance.x * self.frame.scale,
+                tolerance.y * self.frame.scale,
+            );
             if wide > 3.0 || high > 3.0 {
                 svg.rectangle("box", [x - wide, y - high, 2.0 * wide, 2.0 * high]);
             }
@@ -204,7 +244,10 @@ impl Panel<'_> {
             .into_iter()
             .flat_map(|source| {
                 let vertices = self.subject.outline(source).vertices();
-                vertices.iter().enumerate().map(move |(index, vertex)| (source, index, *vertex))
+                vertices
+                    .iter()
+                    .enumerate()
+                    .map(move |(index, vertex)| (source, index, *vertex))
             })
             .filter(|(_, _, vertex)| drawable(vertex))
             .map(|(source, index, vertex)| (source, index, vertex, self.frame.at(vertex.pos())))
@@ -240,17 +283,28 @@ impl Panel<'_> {
         let (x, y) = at(index);
         let away = |(px, py): (f64, f64)| {
             let size = (x - px).hypot(y - py);
-            if size > 0.0 { ((x - px) / size, (y - py) / size) } else { (0.0, 0.0) }
+            if size > 0.0 {
+                ((x - px) / size, (y - py) / size)
+            } else {
+                (0.0, 0.0)
+            }
         };
         let (before, after) = (away(at(index + count - 1)), away(at(index + 1)));
         let (dx, dy) = (before.0 + after.0, before.1 + after.1);
-        if dx.hypot(dy) > 1e-6 && dx.is_finite() && dy.is_finite() { (dx, dy) } else { (-before.1, before.0) }
+        if dx.hypot(dy) > 1e-6 && dx.is_finite() && dy.is_finite() {
+            (dx, dy)
+        } else {
+            (-before.1, before.0)
+        }
     }
 
     /// A sign at the loose end of each chain that did not close, and how it ended.
     fn ends(&self, svg: &mut Svg, chains: &[Drawn], labels: &mut Labels) {
         for chain in chains.iter().filter(|chain| chain.end != ChainEnd::Closed) {
-            let last = chain.slices.last().and_then(|slice| self.subject.ways[*slice].as_deref());
+            let last = chain
+                .slices
+                .last()
+                .and_then(|slice| self.subject.ways[*slice].as_deref());
             let end = match last.and_then(|way| way.last()) {
                 Some(end) => self.frame.at(end.pos()),
                 None => continue,
@@ -281,7 +335,11 @@ impl Panel<'_> {
                 format!("slice {number}")
             };
             let place = labels.place(&text, 11.0, (x, y), (by - y, x - bx));
-            let class = if self.subject.is_stale(number) { "label".to_string() } else { format!("label number-{}", colour(slice.source_code)) };
+            let class = if self.subject.is_stale(number) {
+                "label".to_string()
+            } else {
+                format!("label number-{}", colour(slice.source_code))
+            };
             svg.text(&class, place, &text);
         }
     }
@@ -293,14 +351,22 @@ impl Panel<'_> {
         }
         if chains.len() > LISTED {
             let y = below + LINE * (LISTED as f64 + 1.0);
-            svg.text("said", (self.left, y), &format!("and {} more", counted(chains.len() - LISTED, "chain")));
+            svg.text(
+                "said",
+                (self.left, y),
+                &format!("and {} more", counted(chains.len() - LISTED, "chain")),
+            );
         }
     }
 }
 
 /// The class of what is of an outline.
 fn colour(source: u8) -> &'static str {
-    if source == 1 { "one" } else { "two" }
+    if source == 1 {
+        "one"
+    } else {
+        "two"
+    }
 }
 
 /// A number without what rounding has left at its end.
@@ -310,7 +376,8 @@ fn rounded(value: f64) -> f64 {
 }
 
 fn longest(way: &[Vertex]) -> Option<(Vertex, Point)> {
-    let longer = |a: &(Vertex, Point), b: &(Vertex, Point)| length(a.0, a.1).total_cmp(&length(b.0, b.1));
+    let longer =
+        |a: &(Vertex, Point), b: &(Vertex, Point)| length(a.0, a.1).total_cmp(&length(b.0, b.1));
     segments(way, false).max_by(longer)
 }
 
@@ -349,7 +416,11 @@ fn settings_line(subject: &Subject) -> String {
         format!("tolerances {} and {}", as_fraction(x), as_fraction(y))
     };
     let version = contents.version.number();
-    let editions = format!("editions {} and {}", contents.pline1.edition(), contents.pline2.edition());
+    let editions = format!(
+        "editions {} and {}",
+        contents.pline1.edition(),
+        contents.pline2.edition()
+    );
     format!("version {version}, {selector}, {tolerance}, {editions}")
 }
 
@@ -357,14 +428,24 @@ fn settings_line(subject: &Subject) -> String {
 fn as_fraction(value: f64) -> String {
     let below = 1.0 / value;
     let exact = below.fract() == 0.0 && below > 1.0 && below < 1e15 && 1.0 / below == value;
-    if exact { format!("1/{}", below as u64) } else { word(value) }
+    if exact {
+        format!("1/{}", below as u64)
+    } else {
+        word(value)
+    }
 }
 
 /// What came of it, in lines of the header.
 fn result_lines(subject: &Subject) -> Vec<String> {
     match &subject.refused {
         Some((number, why)) => wrapped(&format!("refused {number}: {why}")),
-        None => vec![subject.answer.text().lines().next().unwrap_or("").to_string()],
+        None => vec![subject
+            .answer
+            .text()
+            .lines()
+            .next()
+            .unwrap_or("")
+            .to_string()],
     }
 }
 
@@ -391,7 +472,9 @@ fn chain_line(number: usize, chain: &Drawn) -> String {
         ChainEnd::Closed => format!("closed, {} vertices", chain.vertices),
         ChainEnd::TooSmall => "small: it closed with fewer than 3 vertices".to_string(),
         ChainEnd::NoCandidate => "empty: no slice starts at its end".to_string(),
-        ChainEnd::NotSelected => "unselected: slices start at its end, and none is taken".to_string(),
+        ChainEnd::NotSelected => {
+            "unselected: slices start at its end, and none is taken".to_string()
+        }
     };
     format!("chain {number}, slices {}: {how}", slices.join(" "))
 }
@@ -402,7 +485,14 @@ mod tests {
 
     #[test]
     fn fractions_where_they_are_exact() {
-        assert_eq!([as_fraction(1.0 / 1024.0), as_fraction(0.1), as_fraction(1.0)], ["1/1024", "1/10", "1"]);
+        assert_eq!(
+            [
+                as_fraction(1.0 / 1024.0),
+                as_fraction(0.1),
+                as_fraction(1.0)
+            ],
+            ["1/1024", "1/10", "1"]
+        );
         assert_eq!(as_fraction(0.3), "0.3");
         assert_eq!(as_fraction(0.0), "0");
     }

@@ -37,25 +37,52 @@ impl Subject {
     pub fn read(path: &Path) -> Result<Subject, Failure> {
         let bytes = input::record(path)?;
         let name = input::name_of(path);
-        let contents = Record::from_bytes(&bytes.bytes[..]).contents().map_err(|refusal| {
-            let number = refusal.number();
-            let why = format!("{}; it cannot be drawn", pbr::why(number, &bytes));
-            Failure::Refused { name: name.clone(), number, why }
-        })?;
+        let contents = Record::from_bytes(&bytes.bytes[..])
+            .contents()
+            .map_err(|refusal| {
+                let number = refusal.number();
+                let why = format!("{}; it cannot be drawn", pbr::why(number, &bytes));
+                Failure::Refused {
+                    name: name.clone(),
+                    number,
+                    why,
+                }
+            })?;
         let answer = Answer::of(&bytes);
-        let refused = answer.refusal().map(|number| (number, pbr::why(number, &bytes)));
-        let ways = contents.slices.iter().map(|slice| way(&contents, slice)).collect();
-        Ok(Subject { name, contents, answer, refused, ways })
+        let refused = answer
+            .refusal()
+            .map(|number| (number, pbr::why(number, &bytes)));
+        let ways = contents
+            .slices
+            .iter()
+            .map(|slice| way(&contents, slice))
+            .collect();
+        Ok(Subject {
+            name,
+            contents,
+            answer,
+            refused,
+            ways,
+        })
     }
 
     /// Outline 1 or 2.
     pub fn outline(&self, source: u8) -> &Outline {
-        if source == 1 { &self.contents.pline1 } else { &self.contents.pline2 }
+        if source == 1 {
+            &self.contents.pline1
+        } else {
+            &self.contents.pline2
+        }
     }
 
     /// The vertices of an outline that can be drawn.
     pub fn vertices(&self, source: u8) -> Vec<Vertex> {
-        self.outline(source).vertices().iter().copied().filter(drawable).collect()
+        self.outline(source)
+            .vertices()
+            .iter()
+            .copied()
+            .filter(drawable)
+            .collect()
     }
 
     /// Whether a slice was cut from another edition of its outline.
@@ -79,7 +106,11 @@ impl Subject {
         let drawn = replay.stitched.chains().map(|chain| Drawn {
             slices: chain.slices.to_vec(),
             end: chain.end,
-            vertices: if chain.end == ChainEnd::Closed { loops.next().map_or(0, <[Vertex]>::len) } else { 0 },
+            vertices: if chain.end == ChainEnd::Closed {
+                loops.next().map_or(0, <[Vertex]>::len)
+            } else {
+                0
+            },
         });
         drawn.collect()
     }
@@ -87,7 +118,11 @@ impl Subject {
     /// The loops, where the record is not refused.
     pub fn loops(&self) -> Vec<Vec<Vertex>> {
         let replay = self.answer.replay();
-        replay.iter().flat_map(|r| r.stitched.loops()).map(<[Vertex]>::to_vec).collect()
+        replay
+            .iter()
+            .flat_map(|r| r.stitched.loops())
+            .map(<[Vertex]>::to_vec)
+            .collect()
     }
 
     /// Adds all that is drawn of it to the bounds.

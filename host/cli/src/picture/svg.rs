@@ -19,7 +19,11 @@ impl Svg {
     /// A text.
     pub fn text(&mut self, class: &str, at: (f64, f64), text: &str) {
         let (x, y) = (px(at.0), px(at.1));
-        let _ = writeln!(self.body, "<text class=\"{class}\" x=\"{x}\" y=\"{y}\">{}</text>", escaped(text));
+        let _ = writeln!(
+            self.body,
+            "<text class=\"{class}\" x=\"{x}\" y=\"{y}\">{}</text>",
+            escaped(text)
+        );
     }
 
     /// Begins a group.
@@ -34,21 +38,34 @@ impl Svg {
 
     /// A path.
     pub fn path(&mut self, class: &str, d: &str) {
-        self.element("path", &[("class", class.to_string()), ("d", d.to_string())]);
+        self.element(
+            "path",
+            &[("class", class.to_string()), ("d", d.to_string())],
+        );
     }
 
     /// A circle.
     pub fn circle(&mut self, class: &str, at: (f64, f64), radius: f64) {
         self.element(
             "circle",
-            &[("class", class.to_string()), ("cx", px(at.0)), ("cy", px(at.1)), ("r", px(radius))],
+            &[
+                ("class", class.to_string()),
+                ("cx", px(at.0)),
+                ("cy", px(at.1)),
+                ("r", px(radius)),
+            ],
         );
     }
 
     /// A rectangle: left, top, width, height.
     pub fn rectangle(&mut self, class: &str, [x, y, width, height]: [f64; 4]) {
-        let attributes =
-            [("class", class.to_string()), ("x", px(x)), ("y", px(y)), ("width", px(width)), ("height", px(height))];
+        let attributes = [
+            ("class", class.to_string()),
+            ("x", px(x)),
+            ("y", px(y)),
+            ("width", px(width)),
+            ("height", px(height)),
+        ];
         self.element("rect", &attributes);
     }
 
@@ -106,7 +123,10 @@ mod tests {
 
     #[test]
     fn lengths_are_short() {
-        assert_eq!([px(1.0), px(0.25), px(-0.001), px(12.346)], ["1", "0.25", "0", "12.35"]);
+        assert_eq!(
+            [px(1.0), px(0.25), px(-0.001), px(12.346)],
+            ["1", "0.25", "0", "12.35"]
+        );
     }
 
     #[test]
