@@ -133,12 +133,14 @@ One item to a line, words parted by blanks; # starts a comment. Vertices and sli
   version 2                       1 where this line is left out
   selector or_and                 or not_xor
   tolerance 1/1024                in version 2 also two, of x and of y
-  editions 7 3                    of outline 1 and outline 2; version 2 only, 0 where this line is left out
-  starts 1 2 2                    where the slices of outline 2, the overlaps of 1 and the overlaps of 2 begin
+  editions 7 3                    of the outlines, in version 2; 0 where this line is left out
+  starts 1 2 2                    where the slices of outline 2, the overlaps of 1 and the
+                                  overlaps of 2 begin
   1 0 0 0                         a vertex of outline 1: x y bulge
   2 2 2 0                         a vertex of outline 2
-  slice 1 + 2 3  2 4 0  0  4 2    source, + or - (inverted), start, offset; start x y bulge; end bulge; end x y;
-                                  in version 2 also an edition, where it is not its outline's
+  slice 1 + 2 3  2 4 0  0  4 2    source, + or - (inverted), start, offset; start x y bulge;
+                                  end bulge; end x y; in version 2 also an edition, where it
+                                  is not its outline's
 
 A number is a fraction, a decimal number, or 0x and the 16 hex digits of its bits. The record is written by the \
 proved writer, which refuses what could not be run again. For records that show a refusal there is --unchecked: it \

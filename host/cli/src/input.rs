@@ -4,6 +4,7 @@ use crate::failure::Failure;
 use mask_tools::Record;
 use std::fs::{self, File};
 use std::io::{self, Read};
+use std::os::unix::io::AsFd;
 use std::path::{Path, PathBuf};
 
 /// The name that stands for standard input.
@@ -62,7 +63,10 @@ pub fn open(path: &Path) -> Result<(Box<dyn Read>, Option<u64>), Failure> {
         if input_is_closed() {
             return Err(Failure::ClosedInput);
         }
-        return Ok((Box::new(io::stdin()), None));
+        // Rust's own reader of standard input takes one that cannot be read for an empty one.
+        let input = io::stdin().as_fd().try_clone_to_owned();
+        let input = input.map_err(|error| unread(path, error))?;
+        return Ok((Box::new(File::from(input)), None));
     }
     let file = File::open(path).map_err(|error| unread(path, error))?;
     let length = file
@@ -107,7 +111,11 @@ pub fn text(path: &Path) -> Result<String, Failure> {
             "more than 1,048,576 bytes, which no text of a record has",
         ));
     }
-    String::from_utf8(bytes).map_err(|_| unfit("no text: it has bytes that are not UTF-8"))
+    let is_text = |c: char| !c.is_control() || matches!(c, '\n' | '\r' | '\t');
+    match String::from_utf8(bytes) {
+        Ok(text) if text.chars().all(is_text) => Ok(text),
+        _ => Err(unfit("no text: it has bytes that no text has")),
+    }
 }
 
 /// What could not be read.

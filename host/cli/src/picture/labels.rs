@@ -1,16 +1,25 @@
 //! Where labels stand: near what they name, off each other, and off lines as far as that goes.
 
 /// How wide a letter is, of a font's height.
-const LETTER: f64 = 0.62;
+const LETTER: f64 = 0.68;
 
 /// Boxes that are taken, and points that are better left free.
-#[derive(Default)]
 pub struct Labels {
+    within: [f64; 4],
     taken: Vec<[f64; 4]>,
     lines: Vec<(f64, f64)>,
 }
 
 impl Labels {
+    /// No labels yet, in a place: left, top, right, bottom.
+    pub fn new(within: [f64; 4]) -> Labels {
+        Labels {
+            within,
+            taken: Vec::new(),
+            lines: Vec::new(),
+        }
+    }
+
     /// Takes a box: left, top, right, bottom.
     pub fn take(&mut self, place: [f64; 4]) {
         self.taken.push(place);
@@ -47,7 +56,7 @@ impl Labels {
         best.1
     }
 
-    /// How bad a place is: other labels weigh more than lines.
+    /// How bad a place is: other labels weigh most, then the edge of the picture, then lines.
     fn cost(&self, place: [f64; 4]) -> f64 {
         let labels = self
             .taken
@@ -59,7 +68,12 @@ impl Labels {
             .iter()
             .filter(|point| inside(place, **point))
             .count();
-        100.0 * labels as f64 + lines as f64
+        let outside = if encloses(self.within, place) {
+            0.0
+        } else {
+            50.0
+        };
+        100.0 * labels as f64 + lines as f64 + outside
     }
 }
 
@@ -93,6 +107,10 @@ fn overlap(a: [f64; 4], b: [f64; 4]) -> bool {
     a[0] < b[2] && b[0] < a[2] && a[1] < b[3] && b[1] < a[3]
 }
 
+fn encloses(a: [f64; 4], b: [f64; 4]) -> bool {
+    a[0] <= b[0] && a[1] <= b[1] && b[2] <= a[2] && b[3] <= a[3]
+}
+
 fn inside(a: [f64; 4], (x, y): (f64, f64)) -> bool {
     a[0] <= x && x <= a[2] && a[1] <= y && y <= a[3]
 }
@@ -101,9 +119,11 @@ fn inside(a: [f64; 4], (x, y): (f64, f64)) -> bool {
 mod tests {
     use super::*;
 
+    const ALL: [f64; 4] = [-1e9, -1e9, 1e9, 1e9];
+
     #[test]
     fn labels_stay_off_each_other() {
-        let mut labels = Labels::default();
+        let mut labels = Labels::new(ALL);
         let places: Vec<(f64, f64)> = (0..12)
             .map(|_| labels.place("12", 11.0, (0.0, 0.0), (1.0, 0.0)))
             .collect();
@@ -120,9 +140,16 @@ mod tests {
 
     #[test]
     fn lines_are_avoided() {
-        let mut labels = Labels::default();
+        let mut labels = Labels::new(ALL);
         (0..40).for_each(|k| labels.avoid((f64::from(k), 0.0)));
         let (_, y) = labels.place("1", 11.0, (0.0, 0.0), (1.0, 0.0));
         assert!(y.abs() > 5.0);
+    }
+
+    #[test]
+    fn labels_stay_in_their_place() {
+        let mut labels = Labels::new([-100.0, -100.0, 5.0, 100.0]);
+        let (x, _) = labels.place("slice 4", 11.0, (0.0, 0.0), (1.0, 0.0));
+        assert!(x < 0.0);
     }
 }

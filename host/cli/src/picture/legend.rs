@@ -3,7 +3,7 @@
 use super::panel::sign_at;
 use super::subject::Subject;
 use super::svg::{px, Svg};
-use mask_tools::ChainEnd;
+use mask_tools::{ChainEnd, Point};
 
 /// The width of a column, and the height of a row.
 const COLUMN: f64 = 288.0;
@@ -45,9 +45,15 @@ pub fn entries(subjects: &[Subject]) -> Vec<Entry> {
         && [1, 2]
             .iter()
             .any(|k| subjects[0].vertices(*k) != subjects[1].vertices(*k));
-    let joined = subjects
-        .iter()
-        .any(|s| s.answer.replay().is_some() && !s.contents.slices.is_empty());
+    let joins = |test: &dyn Fn(Point, Point) -> bool| {
+        let chains = |s: &Subject| {
+            s.chains()
+                .iter()
+                .flat_map(|c| s.joined(c))
+                .any(|(a, b)| test(a, b))
+        };
+        subjects.iter().any(chains)
+    };
     let all = [
         (Entry::Outline(1), true),
         (Entry::Outline(2), true),
@@ -61,8 +67,8 @@ pub fn entries(subjects: &[Subject]) -> Vec<Entry> {
         (Entry::Stale, any(&|s, k| s.is_stale(k))),
         (Entry::Before, changed),
         (Entry::Moved, changed),
-        (Entry::Join, joined),
-        (Entry::Gap, joined),
+        (Entry::Join, joins(&|end, start| end == start)),
+        (Entry::Gap, joins(&|end, start| end != start)),
         (Entry::Loop, ended(ChainEnd::Closed)),
         (
             Entry::End(ChainEnd::NoCandidate),
@@ -160,7 +166,7 @@ fn words(entry: Entry) -> &'static str {
         Entry::Stale => "slice of another edition, read now",
         Entry::Before => "outline as it was in the first record",
         Entry::Moved => "vertex whose number meant another",
-        Entry::Join => "join",
+        Entry::Join => "join: the ends are the same",
         Entry::Gap => "join within tolerance: the ends differ",
         Entry::Loop => "loop: the inside of the answer",
         Entry::End(ChainEnd::NotSelected) => "chain that ended unselected",

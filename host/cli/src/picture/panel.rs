@@ -50,7 +50,8 @@ impl Panel<'_> {
         self.header(svg);
         svg.rectangle("place", self.frame.place);
         self.axes(svg);
-        let mut labels = Labels::default();
+        let [left, top, width, height] = self.frame.place;
+        let mut labels = Labels::new([left, top, left + width, top + height]);
         self.avoid_lines(&mut labels);
         self.loops(svg);
         self.outlines(svg);
@@ -208,7 +209,7 @@ impl Panel<'_> {
 
     /// A ring at each join, with a dot where the two ends are not the same; the box of the tolerances where it can be seen.
     fn joins(&self, svg: &mut Svg, chains: &[Drawn], labels: &mut Labels) {
-        for (end, start) in chains.iter().flat_map(|chain| self.joined(chain)) {
+        for (end, start) in chains.iter().flat_map(|chain| self.subject.joined(chain)) {
             let (x, y) = self.frame.at(end);
             let tolerance = &self.subject.contents.tolerance;
             let (wide, high) = (
@@ -224,19 +225,6 @@ impl Panel<'_> {
             }
             labels.take([x - 8.0, y - 8.0, x + 8.0, y + 8.0]);
         }
-    }
-
-    /// Where the slices of a chain meet: the end of one, and the start of the next.
-    fn joined(&self, chain: &Drawn) -> Vec<(Point, Point)> {
-        let closes = matches!(chain.end, ChainEnd::Closed | ChainEnd::TooSmall);
-        let first = chain.slices.first().filter(|_| closes);
-        let next = chain.slices.iter().skip(1).chain(first);
-        let ends = |slice: &usize| -> Option<(Point, Point)> {
-            let way = self.subject.ways[*slice].as_deref()?;
-            Some((way.first()?.pos(), way.last()?.pos()))
-        };
-        let meet = |(one, other): (&usize, &usize)| Some((ends(one)?.1, ends(other)?.0));
-        chain.slices.iter().zip(next).filter_map(meet).collect()
     }
 
     fn vertices(&self, svg: &mut Svg, labels: &mut Labels) {
@@ -257,7 +245,12 @@ impl Panel<'_> {
                 svg.circle("moved", *at, 8.0);
             }
             svg.circle(&format!("vertex {}", colour(*source)), *at, 3.5);
-            labels.take([at.0 - 4.0, at.1 - 4.0, at.0 + 4.0, at.1 + 4.0]);
+            let half = if self.has_moved(*source, *index) {
+                9.0
+            } else {
+                4.0
+            };
+            labels.take([at.0 - half, at.1 - half, at.0 + half, at.1 + half]);
         }
         for (source, index, _, at) in &all {
             let text = index.to_string();
@@ -416,12 +409,11 @@ fn settings_line(subject: &Subject) -> String {
         format!("tolerances {} and {}", as_fraction(x), as_fraction(y))
     };
     let version = contents.version.number();
-    let editions = format!(
-        "editions {} and {}",
-        contents.pline1.edition(),
-        contents.pline2.edition()
-    );
-    format!("version {version}, {selector}, {tolerance}, {editions}")
+    if version == 1 {
+        return format!("version 1, {selector}, {tolerance}");
+    }
+    let (first, second) = (contents.pline1.edition(), contents.pline2.edition());
+    format!("version {version}, {selector}, {tolerance}, editions {first} and {second}")
 }
 
 /// A number as one over a whole number, where it is that.

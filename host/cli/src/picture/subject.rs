@@ -5,7 +5,7 @@ use crate::answer::Answer;
 use crate::failure::Failure;
 use crate::input;
 use crate::pbr;
-use mask_tools::{ChainEnd, Outline, Record, RecordContents, Vertex};
+use mask_tools::{ChainEnd, Outline, Point, Record, RecordContents, Vertex};
 use std::path::Path;
 
 /// A record that is to be drawn.
@@ -113,6 +113,19 @@ impl Subject {
             },
         });
         drawn.collect()
+    }
+
+    /// Where the slices of a chain meet: the end of one, and the start of the next.
+    pub fn joined(&self, chain: &Drawn) -> Vec<(Point, Point)> {
+        let closes = matches!(chain.end, ChainEnd::Closed | ChainEnd::TooSmall);
+        let first = chain.slices.first().filter(|_| closes);
+        let next = chain.slices.iter().skip(1).chain(first);
+        let ends = |slice: &usize| -> Option<(Point, Point)> {
+            let way = self.ways[*slice].as_deref()?;
+            Some((way.first()?.pos(), way.last()?.pos()))
+        };
+        let meet = |(one, other): (&usize, &usize)| Some((ends(one)?.1, ends(other)?.0));
+        chain.slices.iter().zip(next).filter_map(meet).collect()
     }
 
     /// The loops, where the record is not refused.
