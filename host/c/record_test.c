@@ -502,6 +502,35 @@ static void sizes(void)
     }
 }
 
+/* "4,610 bytes (else 13)": a record one vertex or one slice larger than the most, its length as its
+   counts say. With fewer of the others the same counts are 2 or 1. */
+static void beyond_the_most(void)
+{
+    static uint8_t bytes[LONGEST];
+    for (uint32_t version = 1; version <= 2; version++) {
+        int ok = 1;
+        for (int larger = 0; larger < 4; larger++) {
+            size_t len;
+            the_most(version);
+            if (larger % 2 == 0)
+                c.vc[0]++;
+            else
+                add(1, 0, 0, 0, 0, 0, 0, 0, 1, 1);
+            if (larger >= 2)
+                c.vc[1] = larger == 2 ? 2 : 50;
+            measure(0);
+            expect_bytes(BYTES, c.bytes_len);
+            ref_write();
+            len = want[BYTES].used;
+            memcpy(bytes, (uint8_t *)want[BYTES].words + BEFORE, len);
+            memset(given, 0, sizeof given);
+            ok &= replays(bytes, len, THE_MOST);
+            ok &= given[larger < 2 ? 13 : larger == 2 ? 2 : 1] == 1;
+        }
+        check(ok, "version %u: above %zu bytes is 13, before 1 and 2", version, MOST_BYTES[version]);
+    }
+}
+
 /* "every length 0..4739 of a truncated record": the most, cut and lengthened. */
 static void lengths_of_records(void)
 {
@@ -1143,6 +1172,7 @@ int main(void)
     make_room();
     squares();
     sizes();
+    beyond_the_most();
     lengths_of_records();
     each_byte();
     versions();

@@ -3,6 +3,7 @@
 mod editions;
 mod masks;
 mod random;
+mod records;
 mod refusals;
 mod settings;
 mod shapes;

@@ -4,8 +4,8 @@ use crate::shapes::{a, b, hit, hits, named, plain, T};
 use mask_tools::{
     area_pass, candidates, cut_order, lent, prune, split_cuts, stitch, Answered, Candidate,
     Candidates, CutSplit, Intersection, Intersections, OnSegment, Outline, Overlap, Overlaps,
-    Point, Refusal, Selector, Slice, Slices, Source, Splits, Starts, StraightHost, Tolerance,
-    Vertex, View, Walk,
+    Point, Record, RecordVersion, Refusal, Selector, Slice, Slices, Source, Splits, Starts,
+    StraightHost, Tolerance, Vertex, View, Walk,
 };
 use mask_tools::{Host, Masks, Mode};
 
@@ -563,6 +563,68 @@ fn of_stitch() {
             ..slices(view(), 1)
         };
         assert_eq!(stitched(&a, &b, &bad, t), Err(Refusal::Starts));
+    }
+}
+
+/// A record takes what a stitch takes, of at most 64 vertices and 28 slices.
+#[test]
+fn of_record_write() {
+    for version in RecordVersion::ALL {
+        let written = |pline1: &Outline, pline2: &Outline, slices: &Slices, t| {
+            Record::write(version, pline1, pline2, slices, Selector::OrAnd, t).map(|_| ())
+        };
+        let (a, b) = (a(), b());
+        assert_eq!(written(&a, &b, &slices(view(), 28), T), Ok(()));
+        for count in [29, 1792, 1793] {
+            let found = written(&a, &b, &slices(view(), count), T);
+            assert_eq!(found, Err(Refusal::Length));
+        }
+        let none = slices(view(), 0);
+        assert_eq!(written(&line_of(64), &line_of(2), &none, T), Ok(()));
+        for count in [0, 1, 65, 1024, 1025] {
+            let bad = line_of(count);
+            assert_eq!(written(&bad, &b, &none, T), Err(Refusal::Outline));
+            assert_eq!(written(&a, &bad, &none, T), Err(Refusal::Outline));
+        }
+        for (outline, refusal) in bad_outlines() {
+            assert_eq!(written(&outline, &b, &slices(view(), 1), T), Err(refusal));
+            assert_eq!(written(&a, &outline, &slices(view(), 1), T), Err(refusal));
+        }
+        for t in bad_tolerances() {
+            let found = written(&a, &b, &slices(view(), 1), t);
+            assert_eq!(found, Err(Refusal::Tolerance));
+        }
+        let differ = Tolerance { y: 0.5, ..T };
+        let two = version == RecordVersion::Two;
+        let found = written(&a, &b, &slices(view(), 1), differ);
+        assert_eq!(found.err(), (!two).then_some(Refusal::Tolerance));
+        for x in BAD_NUMBERS {
+            let mut bad = view();
+            bad.end_point.x = x;
+            let found = written(&a, &b, &slices(bad, 1), T);
+            assert_eq!(found, Err(Refusal::Number));
+        }
+        let mut bad = view();
+        bad.start_index = 4;
+        let found = written(&a, &b, &slices(bad, 1), T);
+        assert_eq!(found, Err(Refusal::Index));
+        for end_index_offset in [5, 65, 65536, usize::MAX] {
+            let bad = View {
+                end_index_offset,
+                ..view()
+            };
+            let found = written(&a, &b, &slices(bad, 1), T);
+            assert_eq!(found, Err(Refusal::Count));
+        }
+        let mut fallen = slices(view(), 2);
+        fallen.starts.pline1_overlapping = 1;
+        assert_eq!(written(&a, &b, &fallen, T), Err(Refusal::Starts));
+        let late = View {
+            edition: 1,
+            ..view()
+        };
+        let found = written(&a, &b, &slices(late, 1), T);
+        assert_eq!(found, Err(Refusal::Edition));
     }
 }
 
