@@ -13,13 +13,15 @@ use rayon::prelude::*;
 use serde_json::{json, Value};
 use std::collections::BTreeMap;
 use std::fs;
-use std::io::ErrorKind;
+use std::io::{ErrorKind, Read};
 use std::path::{Path, PathBuf};
 
 /// What a record's name ends in.
 const RECORD: &str = "pbr";
 /// What the name of a kept answer adds to its record's.
 const ANSWER: &str = ".answer";
+/// More bytes than any answer has: at most 28 chains, and 1,821 vertices of three numbers.
+const LONGEST_ANSWER: u64 = 1 << 20;
 /// How many lines of a difference are shown.
 const SHOWN: usize = 12;
 
@@ -174,13 +176,17 @@ fn tried(path: &Path, args: &Vault) -> Result<Tried, Failure> {
     })
 }
 
-/// The answer that is kept, where there is one.
+/// The answer that is kept, where there is one. Of a file that is longer than any answer no more is read than shows it.
 fn kept(path: &Path) -> Result<Option<String>, Failure> {
-    match fs::read(path) {
-        Ok(bytes) => Ok(Some(String::from_utf8_lossy(&bytes).into_owned())),
-        Err(error) if error.kind() == ErrorKind::NotFound => Ok(None),
-        Err(error) => Err(unread(path, error)),
-    }
+    let file = match fs::File::open(path) {
+        Ok(file) => file,
+        Err(error) if error.kind() == ErrorKind::NotFound => return Ok(None),
+        Err(error) => return Err(unread(path, error)),
+    };
+    let mut bytes = Vec::new();
+    let read = file.take(LONGEST_ANSWER).read_to_end(&mut bytes);
+    read.map_err(|error| unread(path, error))?;
+    Ok(Some(String::from_utf8_lossy(&bytes).into_owned()))
 }
 
 impl Summary {
