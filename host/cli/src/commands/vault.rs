@@ -8,7 +8,7 @@ use crate::number::grouped;
 use crate::output::{say, tell, Out};
 use crate::pbr;
 use crate::save;
-use indicatif::{ProgressBar, ProgressStyle};
+use indicatif::{ProgressBar, ProgressState, ProgressStyle};
 use rayon::prelude::*;
 use serde_json::{json, Value};
 use std::collections::BTreeMap;
@@ -88,11 +88,15 @@ pub fn run(args: &Vault) -> Result<Status, Failure> {
 /// A bar on a terminal, and nothing elsewhere.
 fn bar_of(records: usize) -> ProgressBar {
     let bar = ProgressBar::new(records as u64);
-    let template = "{bar:40} {pos} of {len} records, {per_sec}, {eta} left";
+    let template = "{bar:40} {pos} of {len} records, {rate} a second, {eta} left";
     if let Ok(style) = ProgressStyle::with_template(template) {
-        bar.set_style(style);
+        bar.set_style(style.with_key("rate", rate));
     }
     bar
+}
+
+fn rate(state: &ProgressState, out: &mut dyn std::fmt::Write) {
+    let _ = out.write_str(&grouped(state.per_sec() as u64));
 }
 
 /// The records and answers of a folder and of the folders in it.

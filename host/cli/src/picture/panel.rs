@@ -255,7 +255,7 @@ impl Panel<'_> {
         for (source, index, _, at) in &all {
             let text = index.to_string();
             let place = labels.place(&text, 11.0, *at, self.outward(*source, *index));
-            svg.text(&format!("number number-{}", colour(*source)), place, &text);
+            svg.centered(&format!("number number-{}", colour(*source)), place, &text);
         }
     }
 
@@ -308,7 +308,7 @@ impl Panel<'_> {
             labels.take([end.0 - 9.0, end.1 - 9.0, end.0 + 9.0, end.1 + 9.0]);
             let text = end_word(chain.end);
             let place = labels.place(text, 11.0, end, (1.0, 0.6));
-            svg.text("label", place, text);
+            svg.centered("label", place, text);
         }
     }
 
@@ -333,7 +333,7 @@ impl Panel<'_> {
             } else {
                 format!("label number-{}", colour(slice.source_code))
             };
-            svg.text(&class, place, &text);
+            svg.centered(&class, place, &text);
         }
     }
 

@@ -31,6 +31,6 @@ text { font-family: 'DejaVu Sans', Verdana, Arial, sans-serif; font-size: 12px; 
 .box { fill: none; stroke: #1a1a1a; stroke-width: 1; stroke-dasharray: 4 2; }
 .end { fill: none; stroke: #1a1a1a; stroke-width: 2.6; }
 .end-back { fill: none; stroke: #ffffff; stroke-width: 6; }
-.number { font-size: 11px; text-anchor: middle; dominant-baseline: central; stroke: #ffffff; stroke-width: 3; paint-order: stroke; stroke-linejoin: round; }
-.label { font-size: 11px; font-weight: bold; text-anchor: middle; dominant-baseline: central; stroke: #ffffff; stroke-width: 3; paint-order: stroke; stroke-linejoin: round; }
+.number { font-size: 11px; text-anchor: middle; stroke: #ffffff; stroke-width: 3; paint-order: stroke; stroke-linejoin: round; }
+.label { font-size: 11px; font-weight: bold; text-anchor: middle; stroke: #ffffff; stroke-width: 3; paint-order: stroke; stroke-linejoin: round; }
 ";

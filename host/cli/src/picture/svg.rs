@@ -26,6 +26,11 @@ impl Svg {
         );
     }
 
+    /// A text of 11 lengths' height whose middle lies at a point.
+    pub fn centered(&mut self, class: &str, (x, y): (f64, f64), text: &str) {
+        self.text(class, (x, y + 4.0), text);
+    }
+
     /// Begins a group.
     pub fn open(&mut self, class: &str) {
         let _ = writeln!(self.body, "<g class=\"{class}\">");
