@@ -1,3 +1,2 @@
 pub mod Keying
 pub mod Writing
-pub mod Following

@@ -6,4 +6,3 @@ pub mod CutsLaws
 pub mod PatternLaws
 pub mod DistanceLaws
 pub mod OrderTheorems
-pub mod Along
