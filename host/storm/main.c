@@ -13,7 +13,8 @@
 #include <unistd.h>
 
 _Thread_local const char *entry_now;
-_Thread_local uint64_t seed_now, call_now, accepted_now;
+_Thread_local uint64_t seed_now, call_now;
+_Thread_local uint32_t refusal_now;
 extern _Thread_local bool digesting;
 
 void differs(const char *what)
@@ -37,37 +38,39 @@ static const struct {
     const char *name;
     storm_entry *call;
     int share;
+    const char *refusals; /* that it can give, in their order */
 } ENTRIES[] = {
-    {"mask_view_vertex", storm_view_vertex, 19},
-    {"mask_view_vertices", storm_view_vertices, 12},
-    {"mask_create", storm_create, 14},
-    {"mask_create_on_single_segment", storm_single, 14},
-    {"mask_from_entire_pline", storm_entire, 10},
-    {"mask_slice_span", storm_span, 14},
-    {"mask_from_slice_points", storm_slice_points, 14},
-    {"mask_from_new_start", storm_new_start, 12},
-    {"mask_validate_for_source", storm_validate, 14},
-    {"mask_reopen", storm_reopen, 12},
-    {"mask_unmoved", storm_unmoved, 10},
-    {"mask_cut_order", storm_cut_order, 12},
-    {"mask_candidates", storm_candidates, 12},
-    {"mask_prune", storm_prune, 10},
-    {"mask_stitch", storm_stitch, 14},
-    {"mask_area_pass", storm_area_pass, 8},
-    {"mask_settings_enter", storm_settings_enter, 6},
-    {"mask_settings_ask", storm_settings_ask, 6},
-    {"mask_record_write", storm_record_write, 6},
-    {"mask_record_replay", storm_record_replay, 6},
-    {"mask_straight_winding", storm_winding, 10},
-    {"mask_straight_area", storm_area, 8},
-    {"mask_straight_report", storm_report, 6},
-    {"mask_straight_slices", storm_straight_slices, 6},
-    {"mask_store_put", storm_put, 1}, /* the four of the store stand last, and one draw is for all */
-    {"mask_store_release", storm_release, 0},
-    {"mask_store_list", storm_list, 0},
-    {"mask_store_compact", storm_compact, 0},
+    {"mask_view_vertex", storm_view_vertex, 19, "1 2 3 5 6 7"},
+    {"mask_view_vertices", storm_view_vertices, 12, "1 2 3 5 6 7 9"},
+    {"mask_create", storm_create, 14, "1 2 4 5 6 7"},
+    {"mask_create_on_single_segment", storm_single, 14, "1 2 4 5 6"},
+    {"mask_from_entire_pline", storm_entire, 10, "1 2 3 5"},
+    {"mask_slice_span", storm_span, 14, "1 2 3 4 5 6 15"},
+    {"mask_from_slice_points", storm_slice_points, 14, "1 2 3 4 5 6 15"},
+    {"mask_from_new_start", storm_new_start, 12, "1 2 3 4 5 6"},
+    {"mask_validate_for_source", storm_validate, 14, "1 2 3 5 6 14"},
+    {"mask_reopen", storm_reopen, 12, "1 2 3 5 6"},
+    {"mask_unmoved", storm_unmoved, 10, "1 2 3 5 6 7"},
+    {"mask_cut_order", storm_cut_order, 12, "1 2 3 4 5 6 7 9"},
+    {"mask_candidates", storm_candidates, 12, "1 2 3 4 5 6 7 9"},
+    {"mask_prune", storm_prune, 10, "1 2 3 5 6 7 9"},
+    {"mask_stitch", storm_stitch, 14, "1 2 3 16 4 5 6 7 8 14 9"},
+    {"mask_area_pass", storm_area_pass, 8, "1 16 4 5 9"},
+    {"mask_settings_enter", storm_settings_enter, 6, "1 17 4"},
+    {"mask_settings_ask", storm_settings_ask, 6, "1 16"},
+    {"mask_record_write", storm_record_write, 6, "12 1 2 3 4 5 6 7 8 14 9"},
+    {"mask_record_replay", storm_record_replay, 6, "11 12 13 1 2 3 4 5 6 7 8 14 9"},
+    {"mask_straight_winding", storm_winding, 10, "1 2 18"},
+    {"mask_straight_area", storm_area, 8, "1 2 18"},
+    {"mask_straight_report", storm_report, 6, "1 2 18 19"},
+    {"mask_straight_slices", storm_straight_slices, 6, "1 2 3 4 5 18 6 7 9"},
+    {"mask_store_put", storm_put, 1, "1 3 5 22 20"}, /* the four of the store stand last, and one draw is for all */
+    {"mask_store_release", storm_release, 0, "1 22 21"},
+    {"mask_store_list", storm_list, 0, "1 9 22"},
+    {"mask_store_compact", storm_compact, 0, "1 22"},
 };
 enum { COUNT = sizeof ENTRIES / sizeof *ENTRIES, STORE_ENTRIES = COUNT - 4, WHEEL = 256 };
+enum { MOST_REFUSAL = 22, LONG_RUN = 5000000 };
 
 static unsigned char wheel[WHEEL];
 
@@ -88,7 +91,7 @@ static void make_wheel(void)
 typedef struct run {
     uint64_t seed, calls, digest;
     double seconds;
-    uint64_t by_entry[COUNT], accepted[COUNT];
+    uint64_t answered[COUNT][MOST_REFUSAL + 1]; /* how often each number; 0 is accepted */
 } run;
 
 static double clock_now(void)
@@ -103,7 +106,7 @@ static void begin_run(uint64_t seed)
     if (L[0].open == NULL)
         make_lists();
     seed_now = seed;
-    call_now = accepted_now = 0;
+    call_now = 0;
     drawing = (seed + 1) * 0x9e3779b97f4a7c15 | 1;
     digest = 0;
     begin_settings();
@@ -112,18 +115,16 @@ static void begin_run(uint64_t seed)
 
 static void call_entry(run *r, int i)
 {
-    uint64_t before = accepted_now;
     ENTRIES[i].call();
     call_now++;
-    r->by_entry[i]++;
-    r->accepted[i] += accepted_now - before;
+    r->answered[i][refusal_now]++;
 }
 
 /* Calls on the store come in a row, with more puts than releases or fewer, so that it is full
  * at times and empty at times. */
 static void store_history(run *r)
 {
-    size_t puts = below(8), calls = rarely(20) ? below(800) : 1 + below(8);
+    size_t puts = below(11), calls = rarely(60) ? below(3000) : 1 + below(8);
     for (; calls > 0; calls--) {
         size_t way = below(10);
         call_entry(r, STORE_ENTRIES + (way < puts ? 0 : way < 8 ? 1 : way == 8 ? 2 : 3));
@@ -146,16 +147,40 @@ static void storm(run *r)
     r->digest = digest;
 }
 
-static void report(const run *r)
+/* A line for each entry. Answers how many of its numbers were never given. */
+static int report_entry(const run *r, int i)
+{
+    const uint64_t *answered = r->answered[i];
+    uint64_t calls = 0;
+    int never = 0;
+    for (int n = 0; n <= MOST_REFUSAL; n++)
+        calls += answered[n];
+    printf("  %-29s %11llu calls, %11llu accepted;", ENTRIES[i].name, (unsigned long long)calls,
+           (unsigned long long)answered[0]);
+    for (const char *c = ENTRIES[i].refusals; *c != 0; c += strcspn(c, " ") + (c[strcspn(c, " ")] == ' ')) {
+        int n = atoi(c);
+        printf(" %d: %llu", n, (unsigned long long)answered[n]);
+        never += answered[n] == 0;
+    }
+    putchar('\n');
+    return never + (answered[0] == 0);
+}
+
+/* A run that is long enough has met every number that an entry can answer. */
+static int report(const run *r)
 {
     uint64_t accepted = 0;
+    int never = 0;
     for (int i = 0; i < COUNT; i++) {
-        printf("  %-30s %12llu calls, %12llu accepted\n", ENTRIES[i].name,
-               (unsigned long long)r->by_entry[i], (unsigned long long)r->accepted[i]);
-        accepted += r->accepted[i];
+        never += report_entry(r, i);
+        accepted += r->answered[i][0];
     }
-    printf("storm: seed %llu, %llu calls, %llu accepted, 0 differences\n",
-           (unsigned long long)r->seed, (unsigned long long)r->calls, (unsigned long long)accepted);
+    printf("storm: seed %llu, %llu calls, %llu accepted, 0 differences", (unsigned long long)r->seed,
+           (unsigned long long)r->calls, (unsigned long long)accepted);
+    if (never > 0)
+        printf("; %d numbers were never met", never);
+    putchar('\n');
+    return never > 0 && r->calls >= LONG_RUN;
 }
 
 /* ---- Eight threads ---- */
@@ -201,6 +226,11 @@ int main(int count, char **words)
     signal(SIGSEGV, outside);
     signal(SIGBUS, outside);
 #ifdef STORM_FAULTS
+    if (count == 2 && strcmp(words[1], "--list") == 0) {
+        for (int i = 0; FAULTS[i] != NULL; i++)
+            printf("%d %s\n", i, FAULTS[i]);
+        return 0;
+    }
     if (count > 2 && strcmp(words[1], "--fault") == 0) {
         fault_now = (uint32_t)strtoul(words[2], NULL, 10);
         count -= 2;
@@ -216,6 +246,5 @@ int main(int count, char **words)
     run r = {.seed = strtoull(words[2], NULL, 10), .seconds = strtod(words[1], NULL),
              .calls = count == 4 ? strtoull(words[3], NULL, 10) : UINT64_MAX};
     storm(&r);
-    report(&r);
-    return 0;
+    return report(&r);
 }

@@ -53,7 +53,7 @@ void settle(void)
             digest = (digest ^ said[i]) * 0x2545f4914f6cdd1d;
         digest = digest_rooms(digest);
     }
-    accepted_now += said[0] == 0;
+    refusal_now = (uint32_t)said[0];
     said_count = expected_count = 0;
 }
 

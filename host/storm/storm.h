@@ -199,7 +199,11 @@ void begin_settings(void);
 
 /* What is true of this call, for a difference that is found. */
 extern _Thread_local const char *entry_now;
-extern _Thread_local uint64_t seed_now, call_now, accepted_now;
+extern _Thread_local uint64_t seed_now, call_now;
+extern _Thread_local uint32_t refusal_now; /* what the last call answered */
+
+/* faults.c, in the program that has it */
 extern uint32_t fault_now;
+extern const char *const FAULTS[];
 
 #endif

@@ -14,11 +14,26 @@ static int64_t whole(void)
     return (int64_t)below(800000001) - 400000000;
 }
 
+/* The four corners of all, round and round: one round has the doubled area 1.28e18, so that
+ * some fifteen rounds pass 64 bits. */
+static void corners(int64_t *points, size_t vc, bool clockwise)
+{
+    static const int64_t CORNER[4][2] = {{-1, -1}, {1, -1}, {1, 1}, {-1, 1}};
+    for (size_t i = 0; i < vc; i++)
+        for (int k = 0; k < 2; k++)
+            points[2 * i + k] = 400000000 * CORNER[(clockwise ? 4 * vc - i : i) % 4][k];
+}
+
 static size_t draw_whole(list_name name)
 {
     size_t vc = 2 + count_to(1022);
+    bool round = rarely(12);
+    if (round)
+        vc = 4 + below(100);
     for (size_t i = 0; i < 2 * vc; i++)
         I(name)[i] = whole();
+    if (round)
+        corners(I(name), vc, below(2));
     LEN(name) = 2 * vc;
     return vc;
 }
@@ -114,11 +129,14 @@ void storm_area(void)
 void storm_report(void)
 {
     begin_call("mask_straight_report");
-    size_t loops = rarely(2000) ? 4096 + below(2) : count_to(200), end = 0;
+    bool round = rarely(12);
+    size_t loops = rarely(2000) ? 4096 + below(2) : round ? below(30) : count_to(200), end = 0;
     for (size_t i = 0; i < loops; i++) {
-        size_t vc = loops > 200 ? 2 : rarely(40) ? 2 + below(30) : 2 + below(4);
+        size_t vc = loops > 200 ? 2 : round || rarely(40) ? 2 + below(30) : 2 + below(4);
         for (size_t k = 2 * end; k < 2 * (end + vc); k++)
             I(POINTS)[k] = whole();
+        if (round)
+            corners(I(POINTS) + 2 * end, vc, below(2));
         end += vc;
         U(POINT_ENDS)[i] = end;
     }
