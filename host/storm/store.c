@@ -253,6 +253,7 @@ static void list_party(uint32_t party)
 /* "the live slices stand at the first places, in the order put", and 0 behind them */
 static void stand_in_order(uint32_t party)
 {
+    static const unsigned char zeros[48 * SHARE];
     size_t count = parties[party].count;
     for (size_t i = 0; i < count; i++) {
         const kept *k = parties[party].slices + i;
@@ -263,10 +264,9 @@ static void stand_in_order(uint32_t party)
             differs("the store: compaction left a slice at another place");
     }
     for (int i = 0; i < PARTS; i++) {
-        size_t item = bytes_of(i) / PLACES;
-        for (size_t b = item * (party * SHARE + count); b < item * (party * SHARE + SHARE); b++)
-            if (now[i][b] != 0)
-                differs("the store: compaction left something behind");
+        size_t item = bytes_of(i) / PLACES, behind = item * (SHARE - count);
+        if (behind > 0 && memcmp(now[i] + item * (party * SHARE + count), zeros, behind) != 0)
+            differs("the store: compaction left something behind");
     }
 }
 
