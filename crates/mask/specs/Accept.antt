@@ -33,11 +33,11 @@ use Rattle.slice.specs.Ready as slice
 use Rattle.slice.specs.Editions.{Editions, editions, editionOf, editionFault}
 use Rattle.slice.specs.Sound as sound
 use Rattle.prune.specs.Prune.{Cands, Overlaps, Given, needOf, prunedOf, slicesOf, sliceCodes, sliceShapes, sliceEditions}
-use Rattle.prune.specs.Ready.{OverlapsFit}
+use Rattle.prune.specs.Ready.{Few, OverlapsFit}
 use Rattle.prune_write.specs.PruneTheorems.{slices-few, slices-counted, starts-ascend, stitch-accepts, editions-carried}
 use Rattle.prune_entries.specs.declared.answer.PruneAnswer.{PruneAnswer}
 use Rattle.prune_entries.specs.Answers.{pruneRefused, pruneGiven}
-use Rattle.prune_entries.specs.PruneEntry.{candsRows, lapsRows, codesRows, numbersRows, startsRows, reachesRows, inputRows, lentRows, pruneRefusal, pruneNumber, PruneLeft}
+use Rattle.prune_entries.specs.PruneEntry.{candsRows, lapsRows, codesRows, numbersRows, startsRows, reachesRows, inputRows, lentRows, pruneRefusal, pruneNumber, PruneLeft, Sound}
 use Rattle.prune_entries.specs.PruneEntryLaws.{prune-accepted, prune-sound}
 use Rattle.stitch_run.specs.Stitch as stitch
 use Rattle.stitch.specs.Lent.{Lists, Long}
@@ -189,6 +189,17 @@ pub record SlicesMade (vc1 vc2 n : ℕ) (starts : Starts) (at : List ℕ) (shape
   pub fit : sound.Accepted vc1 vc2 n at shape
   pub ascend : startsFault starts n ≡ false
 
+-- those of sound candidates and overlaps are
+pub pruned-made : (g : Given) → Sound g → Few (g .call) → SlicesMade (g .call .vc1) (g .call .vc2) (prunedOf g .slices) (prunedOf g .starts) (sliceCodes g) (sliceShapes g)
+unfolding startsFault
+pruned-made g s few =
+    let up = starts-ascend g in
+    record {
+      few = omega (arith, slices-few g, few .first, few .second, few .laps);
+      fit = stitch-accepts g (s .first) (s .second) (s .laps);
+      ascend = rw (le-ltb _ _ (up .0), le-ltb _ _ (up .1), le-ltb _ _ (up .2));
+    }
+
 module _ (g : Given) (l : slice.Rooms) (r : PruneAnswer) (left : slice.Rooms) (holds : PruneLeft g l r left) (accepted : r .refusal ≡ 0) where
   prune-zero : pruneNumber g l ≡ 0
   prune-zero = answer-zero pruneRefused (λ a. a .refusal) (pruneNumber g l) _ r (λ k. refl) (holds .answers) accepted
@@ -199,19 +210,19 @@ module _ (g : Given) (l : slice.Rooms) (r : PruneAnswer) (left : slice.Rooms) (h
   count-is : r .slices ≡ prunedOf g .slices
   count-is = ap (λ (a : PruneAnswer). a .slices) given-is
 
-  fit : sound.Accepted (g .call .vc1) (g .call .vc2) (prunedOf g .slices) (sliceCodes g) (sliceShapes g)
-  fit = let passed = prune-sound g l 0 (sym prune-zero) refl in stitch-accepts g (passed .first) (passed .second) (passed .laps)
+  made : SlicesMade (g .call .vc1) (g .call .vc2) (prunedOf g .slices) (prunedOf g .starts) (sliceCodes g) (sliceShapes g)
+  made = pruned-made g (prune-sound g l 0 (sym prune-zero) refl) (prune-accepted g l 0 (sym prune-zero) refl .few)
 
   -- as many slices of each list as were counted
   codes-are : take (codeWidth * r .slices) (left .at) ≡ sliceCodes g
   codes-are =
       room-front 0 codeWidth (needOf (g .call)) (sliceCodes g) (l .at) (left .at) (codeWidth * r .slices) (answer-accepted (λ _. l .at) (pruneNumber g l) _ (left .at) (holds .at) prune-zero)
-      (fit .codes ∙ ap (λ (k : ℕ). codeWidth * k) (sym count-is))
+      (made .fit .codes ∙ ap (λ (k : ℕ). codeWidth * k) (sym count-is))
 
   shapes-are : take (shapeWidth * r .slices) (left .shape) ≡ sliceShapes g
   shapes-are =
       room-front +0 shapeWidth (needOf (g .call)) (sliceShapes g) (l .shape) (left .shape) (shapeWidth * r .slices) (answer-accepted (λ _. l .shape) (pruneNumber g l) _ (left .shape) (holds .shape) prune-zero)
-      (fit .shapes ∙ ap (λ (k : ℕ). shapeWidth * k) (sym count-is))
+      (made .fit .shapes ∙ ap (λ (k : ℕ). shapeWidth * k) (sym count-is))
 
   editions-counted : length (sliceEditions g) ≡ r .slices
   editions-counted = length-map (slicesOf g) (λ s. s .edition) ∙ sym (slices-counted g) ∙ sym count-is
@@ -232,20 +243,7 @@ module _ (g : Given) (l : slice.Rooms) (r : PruneAnswer) (left : slice.Rooms) (h
   slices-matched first second a b c = rw (editions-are, codes-are) (editions-carried first second g a b c)
 
   pub slices-made : SlicesMade (g .call .vc1) (g .call .vc2) (r .slices) (r .starts) (take (codeWidth * r .slices) (left .at)) (take (shapeWidth * r .slices) (left .shape))
-  unfolding startsFault
-  slices-made =
-      let ready = prune-accepted g l 0 (sym prune-zero) refl in
-      let n = count-is in
-      let s : r .starts ≡ prunedOf g .starts = ap (λ (a : PruneAnswer). a .starts) given-is in
-      let up = starts-ascend g in
-      record {
-        few = omega (arith, n, slices-few g, ready .few .first, ready .few .second, ready .few .laps);
-        fit = rw (codes-are, shapes-are, n) fit;
-        ascend =
-            subst (λ (k : ℕ). startsFault (r .starts) k ≡ false) (sym n)
-            (subst (λ (x : Starts). startsFault x (prunedOf g .slices) ≡ false) (sym s)
-            (rw (le-ltb _ _ (up .0), le-ltb _ _ (up .1), le-ltb _ _ (up .2))));
-      }
+  slices-made = rw (codes-are, shapes-are, given-is) made
 
 -- ---- `mask_stitch`
 

@@ -42,6 +42,8 @@ use Rattle.settings_entries.specs.SettingsEntry as settings
 use Rattle.straight_entries.specs.WindingEntry.{windingRows, windingRefusal}
 use Rattle.straight_entries.specs.AreaEntry as straight
 use Rattle.straight_entries.specs.ReportEntry.{reportRows, reportRefusal}
+use Rattle.straight_slices.specs.Slices.{Given}
+use Rattle.straight_slices.specs.Rows as slices
 use Rattle.store.specs.Lists as store
 use Rattle.store_entries.specs.StoreEntry.{Asked, toPut, toRelease, toList, toCompact, called, ownRows, callRows, storeTurn, lastRows, wholeRows, refusalIn}
 use Rattle.store_entries.specs.StoreTheorems.{whole-table}
@@ -131,6 +133,10 @@ straight-area-first o vc = first-of (straight.areaRows o vc) tt
 pub report-first : (points : List ℤ) (ends : List ℕ) (loops : ℕ) → First (reportRows points ends loops) (reportRefusal points ends loops)
 unfolding reportRefusal before refusalOrder
 report-first points ends loops = first-of (reportRows points ends loops) tt
+
+pub slices-first : (g : Given) (at slice edition : ℕ) → First (slices.slicesRows g at slice edition) (slices.slicesRefusal g at slice edition)
+unfolding slices.slicesRefusal slices.inputRows listRows before refusalOrder
+slices-first g at slice edition = first-of (slices.slicesRows g at slice edition) tt
 
 store-ordered : (w : store.Lists) (p : ℕ) (a : Asked) → T (inOrder (wholeRows w (called p a)))
 unfolding wholeRows callRows ownRows lastRows before refusalOrder

@@ -1,6 +1,8 @@
 pub mod Accept
 pub mod Pipeline
 pub mod LateOutline
+pub mod AtOnce
+pub mod StraightPipeline
 pub mod OneAnswer
 pub mod First
 pub mod NoGuards

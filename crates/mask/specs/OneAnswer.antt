@@ -54,6 +54,8 @@ use Rattle.straight_entries.specs.declared.answer.ReportAnswer.{ReportAnswer}
 use Rattle.straight_entries.specs.WindingEntry.{windingAnswer}
 use Rattle.straight_entries.specs.AreaEntry.{areaAnswer}
 use Rattle.straight_entries.specs.ReportEntry.{reportAnswer}
+use Rattle.straight_slices.specs.Slices as straight
+use Rattle.straight_slices.specs.Rows.{SlicesLeft}
 use Rattle.store.specs.Slice.{Slice}
 use Rattle.store.specs.Plain.{Answer}
 use Rattle.store.specs.Lists as store
@@ -152,6 +154,15 @@ straight-area-one o vc r s e f = one-answer r s (areaAnswer o vc) e f
 
 pub report-one : (points : List ℤ) (ends : List ℕ) (loops : ℕ) (r s : ReportAnswer) → r ≡ reportAnswer points ends loops → s ≡ reportAnswer points ends loops → r ≡ s
 report-one points ends loops r s e f = one-answer r s (reportAnswer points ends loops) e f
+
+pub slices-one : (g : straight.Given) (l : slice.Rooms) (r s : PruneAnswer) (a b : slice.Rooms)
+    → SlicesLeft g l r a → SlicesLeft g l s b → (r ≡ s) × (a .at ≡ b .at) × (a .shape ≡ b .shape) × (a .edition ≡ b .edition)
+slices-one g l r s a b x y = (
+  one-answer r s _ (x .answers) (y .answers),
+  one-answer (a .at) (b .at) _ (x .at) (y .at),
+  one-answer (a .shape) (b .shape) _ (x .shape) (y .shape),
+  one-answer (a .edition) (b .edition) _ (x .edition) (y .edition),
+)
 
 -- the four entries of the store: put, release and compaction leave the lists, the list leaves its room
 pub store-one : {R : Type 0} (f : Answer Slice → R) (w : store.Lists) (c : stored.Called) (r s : R) (v u : store.Lists) → StoreLeft f w c r v → StoreLeft f w c s u → (r ≡ s) × (v ≡ u)

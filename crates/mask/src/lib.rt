@@ -1,4 +1,5 @@
 // What hosts link: the exported entries, each a thin function over the crates below.
+pub mod at_once;
 pub mod cutting;
 pub mod keeping;
 pub mod measuring;

@@ -11,7 +11,7 @@ pub struct PruneAnswer {
     pub starts: Starts,
 }
 
-pub(crate) fn prune_refused(number: u32) -> PruneAnswer
+pub fn prune_refused(number: u32) -> PruneAnswer
     ensures { λ r. ⌜ r ≡ pruneRefused number ⌝ }
 {
     PruneAnswer {
@@ -25,7 +25,7 @@ pub(crate) fn prune_refused(number: u32) -> PruneAnswer
     }
 }
 
-pub(crate) fn prune_given(pruned: Pruned) -> PruneAnswer
+pub fn prune_given(pruned: Pruned) -> PruneAnswer
     ensures { λ r. ⌜ r ≡ pruneGiven pruned ⌝ }
 {
     let starts = pruned.starts;

@@ -99,7 +99,7 @@ pub(crate) fn reach_refusal(
 }
 
 // Number 9: the three lists are too short for so many slices.
-pub(crate) fn lent_refusal(need: usize, at: usize, slice: usize, edition: usize) -> u32
+pub fn lent_refusal(need: usize, at: usize, slice: usize, edition: usize) -> u32
     requires { ⌜ Countable need ⌝ }
     ensures { λ n. ⌜ n ≡ firstFrom 0 (roomRows need at slice edition) ⌝ }
 {

@@ -25,12 +25,16 @@ pub record Ready (g : Given) (l : Rooms) : Type 0 where
   pub laps : OverlapsFit (g .laps) (g .call .laps)
   pub roomy : Roomy (needOf (g .call)) l
 
--- the answer, and the three lists by the room rule
-pub record Written (g : Given) (l : Rooms) (r : Pruned) (l′ : Rooms) : Type 0 where
+-- the answer, and the three lists by the room rule, with room for a need
+pub record WrittenTo (g : Given) (need : ℕ) (l : Rooms) (r : Pruned) (l′ : Rooms) : Type 0 where
   pub answer : r ≡ prunedOf g
-  pub at : l′ .at ≡ roomOf 0 codeWidth (needOf (g .call)) (sliceCodes g) (l .at)
-  pub shape : l′ .shape ≡ roomOf +0 shapeWidth (needOf (g .call)) (sliceShapes g) (l .shape)
-  pub edition : l′ .edition ≡ roomOf 0 1 (needOf (g .call)) (sliceEditions g) (l .edition)
+  pub at : l′ .at ≡ roomOf 0 codeWidth need (sliceCodes g) (l .at)
+  pub shape : l′ .shape ≡ roomOf +0 shapeWidth need (sliceShapes g) (l .shape)
+  pub edition : l′ .edition ≡ roomOf 0 1 need (sliceEditions g) (l .edition)
+
+-- which is that of the call
+abbrev pub Written : Given → Rooms → Pruned → Rooms → Type 0
+Written g l r l′ = WrittenTo g (needOf (g .call)) l r l′
 
 -- ---- one part behind the other
 

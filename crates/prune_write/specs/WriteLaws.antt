@@ -16,7 +16,7 @@ use Rattle.basis.specs.RoomLaws.{room-left}
 use Rattle.slice.specs.declared.data.Codes.{Codes}
 use Rattle.slice.specs.declared.data.Shape.{Shape}
 use Rattle.slice.specs.Slice.{codeWidth, shapeWidth, Slice, sliceOf}
-use Rattle.slice.specs.Ready.{Rooms, Placed}
+use Rattle.slice.specs.Ready.{Rooms, Roomy, Placed}
 use Rattle.slice.specs.PutLaws.{codes-length, shapes-length, placed-none, placed-then, placed-at, placed-shape, placed-edition}
 use Rattle.prune.specs.declared.call.Call.{Call}
 use Rattle.prune.specs.declared.mode.Part.{Part}
@@ -24,7 +24,7 @@ use Rattle.prune.specs.declared.mode.Parts.{Parts}
 use Rattle.prune.specs.declared.counts.Ends.{Ends}
 use Rattle.prune.specs.declared.counts.Pruned.{Pruned}
 use Rattle.prune.specs.Prune.{Cands, Overlaps, Given, given, candSlice, lapSlice, keptTo, lapsTo, partsFor, keptFirst, keptSecond, lapsFor, slicesOf, needOf, prunedAt, prunedOf, sliceCodes, sliceShapes, sliceEditions}
-use Rattle.prune_write.specs.Ready.{ItemFit, Ready, Wrote, BothFit, BothWritten, TwiceWritten, KeepFit, LapsFit, Cleared, FinishFit, Finished, Written}
+use Rattle.prune_write.specs.Ready.{ItemFit, Ready, Wrote, BothFit, BothWritten, TwiceWritten, KeepFit, LapsFit, Cleared, FinishFit, Finished, WrittenTo, Written}
 
 -- a slice that was written is known by other names
 pub placed-as : (x y : Codes) (s t : Shape) (k : ℕ) (l l′ : Rooms) (m r : ℕ) → x ≡ y → s ≡ t → Placed (sliceOf x s k ∷ []) l m r l′ → Placed (sliceOf y t k ∷ []) l m r l′
@@ -252,28 +252,31 @@ module _ (call : Call) (c d : Cands) (laps : Overlaps) (l l₁ : Rooms) (kept : 
   front : {A : Type 0} (l l′ vs : List A) (k : ℕ) → l′ ≡ sets l 0 vs → k ≡ length vs → k ≤ length l → l′ ≡ vs ++ drop k l
   front l l′ vs k e n h = e ∙ sets-front l vs (omega arith) ∙ ap (λ (j : ℕ). vs ++ drop j l) (sym n)
 
-  -- the four parts, and the rest cleared
-  pub written-of : (l₂ : Rooms) (r : Pruned) → BothWritten call c d l kept l₁ → Finished call kept laps l₁ r l₂ → Written g l r l₂
+  -- the four parts, and the rest cleared up to a need that is no less than the call's
+  pub written-to : (need : ℕ) (s : Ends) (l₂ l₃ : Rooms) (r : Pruned) → needOf call ≤ need → Roomy need l₁ → BothWritten call c d l kept l₁ → TwiceWritten laps (call .laps) l₁ (kept .second) s l₂
+      → Cleared l₂ (s .second) need l₃ → r ≡ prunedAt kept s → WrittenTo g need l r l₃
   unfolding prunedAt
-  written-of l₂ r x f =
-      let need : ℕ = needOf call in
-      let n : ℕ = f .twice .second in
-      let m : Rooms = f .between in
-      let all : AllWritten g l (prunedAt kept (f .twice)) m = all-of (f .twice) m x (f .wrote) in
+  written-to need s m l₃ r more roomy x y rest answer =
+      let n : ℕ = s .second in
+      let all : AllWritten g l (prunedAt kept s) m = all-of s m x y in
       let few : n ≤ need = omega (arith, all .wrote .few) in
       let k : n ≡ length (slicesOf g) = omega (arith, all .wrote .placed .counted) in
       let p : codeWidth * n ≡ length (sliceCodes g) = rw k (sym (codes-length (slicesOf g))) in
       let q : shapeWidth * n ≡ length (sliceShapes g) = rw k (sym (shapes-length (slicesOf g))) in
-      let s : n ≡ length (sliceEditions g) = k ∙ sym (length-map (slicesOf g) (λ x. x .edition)) in
+      let e : n ≡ length (sliceEditions g) = k ∙ sym (length-map (slicesOf g) (λ x. x .edition)) in
       record {
-        answer = f .answer ∙ all .answer;
+        answer = answer ∙ all .answer;
         at =
-            room-left 0 codeWidth need (sliceCodes g) (l .at) (m .at) (l₂ .at) (codeWidth * n) (codeWidth * need) (f .rest .at)
-            (front (l .at) (m .at) (sliceCodes g) (codeWidth * n) (all .wrote .placed .at) p (omega (arith, f .roomy .at, x .wrote .size-at))) p refl (omega arith);
+            room-left 0 codeWidth need (sliceCodes g) (l .at) (m .at) (l₃ .at) (codeWidth * n) (codeWidth * need) (rest .at)
+            (front (l .at) (m .at) (sliceCodes g) (codeWidth * n) (all .wrote .placed .at) p (omega (arith, roomy .at, x .wrote .size-at))) p refl (omega arith);
         shape =
-            room-left +0 shapeWidth need (sliceShapes g) (l .shape) (m .shape) (l₂ .shape) (shapeWidth * n) (shapeWidth * need) (f .rest .shape)
-            (front (l .shape) (m .shape) (sliceShapes g) (shapeWidth * n) (all .wrote .placed .shape) q (omega (arith, f .roomy .shape, x .wrote .size-shape))) q refl (omega arith);
+            room-left +0 shapeWidth need (sliceShapes g) (l .shape) (m .shape) (l₃ .shape) (shapeWidth * n) (shapeWidth * need) (rest .shape)
+            (front (l .shape) (m .shape) (sliceShapes g) (shapeWidth * n) (all .wrote .placed .shape) q (omega (arith, roomy .shape, x .wrote .size-shape))) q refl (omega arith);
         edition =
-            room-left 0 1 need (sliceEditions g) (l .edition) (m .edition) (l₂ .edition) n need (f .rest .edition)
-            (front (l .edition) (m .edition) (sliceEditions g) n (all .wrote .placed .edition) s (omega (arith, f .roomy .edition, x .wrote .size-edition))) s (omega arith) few;
+            room-left 0 1 need (sliceEditions g) (l .edition) (m .edition) (l₃ .edition) n need (rest .edition)
+            (front (l .edition) (m .edition) (sliceEditions g) n (all .wrote .placed .edition) e (omega (arith, roomy .edition, x .wrote .size-edition))) e (omega arith) few;
       }
+
+  -- the call's own
+  pub written-of : (l₂ : Rooms) (r : Pruned) → BothWritten call c d l kept l₁ → Finished call kept laps l₁ r l₂ → Written g l r l₂
+  written-of l₂ r x f = written-to (needOf call) (f .twice) (f .between) l₂ r (omega arith) (f .roomy) x (f .wrote) (f .rest) (f .answer)

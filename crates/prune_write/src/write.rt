@@ -62,7 +62,7 @@ fn put_lap(
 }
 
 // Writes the candidates of one outline that stay, as slices from number m on, and says where they end.
-fn write_kept(
+pub fn write_kept(
     cand_at: &[usize],
     cand: &[f64],
     cand_edition: &[u32],

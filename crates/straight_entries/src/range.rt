@@ -4,7 +4,7 @@ ghost use Rattle.straight_entries.specs.Range.{inReach, allInReach};
 use whole::signed;
 
 // A coordinate of a vertex.
-fn near_vertex(z: i64) -> bool
+pub fn near_vertex(z: i64) -> bool
     ensures { λ r. ⌜ r ≡ inReach 400000000 z ⌝ }
 {
     signed::at_most(-400_000_000, z) && signed::at_most(z, 400_000_000)

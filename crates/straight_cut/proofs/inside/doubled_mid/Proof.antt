@@ -1,0 +1,25 @@
+use mathlib.Core.Path.{_∙_}
+use Rattle.whole.specs.FitLaws.{got}
+use Rattle.straight_cut.specs.InsideLaws.{mid-fits, mid-read}
+use borrow.Author.Needs.{needs}
+use Rattle.straight_cut.proofs.inside.doubled_mid.Statement.{statement}
+use Rattle.straight_cut.proofs.inside.doubled_mid.Tie as tie
+
+value-of-requires : tie.Need-value-of-requires
+value-of-requires c κs = search needs
+
+value-of-requires-2 : tie.Need-value-of-requires-2
+value-of-requires-2 c κs = search needs
+
+add-result : tie.Need-add-result
+add-result c = let a = c .before .value-of in
+    let b = c .value-of2 in
+    mid-fits _ _ (got (a .result) (a .ok) ∙ a .ensures) (got (b .result) (b .ok) ∙ b .ensures)
+
+returns : tie.Need-returns
+returns c = let a = c .before .value-of in
+    let b = c .value-of2 in
+    mid-read _ _ (got (a .result) (a .ok) ∙ a .ensures) (got (b .result) (b .ok) ∙ b .ensures)
+
+pub doubled-mid-spec : {M : Type 1} → statement M
+doubled-mid-spec = tie.close (tie.spec value-of-requires value-of-requires-2 add-result returns)

@@ -1,0 +1,52 @@
+use mathlib.Core.Path.{ap, _∙_}
+use denote.Ref.{now}
+use borrow.Author.Needs.{needs}
+use Rattle.outline.specs.declared.point.Vertex.{Vertex}
+use Rattle.whole.specs.FitLaws.{got}
+use Rattle.straight_cut.specs.Microdegrees.{valueOf}
+use Rattle.straight_cut.specs.MicrodegreesLaws.{spot-put}
+use Rattle.straight_cut.proofs.microdegrees.put_vertex.Statement.{statement}
+use Rattle.straight_cut.proofs.microdegrees.put_vertex.Tie as tie
+
+vertex-at-requires : tie.Need-vertex-at-requires
+vertex-at-requires c κs = search needs
+
+value-of-requires : tie.Need-value-of-requires
+value-of-requires c κs = search needs
+
+put-requires : tie.Need-put-requires
+put-requires c κs = search needs
+
+add-put : tie.Need-add-put
+add-put c = search needs
+
+value-of-requires-2 : tie.Need-value-of-requires-2
+value-of-requires-2 c κs = search needs
+
+put-requires-2 : tie.Need-put-requires-2
+put-requires-2 c κs = search needs
+
+same-length : tie.Need-same-length
+same-length c = search needs
+
+returns : tie.Need-returns
+returns c =
+    let y = c .before .before .value-of2 in
+    let start = c .before .before .before .before .before .before in
+    let x = start .value-of in
+    let v = start .before .before .vertex-at in
+    spot-put (now (start .before .before .before .before .args .room)) _ _ _ _ _ _ _ (got (x .result) (x .ok) ∙ x .ensures ∙ ap (λ (w : Vertex). valueOf (w .x)) (v .ensures)) (got (y .result) (y .ok) ∙ y .ensures ∙ ap (λ (w : Vertex). valueOf (w .y)) (v .ensures))
+    (c .before .before .before .before .before .put .ensures) (c .before .put2 .ensures)
+
+pub put-vertex-spec : {M : Type 1} → statement M
+put-vertex-spec =
+    tie.close
+    (tie.spec
+    vertex-at-requires
+    value-of-requires
+    put-requires
+    add-put
+    value-of-requires-2
+    put-requires-2
+    same-length
+    returns)

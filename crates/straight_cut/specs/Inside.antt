@@ -1,0 +1,48 @@
+-- Document 02, K11: "asking inside", by K8's winding numbers ("inside is any but 0") of the other outline. The host's test is at the midpoint of a candidate's two vertices, and
+-- K8's probes "come in doubled coordinates": the doubled midpoint is the sum of the two.
+use Prim.Native.Nat.{ℕ, _+_, _*_, _≤_, _<_}
+use mathlib.Core.Bool.{_||_}
+use mathlib.Core.List.{List, [], _∷_}
+use lib.ListN.{length}
+use lib.IntN.{ℤ, pos, _+ℤ_}
+use lib.Signed.{ltZ}
+use lib.Ieee.{Float}
+use Rattle.basis.specs.Choice.{codeOf}
+use Rattle.basis.specs.Sizes.{mostCandidates}
+use Rattle.basis.specs.Items.{firstItems}
+use Rattle.outline.specs.Outline.{vertexAt}
+use Rattle.straight.specs.Plane.{Spot, spots, winding}
+use Rattle.straight.specs.Ready.{Outline}
+use Rattle.straight_cut.specs.Microdegrees.{valueOf}
+
+-- yes is 1: the winding number is above 0 or below it
+unfoldable pub insideCode : ℤ → ℕ
+insideCode w = codeOf (ltZ (pos 0) w || ltZ w (pos 0))
+
+-- the doubled midpoint of candidate number k, whose two vertices stand one behind the other
+abbrev pub midAt : List Float → ℕ → Spot
+midAt probe k =
+    record {
+      x = valueOf (vertexAt probe (2 * k) .x) +ℤ valueOf (vertexAt probe (2 * k + 1) .x);
+      y = valueOf (vertexAt probe (2 * k) .y) +ℤ valueOf (vertexAt probe (2 * k + 1) .y);
+    }
+
+-- its answer, in an outline of whole microdegrees
+unfoldable pub insideAt : List ℤ → List Float → ℕ → ℕ
+insideAt other probe k = insideCode (winding (spots other) (midAt probe k))
+
+-- the answers of so many candidates
+unfoldable pub insidesOf : List ℤ → List Float → ℕ → List ℕ
+insidesOf other probe count = firstItems (λ k. insideAt other probe k ∷ []) count
+
+-- ---- what a caller has shown
+pub record InsideFit (other : List ℤ) (vc : ℕ) (probe : List Float) (k : ℕ) : Type 0 where
+  pub outline : Outline other vc
+  pub few : k < mostCandidates
+  pub there : 6 * k + 6 ≤ length probe
+
+pub record InsideRoom (other : List ℤ) (vc : ℕ) (probe : List Float) (count : ℕ) (room : List ℕ) : Type 0 where
+  pub outline : Outline other vc
+  pub few : count ≤ mostCandidates
+  pub there : 6 * count ≤ length probe
+  pub fits : count ≤ length room

@@ -1,0 +1,9 @@
+pub mod Microdegrees
+pub mod MicrodegreesLaws
+pub mod Straight
+pub mod StraightLaws
+pub mod Splits
+pub mod SplitsLaws
+pub mod Inside
+pub mod InsideLaws
+pub mod CutExamples

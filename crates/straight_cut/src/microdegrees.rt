@@ -1,0 +1,65 @@
+// Whole microdegrees that came as an f64, exactly.
+ghost use mathlib.Core.Path.{_≡_};
+ghost use lib.ListN.{set};
+ghost use lib.Seq.{sets};
+ghost use Rattle.basis.specs.Room.{roomOf, RoomFor};
+ghost use lib.IntN.{pos};
+ghost use Rattle.straight_cut.specs.Microdegrees.{isWhole, valueOf, wholeVertex, wholesOf, WholesFit, WholesRoom};
+use outline::read;
+use straight_entries::range;
+
+// Whether x is a whole number of microdegrees, within those of a mask.
+pub(crate) fn is_whole(x: f64) -> bool
+    ensures { λ r. ⌜ r ≡ isWhole x ⌝ }
+{
+    if x >= -9223372036854775808.0 {
+        if x < 9223372036854775808.0 {
+            let z = std::num::truncating_f64_to_i64(x);
+            if std::num::nearest_i64_to_f64(z) == x {
+                return range::near_vertex(z);
+            }
+        }
+    }
+    false
+}
+
+// Which number of microdegrees x is, and 0 where it is none.
+pub(crate) fn value_of(x: f64) -> i64
+    ensures { λ r. ⌜ r ≡ valueOf x ⌝ }
+{
+    if is_whole(x) {
+        std::num::truncating_f64_to_i64(x)
+    } else {
+        0
+    }
+}
+
+// Writes a whole number at a place.
+fn put(room: &mut [i64], at: usize, z: i64)
+    requires { ⌜ RoomFor (now room) at 1 ⌝ }
+    ensures { λ _. ⌜ now (room .exit) ≡ set (now (room .entry)) at z ⌝ }
+{
+    room[at] = z;
+}
+
+// Writes x and y of vertex i, in whole microdegrees, from place `at` on.
+fn put_vertex(outline: &[f64], i: usize, room: &mut [i64], at: usize)
+    requires { ⌜ WholesFit (now outline) i (now room) at ⌝ }
+    ensures { λ _. ⌜ now (room .exit) ≡ sets (now (room .entry)) at (wholeVertex (now (outline .entry)) i) ⌝ }
+{
+    let v = read::vertex_at(outline, i);
+    put(room, at, value_of(v.x));
+    put(room, at + 1, value_of(v.y));
+}
+
+// The outline in whole microdegrees, x and y in turn.
+pub fn write_wholes(outline: &[f64], vc: usize, room: &mut [i64])
+    requires { ⌜ WholesRoom (now outline) vc (now room) ⌝ }
+    ensures { λ _. ⌜ now (room .exit) ≡ roomOf (pos 0) 2 vc (wholesOf (now (outline .entry)) vc) (now (room .entry)) ⌝ }
+{
+    let mut i = 0;
+    while i < vc {
+        put_vertex(outline, i, room, 2 * i);
+        i += 1;
+    }
+}

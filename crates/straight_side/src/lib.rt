@@ -1,0 +1,4 @@
+// One outline of the one call for straight masks (document 02, K11): its candidates by straight splits, their inside answers in the other outline, and those that stay as slices.
+mod asking;
+pub mod keeping;
+mod slicing;
