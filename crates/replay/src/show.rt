@@ -16,10 +16,20 @@ fn number(n: usize) {
     io::print_decimal(STDOUT_FILENO, n as u64);
 }
 
+// The first word of an answer. Where it cannot be written, on a full disk, that is said, and there is no answer.
+fn first_word(text: &[u8]) -> bool {
+    if io::write_all(STDOUT_FILENO, text) {
+        return true;
+    }
+    os::fail(b"standard output");
+    false
+}
+
 fn refused(n: u32) {
-    word(b"refused ");
-    number(n as usize);
-    word(b"\n");
+    if first_word(b"refused ") {
+        number(n as usize);
+        word(b"\n");
+    }
 }
 
 fn at(list: &[usize; SLICES], i: usize) -> usize {
@@ -130,7 +140,9 @@ pub(crate) fn replay(bytes: &[u8]) {
         refused(r.refusal);
         return;
     }
-    word(b"slices ");
+    if !first_word(b"slices ") {
+        return;
+    }
     number(r.slices);
     word(b" rounds ");
     number(r.rounds);

@@ -20,15 +20,31 @@ fn wide(high: u64, low: u64) {
     io::write_all(STDOUT_FILENO, &text[from..]);
 }
 
+// The first word of an answer. Where it cannot be written, on a full disk, that is said, and there is no answer.
+fn first_word(text: &[u8]) -> bool {
+    if io::write_all(STDOUT_FILENO, text) {
+        return true;
+    }
+    os::fail(b"standard output");
+    false
+}
+
+fn refused(n: u32) {
+    if first_word(b"refused ") {
+        whole(n as usize);
+        word(b"\n");
+    }
+}
+
 // What the report says, or the number of its refusal.
 pub(crate) fn report(r: ReportAnswer) {
     if r.refusal != 0 {
-        word(b"refused ");
-        whole(r.refusal as usize);
-        word(b"\n");
+        refused(r.refusal);
         return;
     }
-    word(b"outlines ");
+    if !first_word(b"outlines ") {
+        return;
+    }
     whole(r.count);
     word(b"\narea zero ");
     whole(r.zero);

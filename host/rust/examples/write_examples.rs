@@ -1,6 +1,6 @@
 //! The records of `examples`, by the library's writer: each from the text beside it. A text gives a
 //! stitch line by line, or names another text and says which bytes of that one's record are edited,
-//! so that refusals can be shown. `tools/record` describes the lines.
+//! so that refusals can be shown. `masks record --help` describes the lines.
 //!
 //! ```text
 //! write_examples FOLDER            writes FOLDER/*.pbr from FOLDER/*.txt

@@ -1,9 +1,6 @@
-#!/usr/bin/env python3
-"""Makes a record `PBR`, of version 1 or 2, from a readable text, or shows a record as such a text. It knows nothing of the library: host/replay/check
-compares what it makes with what the library's writer makes of the same texts (host/rust/examples/write_examples.rs).
-
-    tools/record TEXT RECORD        makes the record
-    tools/record --show RECORD      prints the text of a record whose layout is whole
+"""Makes a record `PBR`, of version 1 or 2, from a readable text, and shows a record as such a text. It knows nothing of the library: host/replay/check
+compares what it makes with the examples, which the library's writer makes of the same texts (host/rust/examples/write_examples.rs). Who wants a record
+takes `masks record`.
 
 One item to a line, words parted by blanks; `#` starts a comment. The order of the lines is free but for vertices and slices, which
 count from the first on:
@@ -155,17 +152,3 @@ def show(data):
         lines.append(" ".join(map(str, ["slice", source, signs.get(inverted, inverted), start, offset, *numbers, *edition])))
         at += stride
     return "\n".join(lines) + "\n"
-
-
-def main():
-    if len(sys.argv) == 3 and sys.argv[1] == "--show":
-        sys.stdout.write(show(Path(sys.argv[2]).read_bytes()))
-    elif len(sys.argv) == 3:
-        text = Path(sys.argv[1])
-        Path(sys.argv[2]).write_bytes(record(text.read_text(), text.parent))
-    else:
-        sys.exit(__doc__)
-
-
-if __name__ == "__main__":
-    main()
