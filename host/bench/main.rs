@@ -2,7 +2,7 @@
 //!
 //! `bench FILE.svg` prints tables of ratios, and writes the plot of times against sizes to the file.
 //! `bench straight` prints only the tables of straight masks.
-//! `bench once` and `bench once straight` are what they start, some times over.
+//! `bench once`, `bench once straight` and `bench once stitch` are what they start, some times over; the last times the stitch alone.
 //! `bench repeat STAGE INPUT SIZE` makes one of our calls again and again, for a profiler.
 
 mod ours;
@@ -333,7 +333,7 @@ fn extreme(slices: Slices) -> Job {
 type MakeJob = fn(usize) -> Job;
 
 /// A name, how it is made, and up to which size.
-const JOBS: [(&str, MakeJob, usize); 7] = [
+const JOBS: [(&str, MakeJob, usize); 14] = [
     (
         "star, union",
         |n| pruned(shapes::star(n), UNION),
@@ -367,6 +367,41 @@ const JOBS: [(&str, MakeJob, usize); 7] = [
     (
         "all at one point",
         |n| extreme(shapes::one_point(n)),
+        MOST_SLICES,
+    ),
+    (
+        "one chain, shuffled",
+        |n| extreme(shapes::shuffled(n)),
+        MOST_SLICES,
+    ),
+    (
+        "two vertical sides",
+        |n| extreme(shapes::two_sides(n)),
+        MOST_SLICES,
+    ),
+    (
+        "all on one line",
+        |n| extreme(shapes::one_line(n)),
+        MOST_SLICES,
+    ),
+    (
+        "two rings of equal radii",
+        |n| extreme(shapes::equal_rings(n)),
+        MOST_SLICES,
+    ),
+    (
+        "all begin at one point",
+        |n| extreme(shapes::one_start(n)),
+        MOST_SLICES,
+    ),
+    (
+        "all begin at one point, and end beside it",
+        |n| extreme(shapes::beside_one_start(n)),
+        MOST_SLICES,
+    ),
+    (
+        "comb from the other side, union",
+        |n| pruned(shapes::other_comb(n), UNION),
         MOST_SLICES,
     ),
 ];
@@ -658,11 +693,12 @@ fn main() {
         }
         ["once"] => time_all(),
         ["once", "straight"] => straight(),
+        ["once", "stitch"] => stitch(),
         ["straight"] => compare_straight(),
         [to] => compare(to),
         _ => panic!(
-            "usage: bench FILE.svg, bench [once] straight, bench once, or bench repeat STAGE INPUT \
-             SIZE [CALLS]"
+            "usage: bench FILE.svg, bench [once] straight, bench once [stitch], or bench repeat \
+             STAGE INPUT SIZE [CALLS]"
         ),
     }
 }

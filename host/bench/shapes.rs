@@ -205,3 +205,81 @@ pub fn one_point(count: usize) -> Slices {
     slices.starts = [count / 2, count, count];
     slices
 }
+
+/// A chain through points, in the order of a list of numbers: slice number `order[i]` leads from point i to the next.
+fn chain_by(order: &[usize], point: impl Fn(usize) -> [f64; 2]) -> Slices {
+    let count = order.len();
+    let mut place = vec![0; count];
+    for (i, number) in order.iter().enumerate() {
+        place[*number] = i;
+    }
+    let mut slices = Slices::default();
+    for i in place {
+        push_slice(&mut slices, 0, point(i), point((i + 1) % count));
+    }
+    slices.starts = [count; 3];
+    slices
+}
+
+/// One chain of all slices, listed in a shuffled order.
+pub fn shuffled(count: usize) -> Slices {
+    let mut order: Vec<usize> = (0..count).collect();
+    let mut seed = 0x9e37_79b9_7f4a_7c15_u64;
+    for i in (1..count).rev() {
+        seed = seed
+            .wrapping_mul(6364136223846793005)
+            .wrapping_add(1442695040888963407);
+        order.swap(i, (seed >> 33) as usize % (i + 1));
+    }
+    chain_by(&order, |i| on_circle(i, count))
+}
+
+/// One chain that goes from one vertical side to the other and back.
+pub fn two_sides(count: usize) -> Slices {
+    let order: Vec<usize> = (0..count).collect();
+    chain_by(&order, |i| [100.0 * (i % 2) as f64, i as f64 / 8.0])
+}
+
+/// One chain along a line, and back to its start.
+pub fn one_line(count: usize) -> Slices {
+    let order: Vec<usize> = (0..count).collect();
+    chain_by(&order, |i| [i as f64 / 8.0, 1.0])
+}
+
+/// Two rings of equal radii, one of each outline: two starts at each point.
+pub fn equal_rings(count: usize) -> Slices {
+    let mut slices = Slices::default();
+    let half = count / 2;
+    for i in 0..count {
+        let [from, to] = [i % half, (i + 1) % half].map(|k| on_circle(k, half));
+        push_slice(&mut slices, usize::from(i >= half), from, to);
+    }
+    slices.starts = [half, count, count];
+    slices
+}
+
+/// All slices begin at one point, and end around it.
+pub fn one_start(count: usize) -> Slices {
+    let mut slices = Slices::default();
+    for i in 0..count {
+        push_slice(&mut slices, 0, [1.0, 1.0], on_circle(i, count));
+    }
+    slices.starts = [count; 3];
+    slices
+}
+
+/// All slices begin at one point, and end four tolerances beside it, where no slice starts.
+pub fn beside_one_start(count: usize) -> Slices {
+    let mut slices = Slices::default();
+    for _ in 0..count {
+        push_slice(&mut slices, 0, [1.0, 1.0], [1.00004, 1.0]);
+    }
+    slices.starts = [count; 3];
+    slices
+}
+
+/// The comb from the other side: the band is outline 1.
+pub fn other_comb(crossings: usize) -> Outlines {
+    let [comb, band] = comb(crossings);
+    [band, comb]
+}

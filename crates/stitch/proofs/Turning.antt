@@ -27,6 +27,7 @@ use Rattle.stitch_run.specs.TallyLaws.{tally-most}
 use Rattle.stitch_run.specs.RunLaws.{going-opened, kept-turns}
 use Rattle.stitch_run.specs.StitchLaws.{among}
 use Rattle.stitch_run.specs.ReportLaws.{order-snoc, loops-snoc, totals-snoc, totals-length, sum-map, flat-length, loops-size, loops-few, chains-few}
+use Rattle.stitch_links.specs.declared.layout.Layout.{Layout}
 use Rattle.stitch_round.specs.Ready.{Sound}
 use Rattle.stitch_chain.specs.Ready.{Begun, chainsTo, orderTo, mostOf, Opening, chainAt, Walked}
 use Rattle.stitch.specs.Lent.{numbersOf, endsOf, chainEndsOf, howsOf, Lists, lists, Holds, EndFit, EndListed, loopEnd, tallyAfter, endsAfter, LoopFit, LoopListed, TurnFit, Turned}
@@ -144,12 +145,12 @@ module _ (room part : List Float) (d need : ℕ) (items : List Float) (h : 3 * d
 
 -- ---- a turn
 
-module _ {g : Given} {i : ℕ} {points : List Float} {visited : List Bool} {w : Tally} {x : Lists} (t : TurnFit g i points visited w x) where
+module _ {g : Given} {i : ℕ} {points : List Float} {by : Layout} {visited : List Bool} {link : List ℕ} {w : Tally} {x : Lists} (t : TurnFit g i points by visited link w x) where
   abbrev room : List Float
   room = x .room
 
   -- a slice that has been visited begins no chain
-  pub turn-skip : getD visited i false ≡ true → Turned g i x w visited x
+  pub turn-skip : getD visited i false ≡ true → Turned g i points by x w visited link x
   unfolding turns turn begun
   turn-skip e =
       let h : getD (turns (rulesOf g) i .visited) i false ≡ true = rw (t .marks) at e in
@@ -157,6 +158,7 @@ module _ {g : Given} {i : ℕ} {points : List Float} {visited : List Bool} {w : 
       record {
         marks = t .marks ∙ ap (λ (s : Stitched (List Vertex)). s .visited) (sym q);
         marked = t .marked;
+        hung = t .hung;
         holds = subst (λ (s : Stitched (List Vertex)). Holds g (s .chains) x w x) (sym q) (t .holds);
       }
 
@@ -170,7 +172,7 @@ module _ {g : Given} {i : ℕ} {points : List Float} {visited : List Bool} {w : 
     pub turn-behind : 3 * w .done ≤ length room
     turn-behind = omega (arith, t .holds .done, begins-fit g i (t .here) fresh, need-is, t .long .room)
 
-    pub turn-open : {part : List Float} → part ≡ take (length room - 3 * w .done) (drop (3 * w .done) room) → Opening g i points visited part (x .chain) (w .rounds)
+    pub turn-open : {part : List Float} → part ≡ take (length room - 3 * w .done) (drop (3 * w .done) room) → Opening g i points visited link by part (x .chain) (w .rounds)
     turn-open {part} q =
         record {
           sound = t .sound;
@@ -179,6 +181,7 @@ module _ {g : Given} {i : ℕ} {points : List Float} {visited : List Bool} {w : 
           marks = t .marks;
           marked = t .marked;
           unvisited = e;
+          hung = t .hung;
           roomy = omega (arith, ap length (q ∙ rest-lent (3 * w .done) room turn-behind), length-drop (3 * w .done) room, t .holds .done, need-is, t .long .room, turn-behind);
           listed = t .holds .chain;
           long = t .long .chain;
@@ -215,7 +218,7 @@ module _ {g : Given} {i : ℕ} {points : List Float} {visited : List Bool} {w : 
     pub turn-listed : EndFit (x .chainEnds) (x .chainHow) (w .chains)
     turn-listed = record { first = omega (arith, chains-low, t .long .chainEnds); second = omega (arith, chains-low, t .long .chainHow) }
 
-    pub turn-looped : {part : List Float} {r : ChainEnd} {visited′ : List Bool} {part′ : List Float} {chain′ : List ℕ} → Walked g i part (x .chain) r visited′ part′ chain′ → LoopFit (x .ends) w r
+    pub turn-looped : {part : List Float} {r : ChainEnd} {visited′ : List Bool} {link′ : List ℕ} {part′ : List Float} {chain′ : List ℕ} → Walked g i points by part (x .chain) r visited′ link′ part′ chain′ → LoopFit (x .ends) w r
     turn-looped k =
         record {
           inside = omega (arith, loops-low, chains-low, t .long .ends);
@@ -225,9 +228,9 @@ module _ {g : Given} {i : ℕ} {points : List Float} {visited : List Bool} {w : 
         }
 
     -- the chain was walked in the rest of the room, and what it leaves was listed
-    module _ {part : List Float} {r : ChainEnd} {visited′ : List Bool} {part′ : List Float} {chain′ chainEnds′ chainHow′ : List ℕ} {w′ : Tally} {ends′ : List ℕ}
+    module _ {part : List Float} {r : ChainEnd} {visited′ : List Bool} {link′ : List ℕ} {part′ : List Float} {chain′ chainEnds′ chainHow′ : List ℕ} {w′ : Tally} {ends′ : List ℕ}
         (q : part ≡ take (length room - 3 * w .done) (drop (3 * w .done) room))
-        (k : Walked g i part (x .chain) r visited′ part′ chain′)
+        (k : Walked g i points by part (x .chain) r visited′ link′ part′ chain′)
         (m : EndListed (w .chains) r (x .chainEnds) (x .chainHow) chainEnds′ chainHow′)
         (n : LoopListed w r (x .ends) w′ ends′) where
       abbrev l : List (Chain (List Vertex))
@@ -321,11 +324,12 @@ module _ {g : Given} {i : ℕ} {points : List Float} {visited : List Bool} {w : 
             chainHow = hows-now;
           })
 
-      pub turn-taken : Turned g i x w′ visited′ x′
+      pub turn-taken : Turned g i points by x w′ visited′ link′ x′
       unfolding added
       turn-taken =
           record {
             marks = k .marks ∙ ap (λ (s : Stitched (List Vertex)). s .visited) (sym turns-is);
             marked = k .marked;
+            hung = k .hung;
             holds = subst (λ (s : Stitched (List Vertex)). Holds g (s .chains) x w′ x′) (sym turns-is) (holds-by (left-of (c .ending)));
           }

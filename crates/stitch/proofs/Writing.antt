@@ -6,7 +6,7 @@ use mathlib.Core.List.{List, _∷_, flatMap}
 use native.Mathlib.Numerals.{add-one}
 use native.Mathlib.Nat.{not-suc-le-zero, le-of-suc-le-suc}
 use native.Mathlib.Omega.{arith}
-use lib.ListN.{length, getD, take, replicate, length-replicate}
+use lib.ListN.{length, getD, take, replicate, getD-replicate, length-replicate}
 use lib.Seq.{length-take-le}
 use lib.Ieee.{Float}
 use Rattle.basis.specs.Number.{+0}
@@ -14,11 +14,15 @@ use Rattle.basis.specs.Sizes.{mostVertices, mostSlices}
 use Rattle.basis.specs.Room.{roomOf, cleared}
 use Rattle.stitch.specs.declared.turn.Tally.{Tally}
 use Rattle.stitch_run.specs.Run.{run, turns, orderOf}
-use Rattle.stitch_run.specs.Stitch.{Given, rulesOf, runOf, loopsOf, totals, sumBelow, weightAt, needFor, needOf, roundCount, loopCount, chainCount, roomItems, endItems, chainItems, chainEndItems, howItems}
+use Rattle.stitch_run.specs.declared.plan.Plan.{Plan}
+use Rattle.stitch_run.specs.Stitch.{Given, given, rulesOf, runOf, loopsOf, totals, sumBelow, weightAt, needFor, needOf, roundCount, loopCount, chainCount, roomItems, endItems, chainItems, chainEndItems, howItems}
 use Rattle.slice.specs.Slice.{codeWidth, codesAt, sliceView}
 use Rattle.stitch_run.specs.RunLaws.{same-length}
 use Rattle.stitch_run.specs.StitchLaws.{among}
 use Rattle.stitch_run.specs.Demand3Theorems.{room-items, end-items, chain-items, how-items, chains-at-most, loops-at-most}
+use Rattle.stitch_links.specs.declared.layout.Layout.{Layout}
+use Rattle.stitch_links.specs.Hung.{Between}
+use Rattle.stitch_links.specs.Hanging.{Hanged, hanged-between}
 use Rattle.stitch_round.specs.Ready.{Sound, Points}
 use Rattle.stitch_chain.specs.Ready.{Begun, chainsTo}
 use Rattle.stitch.specs.Lent.{Lists, Long, Holds, TurnFit, Turned, TurnsFit, AllTurned, NeedFit, RestFit, RestCleared, StitchFit, Few, Tabled, Written}
@@ -30,12 +34,14 @@ use Rattle.stitch_chain.specs.ChainLaws.{begun-none, begun-then}
 begun-here : {A : Type 0} (k : ℕ) (items entry : List A) (need : ℕ) (l : List A) → Begun k items entry need l → Begun k items l need l
 begun-here k items entry need l b = record { front = b .front; counted = b .counted; beyond = refl; size = refl }
 
-pub record Turning (g : Given) (points : List Float) (e : Lists) (w : Tally) (visited : List Bool) (x : Lists) (i : ℕ) : Type 0 where
+pub record Turning (g : Given) (points : List Float) (by : Layout) (link₀ : List ℕ) (e : Lists) (w : Tally) (visited : List Bool) (link : List ℕ) (x : Lists) (i : ℕ) : Type 0 where
   pub sound : Sound g
   pub table : Points g points
   pub upto : i ≤ g .slices
   pub marks : visited ≡ turns (rulesOf g) i .visited
   pub marked : length visited ≡ g .slices
+  pub hung : Between points visited by link (g .slices) (g .starts)
+  pub links : length link ≡ length link₀
   pub long : Long g x
   pub holds : Holds g (chainsTo g i) e w x
 
@@ -43,22 +49,24 @@ long-then : (g : Given) (x x′ : Lists) → Long g x → length (x′ .room) �
     → length (x′ .chainEnds) ≡ length (x .chainEnds) → length (x′ .chainHow) ≡ length (x .chainHow) → Long g x′
 long-then g x x′ l a b c d e = record { room = rw a (l .room); ends = rw b (l .ends); chain = rw c (l .chain); chainEnds = rw d (l .chainEnds); chainHow = rw e (l .chainHow) }
 
-module _ (g : Given) (points : List Float) (e : Lists) where
-  pub turns-none : (visited : List Bool) → TurnsFit g points visited e → Turning g points e (record { done = 0; loops = 0; chains = 0; rounds = 0 }) visited e 0
+module _ (g : Given) (points : List Float) (by : Layout) (e : Lists) where
+  pub turns-none : (visited : List Bool) (link : List ℕ) → TurnsFit g points by visited link e → Turning g points by link e (record { done = 0; loops = 0; chains = 0; rounds = 0 }) visited link e 0
   unfolding turns rulesOf loopsOf totals orderOf flatMap
-  turns-none visited t =
+  turns-none visited link t =
       record {
         sound = t .sound;
         table = t .table;
         upto = omega arith;
         marks = t .marks;
         marked = t .marked;
+        hung = t .hung;
+        links = refl;
         long = t .long;
         holds = record { done = refl; room = begun-none _ _; ends = begun-none _ _; chain = begun-none _ _; chainEnds = begun-none _ _; chainHow = begun-none _ _ };
       }
 
-  module _ (w : Tally) (visited : List Bool) (x : Lists) (i : ℕ) (t : Turning g points e w visited x i) where
-    pub turns-turn : i < g .slices → TurnFit g i points visited w x
+  module _ (link₀ : List ℕ) (w : Tally) (visited : List Bool) (link : List ℕ) (x : Lists) (i : ℕ) (t : Turning g points by link₀ e w visited link x i) where
+    pub turns-turn : i < g .slices → TurnFit g i points by visited link w x
     turns-turn h =
         let y = t .holds in
         record {
@@ -68,6 +76,7 @@ module _ (g : Given) (points : List Float) (e : Lists) where
           long = t .long;
           marks = t .marks;
           marked = t .marked;
+          hung = t .hung;
           holds =
               record {
                 done = y .done;
@@ -79,8 +88,9 @@ module _ (g : Given) (points : List Float) (e : Lists) where
               };
         }
 
-    pub turns-more : (w′ : Tally) (visited′ : List Bool) (x′ : Lists) → i < g .slices → Turned g i x w′ visited′ x′ → Turning g points e w′ visited′ x′ (i + 1)
-    turns-more w′ visited′ x′ h d =
+    pub turns-more : (w′ : Tally) (visited′ : List Bool) (link′ : List ℕ) (x′ : Lists) → i < g .slices → Turned g i points by x w′ visited′ link′ x′ → length link′ ≡ length link
+        → Turning g points by link₀ e w′ visited′ link′ x′ (i + 1)
+    turns-more w′ visited′ link′ x′ h d same =
         let y = t .holds in
         let z = d .holds in
         record {
@@ -89,6 +99,8 @@ module _ (g : Given) (points : List Float) (e : Lists) where
           upto = omega arith;
           marks = d .marks;
           marked = d .marked;
+          hung = d .hung;
+          links = same ∙ t .links;
           long = long-then g x x′ (t .long) (z .room .size) (z .ends .size) (z .chain .size) (z .chainEnds .size) (z .chainHow .size);
           holds =
               record {
@@ -195,20 +207,35 @@ take-marks (suc n) (suc m) h = ap (λ (l : List Bool). false ∷ l) (take-marks 
 pub marks-length : (most n : ℕ) → n ≤ most → n ≡ length (take n (replicate most false))
 marks-length most n h = sym (length-take-le n (replicate most false) (rw (length-replicate most false) h))
 
--- lists of their own for at most so many slices
-pub tabled-of : (most : ℕ) (g : Given) (x : Lists) → Few most g x → (points : List Float) (visited : List Bool) → length points ≡ 2 * most
-    → visited ≡ take (g .slices) (replicate most false) → Tabled g points visited x
-tabled-of most g x f points visited e m =
-    record { fit = f .fit; size = omega (arith, f .few); marks = m ∙ take-marks (g .slices) most (f .few) }
+-- lists of their own for at most so many slices, and links for them by so many lists
+pub tabled-of : (most full held : ℕ) (g : Given) (x : Lists) → Few most g x → (points : List Float) (visited : List Bool) (link : List ℕ) → length points ≡ 2 * most
+    → visited ≡ take (g .slices) (replicate most false) → link ≡ replicate full full → held + most ≤ full → held ≤ 4096 → Tabled g points visited link held x
+tabled-of most full held g x f points visited link e m l h s =
+    record {
+      fit = f .fit;
+      size = omega (arith, f .few);
+      marks = m ∙ take-marks (g .slices) most (f .few);
+      small = s;
+      long = omega (arith, f .few, ap length l, length-replicate full full);
+      none = λ i d. rw (l, getD-replicate full i full 0 (omega arith)) (omega (arith, f .few));
+    }
 
 pub few-of : (g : Given) (x : Lists) → StitchFit g x → Few mostSlices g x
 few-of g x f = record { fit = f; few = f .sound .few }
 
-module _ (g : Given) (x : Lists) (f : StitchFit g x) where
-  pub begin-turns : (points points′ : List Float) (visited : List Bool) → Tabled g points visited x → Points g points′ → TurnsFit g points′ visited x
-  begin-turns points points′ visited d t =
-      record { sound = f .sound; table = t; long = f .long; marks = d .marks; marked = ap length (d .marks) ∙ length-replicate (g .slices) false }
+pub begin-turns : (o1 o2 : List Float) (at : List ℕ) (numbers : List Float) (p : Plan) (points points′ : List Float) (visited : List Bool) (link link′ : List ℕ) (held : ℕ) (by : Layout) (x : Lists)
+    → Tabled (given o1 o2 at numbers p) points visited link held x → Points (given o1 o2 at numbers p) points′ → Hanged points′ link′ p by → TurnsFit (given o1 o2 at numbers p) points′ by visited link′ x
+begin-turns o1 o2 at numbers p points points′ visited link link′ held by x d t h =
+    record {
+      sound = d .fit .sound;
+      table = t;
+      long = d .fit .long;
+      marks = d .marks;
+      marked = ap length (d .marks) ∙ length-replicate (p .slices) false;
+      hung = hanged-between points′ link′ p by visited h;
+    }
 
+module _ (g : Given) (x : Lists) (f : StitchFit g x) where
   pub need-fit : NeedFit (g .sliceAt) (g .slices)
   unfolding sliceView
   need-fit =

@@ -4,7 +4,7 @@ use mathlib.Core.Bool.{Bool, false, cond}
 use mathlib.Core.Path.{_≡_}
 use mathlib.Core.List.{List, map, flatMap}
 use lib.Dec.{eqb}
-use lib.ListN.{length, set, replicate}
+use lib.ListN.{length, getD, set, replicate}
 use lib.Ieee.{Float}
 use Rattle.basis.specs.Number.{+0}
 use Rattle.basis.specs.Sizes.{mostVertices, mostSlices}
@@ -18,6 +18,8 @@ use Rattle.stitch_run.specs.Run.{Chain, closed, turns, slicesOf, orderOf}
 use Rattle.stitch_run.specs.Stitch.{Given, rulesOf, runOf, loopsOf, howOf, totals, needOf, roundCount, loopCount, chainCount, roomItems, endItems, chainItems, chainEndItems, howItems}
 use Rattle.slice.specs.Slice.{codeWidth, sliceOffset}
 use Rattle.stitch_run.specs.Demand3.{finished}
+use Rattle.stitch_links.specs.declared.layout.Layout.{Layout}
+use Rattle.stitch_links.specs.Hung.{Between}
 use Rattle.stitch_round.specs.Ready.{Sound, Points}
 use Rattle.stitch_chain.specs.Ready.{Begun, chainsTo}
 
@@ -99,27 +101,30 @@ pub record LoopListed (w : Tally) (r : ChainEnd) (ends : List ℕ) (w′ : Tally
   pub listed : ends′ ≡ endsAfter w r ends
 
 -- slice i's turn
-pub record TurnFit (g : Given) (i : ℕ) (points : List Float) (visited : List Bool) (w : Tally) (x : Lists) : Type 0 where
+pub record TurnFit (g : Given) (i : ℕ) (points : List Float) (by : Layout) (visited : List Bool) (link : List ℕ) (w : Tally) (x : Lists) : Type 0 where
   pub sound : Sound g
   pub table : Points g points
   pub here : i < g .slices
   pub long : Long g x
   pub marks : visited ≡ turns (rulesOf g) i .visited
   pub marked : length visited ≡ g .slices
+  pub hung : Between points visited by link (g .slices) (g .starts)
   pub holds : Holds g (chainsTo g i) x w x
 
-pub record Turned (g : Given) (i : ℕ) (x : Lists) (w′ : Tally) (visited′ : List Bool) (x′ : Lists) : Type 0 where
+pub record Turned (g : Given) (i : ℕ) (points : List Float) (by : Layout) (x : Lists) (w′ : Tally) (visited′ : List Bool) (link′ : List ℕ) (x′ : Lists) : Type 0 where
   pub marks : visited′ ≡ turns (rulesOf g) (i + 1) .visited
   pub marked : length visited′ ≡ g .slices
+  pub hung : Between points visited′ by link′ (g .slices) (g .starts)
   pub holds : Holds g (chainsTo g (i + 1)) x w′ x′
 
 -- every slice's turn: nothing has been visited, and nothing is left yet
-pub record TurnsFit (g : Given) (points : List Float) (visited : List Bool) (x : Lists) : Type 0 where
+pub record TurnsFit (g : Given) (points : List Float) (by : Layout) (visited : List Bool) (link : List ℕ) (x : Lists) : Type 0 where
   pub sound : Sound g
   pub table : Points g points
   pub long : Long g x
   pub marks : visited ≡ replicate (g .slices) false
   pub marked : length visited ≡ g .slices
+  pub hung : Between points visited by link (g .slices) (g .starts)
 
 pub record AllTurned (g : Given) (x : Lists) (w : Tally) (x′ : Lists) : Type 0 where
   pub holds : Holds g (runOf g) x w x′
@@ -156,11 +161,14 @@ pub record Few (most : ℕ) (g : Given) (x : Lists) : Type 0 where
   pub fit : StitchFit g x
   pub few : g .slices ≤ most
 
--- a table for the slices' start points, and their marks: nothing has been visited
-pub record Tabled (g : Given) (points : List Float) (visited : List Bool) (x : Lists) : Type 0 where
+-- a table for the slices' start points, and their marks: nothing has been visited. Links for so many lists, which hold no slice
+pub record Tabled (g : Given) (points : List Float) (visited : List Bool) (link : List ℕ) (held : ℕ) (x : Lists) : Type 0 where
   pub fit : StitchFit g x
   pub size : 2 * g .slices ≤ length points
   pub marks : visited ≡ replicate (g .slices) false
+  pub small : held ≤ 4096
+  pub long : held + g .slices ≤ length link
+  pub none : (h : ℕ) → h < held → held + g .slices ≤ getD link h 0
 
 -- the answer, and each list by the room rule: the items, zero up to the need, what it held before
 pub record Written (g : Given) (x : Lists) (r : Stitched) (x′ : Lists) : Type 0 where

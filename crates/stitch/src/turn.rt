@@ -3,6 +3,7 @@ ghost use Rattle.stitch_run.specs.Stitch.{given};
 ghost use Rattle.stitch.specs.Lent.{lists, EndFit, EndListed, LoopFit, LoopListed, TurnFit, Turned, TurnsFit, AllTurned};
 use stitch_chain::rounds;
 use stitch_chain::rounds::ChainEnd;
+use stitch_links::layout::Layout;
 use stitch_round::step;
 use stitch_run::plan::Plan;
 
@@ -50,6 +51,7 @@ fn list_loop(ends: &mut [usize], w: Tally, e: ChainEnd) -> Tally
 // The turn of slice i: unless it has been visited it begins a chain, in the rest of the room, directly after the loops already finished.
 fn take_turn(
     visited: &mut [bool],
+    link: &mut [usize],
     room: &mut [f64],
     ends: &mut [usize],
     chain: &mut [usize],
@@ -60,12 +62,13 @@ fn take_turn(
     slice_at: &[usize],
     slice: &[f64],
     points: &[f64],
+    layout: Layout,
     p: Plan,
     w: Tally,
     i: usize,
 ) -> Tally
-    requires { ⌜ TurnFit (given (now outline1) (now outline2) (now «slice_at») (now slice) p) i (now points) (now visited) w (lists (now room) (now ends) (now chain) (now «chain_ends») (now «chain_how»)) ⌝ }
-    ensures { λ r. ⌜ Turned (given (now (outline1 .entry)) (now (outline2 .entry)) (now («slice_at» .entry)) (now (slice .entry)) p) i (lists (now (room .entry)) (now (ends .entry)) (now (chain .entry)) (now («chain_ends» .entry)) (now («chain_how» .entry))) r (now (visited .exit)) (lists (now (room .exit)) (now (ends .exit)) (now (chain .exit)) (now («chain_ends» .exit)) (now («chain_how» .exit))) ⌝ }
+    requires { ⌜ TurnFit (given (now outline1) (now outline2) (now «slice_at») (now slice) p) i (now points) layout (now visited) (now link) w (lists (now room) (now ends) (now chain) (now «chain_ends») (now «chain_how»)) ⌝ }
+    ensures { λ r. ⌜ Turned (given (now (outline1 .entry)) (now (outline2 .entry)) (now («slice_at» .entry)) (now (slice .entry)) p) i (now (points .entry)) layout (lists (now (room .entry)) (now (ends .entry)) (now (chain .entry)) (now («chain_ends» .entry)) (now («chain_how» .entry))) r (now (visited .exit)) (now (link .exit)) (lists (now (room .exit)) (now (ends .exit)) (now (chain .exit)) (now («chain_ends» .exit)) (now («chain_how» .exit))) ⌝ }
 {
     if visited[i] {
         return w;
@@ -73,6 +76,7 @@ fn take_turn(
     let a = 3 * w.done;
     let e = rounds::walk_chain(
         visited,
+        link,
         &mut room[a..],
         chain,
         outline1,
@@ -80,6 +84,7 @@ fn take_turn(
         slice_at,
         slice,
         points,
+        layout,
         p,
         i,
         w.rounds,
@@ -91,6 +96,7 @@ fn take_turn(
 // Every slice has its turn. Says what is finished at the end.
 pub(crate) fn take_turns(
     visited: &mut [bool],
+    link: &mut [usize],
     room: &mut [f64],
     ends: &mut [usize],
     chain: &mut [usize],
@@ -101,9 +107,10 @@ pub(crate) fn take_turns(
     slice_at: &[usize],
     slice: &[f64],
     points: &[f64],
+    layout: Layout,
     p: Plan,
 ) -> Tally
-    requires { ⌜ TurnsFit (given (now outline1) (now outline2) (now «slice_at») (now slice) p) (now points) (now visited) (lists (now room) (now ends) (now chain) (now «chain_ends») (now «chain_how»)) ⌝ }
+    requires { ⌜ TurnsFit (given (now outline1) (now outline2) (now «slice_at») (now slice) p) (now points) layout (now visited) (now link) (lists (now room) (now ends) (now chain) (now «chain_ends») (now «chain_how»)) ⌝ }
     ensures { λ r. ⌜ AllTurned (given (now (outline1 .entry)) (now (outline2 .entry)) (now («slice_at» .entry)) (now (slice .entry)) p) (lists (now (room .entry)) (now (ends .entry)) (now (chain .entry)) (now («chain_ends» .entry)) (now («chain_how» .entry))) r (lists (now (room .exit)) (now (ends .exit)) (now (chain .exit)) (now («chain_ends» .exit)) (now («chain_how» .exit))) ⌝ }
 {
     let mut w = Tally {
@@ -116,6 +123,7 @@ pub(crate) fn take_turns(
     while i < p.slices {
         w = take_turn(
             visited,
+            link,
             room,
             ends,
             chain,
@@ -126,6 +134,7 @@ pub(crate) fn take_turns(
             slice_at,
             slice,
             points,
+            layout,
             p,
             w,
             i,

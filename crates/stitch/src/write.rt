@@ -7,6 +7,7 @@ use crate::turn::Tally;
 use basis::room;
 use basis::sizes::MOST_SLICES;
 use slice::data::CODE_WIDTH;
+use stitch_links::hang;
 use stitch_round::slices;
 use stitch_run::plan::Plan;
 
@@ -56,10 +57,12 @@ fn clear_rest(
     room::clear_counts(chain_how, w.chains, count);
 }
 
-// The stitch by a table of start points and marks that are long enough. Nothing has been visited.
+// The stitch by a table of start points, marks, and links for so many lists, that are long enough. Nothing has been visited, and the lists hold nothing.
 fn write_with(
     points: &mut [f64],
     visited: &mut [bool],
+    link: &mut [usize],
+    held: usize,
     outline1: &[f64],
     outline2: &[f64],
     slice_at: &[usize],
@@ -71,12 +74,14 @@ fn write_with(
     chain_ends: &mut [usize],
     chain_how: &mut [usize],
 ) -> Stitched
-    requires { ⌜ Tabled (given (now outline1) (now outline2) (now «slice_at») (now slice) p) (now points) (now visited) (lists (now room) (now ends) (now chain) (now «chain_ends») (now «chain_how»)) ⌝ }
+    requires { ⌜ Tabled (given (now outline1) (now outline2) (now «slice_at») (now slice) p) (now points) (now visited) (now link) held (lists (now room) (now ends) (now chain) (now «chain_ends») (now «chain_how»)) ⌝ }
     ensures { λ r. ⌜ Written (given (now (outline1 .entry)) (now (outline2 .entry)) (now («slice_at» .entry)) (now (slice .entry)) p) (lists (now (room .entry)) (now (ends .entry)) (now (chain .entry)) (now («chain_ends» .entry)) (now («chain_how» .entry))) r (lists (now (room .exit)) (now (ends .exit)) (now (chain .exit)) (now («chain_ends» .exit)) (now («chain_how» .exit))) ⌝ }
 {
     slices::fill_points(points, outline1, outline2, slice_at, slice, p);
+    let layout = hang::hang(points, link, p, held);
     let w = turn::take_turns(
         visited,
+        link,
         room,
         ends,
         chain,
@@ -87,6 +92,7 @@ fn write_with(
         slice_at,
         slice,
         points,
+        layout,
         p,
     );
     let need = room_need(slice_at, p.slices);
@@ -98,8 +104,49 @@ fn write_with(
     }
 }
 
-// For so many slices the working lists are small, and cost little to set up.
+// So many slices are scanned: that is as fast as lists of cells, and takes less room.
+const SCANNED: usize = 4;
+
+fn write_scanned(
+    outline1: &[f64],
+    outline2: &[f64],
+    slice_at: &[usize],
+    slice: &[f64],
+    p: Plan,
+    room: &mut [f64],
+    ends: &mut [usize],
+    chain: &mut [usize],
+    chain_ends: &mut [usize],
+    chain_how: &mut [usize],
+) -> Stitched
+    requires { ⌜ Few 4 (given (now outline1) (now outline2) (now «slice_at») (now slice) p) (lists (now room) (now ends) (now chain) (now «chain_ends») (now «chain_how»)) ⌝ }
+    ensures { λ r. ⌜ Written (given (now (outline1 .entry)) (now (outline2 .entry)) (now («slice_at» .entry)) (now (slice .entry)) p) (lists (now (room .entry)) (now (ends .entry)) (now (chain .entry)) (now («chain_ends» .entry)) (now («chain_how» .entry))) r (lists (now (room .exit)) (now (ends .exit)) (now (chain .exit)) (now («chain_ends» .exit)) (now («chain_how» .exit))) ⌝ }
+{
+    let mut points = [0.0; 2 * SCANNED];
+    let mut visited = [false; SCANNED];
+    let mut link = [SCANNED; SCANNED];
+    write_with(
+        &mut points,
+        &mut visited[..p.slices],
+        &mut link,
+        0,
+        outline1,
+        outline2,
+        slice_at,
+        slice,
+        p,
+        room,
+        ends,
+        chain,
+        chain_ends,
+        chain_how,
+    )
+}
+
+// So many slices have small working lists, which cost little to set up: so many lists of cells, and a link for each list and slice.
 const FEW: usize = 64;
+
+const FEW_LINKS: usize = 128;
 
 fn write_few(
     outline1: &[f64],
@@ -118,9 +165,12 @@ fn write_few(
 {
     let mut points = [0.0; 2 * FEW];
     let mut visited = [false; FEW];
+    let mut link = [FEW_LINKS; FEW_LINKS];
     write_with(
         &mut points,
         &mut visited[..p.slices],
+        &mut link,
+        FEW,
         outline1,
         outline2,
         slice_at,
@@ -134,7 +184,11 @@ fn write_few(
     )
 }
 
-// The same by lists for the most.
+// The same for the most.
+const MOST_LISTS: usize = 2048;
+
+const MOST_LINKS: usize = 3840;
+
 fn write_many(
     outline1: &[f64],
     outline2: &[f64],
@@ -152,9 +206,12 @@ fn write_many(
 {
     let mut points = [0.0; 2 * MOST_SLICES];
     let mut visited = [false; MOST_SLICES];
+    let mut link = [MOST_LINKS; MOST_LINKS];
     write_with(
         &mut points,
         &mut visited[..p.slices],
+        &mut link,
+        MOST_LISTS,
         outline1,
         outline2,
         slice_at,
@@ -184,6 +241,20 @@ pub fn write_stitch(
     requires { ⌜ StitchFit (given (now outline1) (now outline2) (now «slice_at») (now slice) p) (lists (now room) (now ends) (now chain) (now «chain_ends») (now «chain_how»)) ⌝ }
     ensures { λ r. ⌜ Written (given (now (outline1 .entry)) (now (outline2 .entry)) (now («slice_at» .entry)) (now (slice .entry)) p) (lists (now (room .entry)) (now (ends .entry)) (now (chain .entry)) (now («chain_ends» .entry)) (now («chain_how» .entry))) r (lists (now (room .exit)) (now (ends .exit)) (now (chain .exit)) (now («chain_ends» .exit)) (now («chain_how» .exit))) ⌝ }
 {
+    if p.slices <= SCANNED {
+        return write_scanned(
+            outline1,
+            outline2,
+            slice_at,
+            slice,
+            p,
+            room,
+            ends,
+            chain,
+            chain_ends,
+            chain_how,
+        );
+    }
     if p.slices <= FEW {
         return write_few(
             outline1,

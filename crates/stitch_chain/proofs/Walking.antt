@@ -12,6 +12,8 @@ use Rattle.stitch_vertices.specs.Held.{chainOf}
 use Rattle.stitch_vertices.specs.RestLaws.{chain-length, chain-less}
 use Rattle.stitch_run.specs.declared.plan.Plan.{Plan}
 use Rattle.stitch_chain.specs.declared.rounds.ChainEnd.{ChainEnd}
+use Rattle.stitch_links.specs.declared.layout.Layout.{Layout}
+use Rattle.stitch_links.specs.Hung.{Hung, hung-visit, hung-begin}
 use Rattle.stitch_round.specs.declared.step.Step.{Step}
 use Rattle.stitch_round.specs.declared.step.Step.the-variants.{Onto, Ends}
 use Rattle.stitch_run.specs.Run.{Rules, Ending, Next, onto, ends, Underway, Finished, nextOf, roundOf, opened, onward, ended, walk, chainFrom, turns, slicesOf}
@@ -27,7 +29,7 @@ use Rattle.stitch_chain.specs.ChainLaws.{begun-put, begins-fit}
 
 -- ---- the loop of rounds. w is the chain under way, as the definition has it; `left` slices may still be joined
 
-pub record Walking (g : Given) (i : ℕ) (points : List Float) (room₀ : List Float) (chain₀ : List ℕ) (visited : List Bool) (room : List Float) (chain : List ℕ) (n current rounds : ℕ) : Type 0 where
+pub record Walking (g : Given) (i : ℕ) (points : List Float) (by : Layout) (link₀ : List ℕ) (room₀ : List Float) (chain₀ : List ℕ) (visited : List Bool) (link : List ℕ) (room : List Float) (chain : List ℕ) (n current rounds : ℕ) : Type 0 where
   w : Underway (List Vertex)
   left : ℕ
   going : Going (rulesOf g) (among g) (orderTo g i) w
@@ -40,6 +42,8 @@ pub record Walking (g : Given) (i : ℕ) (points : List Float) (room₀ : List F
   enough : g .slices ≤ left + length (orderTo g i ++ placed w)
   listed : Begun rounds (orderTo g i ++ map (λ r. r .slice) (w .past)) chain₀ (g .slices) chain
   beyond : (v : ℕ) → 3 * mostOf g ≤ 3 * doneTo g i + v → drop v room ≡ drop v room₀
+  pub hung : Hung points visited i by link (g .slices) (g .starts)
+  pub links : length link ≡ length link₀
   pub sound : Sound g
   pub table : Points g points
   pub size : length room ≡ length room₀
@@ -99,18 +103,18 @@ next-same : (R : Rules (List Vertex)) (w : Underway (List Vertex)) (first curren
 unfolding nextOf
 next-same R w first current vs visited a b c d = rw (a, b, c, d)
 
-module _ (o1 o2 : List Float) (at : List ℕ) (numbers : List Float) (p : Plan) (i : ℕ) (points : List Float) where
+module _ (o1 o2 : List Float) (at : List ℕ) (numbers : List Float) (p : Plan) (i : ℕ) (points : List Float) (by : Layout) where
   abbrev g : Given
   g = given o1 o2 at numbers p
 
   abbrev R : Rules (List Vertex)
   R = rulesOf g
 
-  open-roomy : {visited : List Bool} {room : List Float} {chain : List ℕ} {before : ℕ} → Opening g i points visited room chain before
+  open-roomy : {visited : List Bool} {link : List ℕ} {room : List Float} {chain : List ℕ} {before : ℕ} → Opening g i points visited link by room chain before
       → doneTo g i + (sliceOffset at i + 2) ≤ mostOf g
   open-roomy o = begins-fit g i (o .here) (rw (o .marks) at (o .unvisited))
 
-  pub open-place : {visited : List Bool} {room : List Float} {chain : List ℕ} {before : ℕ} → Opening g i points visited room chain before → Placing g i visited room 0
+  pub open-place : {visited : List Bool} {link : List ℕ} {room : List Float} {chain : List ℕ} {before : ℕ} → Opening g i points visited link by room chain before → Placing g i visited room 0
   open-place o =
       let y = open-roomy o in
       record {
@@ -118,11 +122,11 @@ module _ (o1 o2 : List Float) (at : List ℕ) (numbers : List Float) (p : Plan) 
         mark = omega (arith, o .marked, o .here);
       }
 
-  pub walk-start : {visited : List Bool} {room : List Float} {chain : List ℕ} {before n : ℕ} {visited′ : List Bool} {room′ : List Float}
-      → Opening g i points visited room chain before → Placed g i 0 visited room n visited′ room′
-      → Walking g i points room′ chain visited′ room′ chain n i before
+  pub walk-start : {visited : List Bool} {link : List ℕ} {room : List Float} {chain : List ℕ} {before n : ℕ} {visited′ : List Bool} {room′ : List Float}
+      → Opening g i points visited link by room chain before → Placed g i 0 visited room n visited′ room′
+      → Walking g i points by link room′ chain visited′ link room′ chain n i before
   unfolding rulesOf chainOf opened weightAt
-  walk-start {visited} {room} {chain} {before} {n} {visited′} {room′} o q =
+  walk-start {visited} {link} {room} {chain} {before} {n} {visited′} {room′} o q =
       let h : i ≤ p .slices = omega (arith, o .here) in
       let k = kept-turns R (among g) i h in
       let e : getD (turns R i .visited) i false ≡ false = rw (o .marks) at (o .unvisited) in
@@ -145,6 +149,8 @@ module _ (o1 o2 : List Float) (at : List ℕ) (numbers : List Float) (p : Plan) 
         enough = omega arith;
         listed = rw append-nil (o .listed);
         beyond = λ x d. refl;
+        hung = rw (q .marks) (hung-begin points visited (o .hung .before) by link (p .slices) (p .starts) i (o .unvisited) (o .hung .hung));
+        links = refl;
         sound = o .sound;
         table = o .table;
         size = refl;
@@ -158,16 +164,17 @@ module _ (o1 o2 : List Float) (at : List ℕ) (numbers : List Float) (p : Plan) 
       }
 
   -- the rounds began in a room that the first slice was placed in
-  pub walk-whole : {visited : List Bool} {room : List Float} {chain : List ℕ} {before n : ℕ} {visited′ : List Bool} {room′ : List Float} {r : ChainEnd}
-      {visited″ : List Bool} {room″ : List Float} {chain″ : List ℕ}
-      → Opening g i points visited room chain before → Placed g i 0 visited room n visited′ room′ → Walked g i room′ chain r visited″ room″ chain″
-      → Walked g i room chain r visited″ room″ chain″
+  pub walk-whole : {visited : List Bool} {link : List ℕ} {room : List Float} {chain : List ℕ} {before n : ℕ} {visited′ : List Bool} {room′ : List Float} {r : ChainEnd}
+      {visited″ : List Bool} {link″ : List ℕ} {room″ : List Float} {chain″ : List ℕ}
+      → Opening g i points visited link by room chain before → Placed g i 0 visited room n visited′ room′ → Walked g i points by room′ chain r visited″ link″ room″ chain″
+      → Walked g i points by room chain r visited″ link″ room″ chain″
   unfolding rulesOf opened weightAt
   walk-whole o q x =
       let y = open-roomy o in
       record {
         marks = x .marks;
         marked = x .marked;
+        hung = x .hung;
         built = x .built;
         some = x .some;
         fits = x .fits;
@@ -178,12 +185,13 @@ module _ (o1 o2 : List Float) (at : List ℕ) (numbers : List Float) (p : Plan) 
         size = x .size ∙ q .added .grown .size;
       }
 
-  module _ {room₀ : List Float} {chain₀ : List ℕ} {visited : List Bool} {room : List Float} {chain : List ℕ} {n current rounds : ℕ}
-      (t : Walking g i points room₀ chain₀ visited room chain n current rounds) where
-    pub walk-look : RoundFit points visited room n p
+  module _ {link₀ : List ℕ} {room₀ : List Float} {chain₀ : List ℕ} {visited : List Bool} {link : List ℕ} {room : List Float} {chain : List ℕ} {n current rounds : ℕ}
+      (t : Walking g i points by link₀ room₀ chain₀ visited link room chain n current rounds) where
+    pub walk-look : RoundFit points visited link by room n i p
     walk-look =
         record {
           scan = record { size = t .table .size; marks = t .marked; few = t .sound .few };
+          hung = t .hung;
           some = t .some;
           fits = omega (arith, t .fits, t .long, t .size);
           selectors = t .sound .selectors;
@@ -192,7 +200,7 @@ module _ (o1 o2 : List Float) (at : List ℕ) (numbers : List Float) (p : Plan) 
     long-is : length (t .w .built) ≡ n
     long-is = ap length (t .built-is) ∙ chain-length room n
 
-    module _ {r : Step} (k : Rounded points visited room n i current p r) where
+    module _ {link′ : List ℕ} {r : Step} (k : Rounded points visited link′ by room n i current p r) where
       told : r ≡ toldOf (nextOf R (t .w))
       told = k .is o1 o2 at numbers (t .table) ∙ ap toldOf (next-same R (t .w) i current (chainOf room n) visited (t .first-is) (t .current-is) (t .built-is) (t .marks-is))
 
@@ -215,10 +223,10 @@ module _ (o1 o2 : List Float) (at : List ℕ) (numbers : List Float) (p : Plan) 
               mark = omega (arith, here .0, t .marked);
             }
 
-        pub walk-more : {n′ : ℕ} {visited′ : List Bool} {room′ : List Float} → Placed g j (n - 1) visited room n′ visited′ room′
-            → Walking g i points room₀ chain₀ visited′ room′ (set chain rounds current) n′ j (rounds + 1)
+        pub walk-more : {n′ : ℕ} {visited′ : List Bool} {room′ : List Float} → length link′ ≡ length link → Placed g j (n - 1) visited room n′ visited′ room′
+            → Walking g i points by link₀ room₀ chain₀ visited′ link′ room′ (set chain rounds current) n′ j (rounds + 1)
         unfolding rulesOf onward roundOf
-        walk-more {n′} {visited′} {room′} x =
+        walk-more {n′} {visited′} {room′} same x =
             let v = onward R (t .w) j in
             let u = going-onward R (among g) (orderTo g i) (t .w) j onto-is (t .going) in
             let y = roomy-onward R (among g) length (weightAt at) (grows g) (doneTo g i) (orderTo g i) (t .w) j (t .going) (t .roomy) in
@@ -246,6 +254,8 @@ module _ (o1 o2 : List Float) (at : List ℕ) (numbers : List Float) (p : Plan) 
               enough = omega (arith, t .enough, placed-longer R (among g) (orderTo g i) (t .w) j);
               listed = d;
               beyond = λ z h. x .added .grown .beyond z (omega (arith, joins, t .some)) ∙ t .beyond z h;
+              hung = rw (x .marks) (hung-visit points visited i by link′ (p .slices) (p .starts) j (k .hung));
+              links = same ∙ t .links;
               sound = t .sound;
               table = t .table;
               size = x .added .grown .size ∙ t .size;
@@ -258,7 +268,7 @@ module _ (o1 o2 : List Float) (at : List ℕ) (numbers : List Float) (p : Plan) 
               kept = length-set chain rounds current ∙ t .kept;
             }
 
-      pub walk-end : {how : ℕ} → r ≡ Ends how → Walked g i room₀ chain₀ (record { verts = n; rounds = rounds + 1; how = how }) visited room (set chain rounds current)
+      pub walk-end : {how : ℕ} → r ≡ Ends how → Walked g i points by room₀ chain₀ (record { verts = n; rounds = rounds + 1; how = how }) visited link′ room (set chain rounds current)
       unfolding ended
       walk-end {how} q =
           let x = ends-of (nextOf R (t .w)) how (sym q ∙ told) in
@@ -271,6 +281,7 @@ module _ (o1 o2 : List Float) (at : List ℕ) (numbers : List Float) (p : Plan) 
           record {
             marks = sym (ap (λ (z : Finished (List Vertex)). z .visited) e ∙ t .marks-is);
             marked = t .marked;
+            hung = record { before = i; hung = k .hung };
             built = sym (ap (λ (z : Finished (List Vertex)). z .chain .built) e ∙ t .built-is);
             some = t .some;
             fits = t .fits;
@@ -281,4 +292,4 @@ module _ (o1 o2 : List Float) (at : List ℕ) (numbers : List Float) (p : Plan) 
             size = t .size;
           }
 
-pub ruleset walking = (open-place, walk-start, walk-look, walk-more)
+pub ruleset walking = (open-place, walk-start, walk-more)

@@ -9,6 +9,8 @@ use Rattle.outline.specs.declared.point.Vertex.{Vertex}
 use Rattle.stitch_vertices.specs.Held.{chainOf}
 use Rattle.stitch_chain.specs.declared.rounds.ChainEnd.{ChainEnd}
 use Rattle.stitch_round.specs.Ready.{Sound, Points, SliceMore, SliceAdded}
+use Rattle.stitch_links.specs.declared.layout.Layout.{Layout}
+use Rattle.stitch_links.specs.Hung.{Between}
 use Rattle.stitch_run.specs.Run.{Chain, Finished, chainFrom, turns, slicesOf, orderOf}
 use Rattle.stitch_run.specs.Stitch.{Given, rulesOf, howOf, sumBelow, weightAt}
 use Rattle.stitch_run.specs.Demand3.{finished}
@@ -46,13 +48,14 @@ abbrev pub mostOf : Given → ℕ
 mostOf g = 1 + sumBelow (weightAt (g .sliceAt)) (g .slices)
 
 -- slice i begins a chain, in the rest of the room behind the loops before it
-pub record Opening (g : Given) (i : ℕ) (points : List Float) (visited : List Bool) (room : List Float) (chain : List ℕ) (before : ℕ) : Type 0 where
+pub record Opening (g : Given) (i : ℕ) (points : List Float) (visited : List Bool) (link : List ℕ) (w : Layout) (room : List Float) (chain : List ℕ) (before : ℕ) : Type 0 where
   pub sound : Sound g
   pub table : Points g points
   pub here : i < g .slices
   pub marks : visited ≡ turns (rulesOf g) i .visited
   pub marked : length visited ≡ g .slices
   pub unvisited : getD visited i false ≡ false
+  pub hung : Between points visited w link (g .slices) (g .starts)
   pub roomy : 3 * mostOf g ≤ 3 * doneTo g i + length room
   pub listed : Begun before (orderTo g i) chain (g .slices) chain
   pub long : g .slices ≤ length chain
@@ -61,14 +64,15 @@ pub record Opening (g : Given) (i : ℕ) (points : List Float) (visited : List B
 abbrev pub chainAt : Given → ℕ → Finished (List Vertex)
 chainAt g i = chainFrom (rulesOf g) (turns (rulesOf g) i .visited) i
 
-pub record Walked (g : Given) (i : ℕ) (room : List Float) (chain : List ℕ) (r : ChainEnd) (visited′ : List Bool) (room′ : List Float) (chain′ : List ℕ) : Type 0 where
+pub record Walked (g : Given) (i : ℕ) (points : List Float) (w : Layout) (room : List Float) (chain : List ℕ) (r : ChainEnd) (visited′ : List Bool) (link′ : List ℕ) (room′ : List Float) (chain′ : List ℕ) : Type 0 where
   pub marks : visited′ ≡ chainAt g i .visited
   pub marked : length visited′ ≡ g .slices
+  pub hung : Between points visited′ w link′ (g .slices) (g .starts)
   pub built : chainOf room′ (r .verts) ≡ chainAt g i .chain .built
   pub some : 0 < r .verts
   pub fits : doneTo g i + r .verts ≤ mostOf g
   pub how : r .how ≡ howOf (chainAt g i .chain .ending)
   pub listed : Begun (r .rounds) (orderTo g i ++ slicesOf (chainAt g i .chain)) chain (g .slices) chain′
   pub few : r .rounds ≤ g .slices
-  pub beyond : (w : ℕ) → 3 * mostOf g ≤ 3 * doneTo g i + w → drop w room′ ≡ drop w room
+  pub beyond : (v : ℕ) → 3 * mostOf g ≤ 3 * doneTo g i + v → drop v room′ ≡ drop v room
   pub size : length room′ ≡ length room

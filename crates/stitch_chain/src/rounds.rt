@@ -1,6 +1,7 @@
 // A chain: round after round, from its first slice to its end.
 ghost use Rattle.stitch_run.specs.Stitch.{given};
 ghost use Rattle.stitch_chain.specs.Ready.{Placing, Placed, Opening, Walked};
+use stitch_links::layout::Layout;
 use stitch_round::slices;
 use stitch_round::step;
 use stitch_round::step::Step;
@@ -35,6 +36,7 @@ fn place(
 // The chain that begins with slice `first`, in a room that begins with it. Each round lists its slice, after the rounds of the chains before.
 pub fn walk_chain(
     visited: &mut [bool],
+    link: &mut [usize],
     room: &mut [f64],
     chain: &mut [usize],
     outline1: &[f64],
@@ -42,12 +44,13 @@ pub fn walk_chain(
     slice_at: &[usize],
     slice: &[f64],
     points: &[f64],
+    layout: Layout,
     p: Plan,
     first: usize,
     before: usize,
 ) -> ChainEnd
-    requires { ⌜ Opening (given (now outline1) (now outline2) (now «slice_at») (now slice) p) first (now points) (now visited) (now room) (now chain) before ⌝ }
-    ensures { λ r. ⌜ Walked (given (now (outline1 .entry)) (now (outline2 .entry)) (now («slice_at» .entry)) (now (slice .entry)) p) first (now (room .entry)) (now (chain .entry)) r (now (visited .exit)) (now (room .exit)) (now (chain .exit)) ⌝ }
+    requires { ⌜ Opening (given (now outline1) (now outline2) (now «slice_at») (now slice) p) first (now points) (now visited) (now link) layout (now room) (now chain) before ⌝ }
+    ensures { λ r. ⌜ Walked (given (now (outline1 .entry)) (now (outline2 .entry)) (now («slice_at» .entry)) (now (slice .entry)) p) first (now (points .entry)) layout (now (room .entry)) (now (chain .entry)) r (now (visited .exit)) (now (link .exit)) (now (room .exit)) (now (chain .exit)) ⌝ }
 {
     let mut n = place(
         visited,
@@ -65,7 +68,7 @@ pub fn walk_chain(
     loop {
         chain[rounds] = current;
         rounds += 1;
-        match step::next_of(points, visited, room, n, first, current, p) {
+        match step::next_of(points, visited, link, layout, room, n, first, current, p) {
             Step::Onto(j) => {
                 n = place(
                     visited,

@@ -15,10 +15,14 @@ use Rattle.outline.specs.Outline.{pointAt}
 use Rattle.select.specs.declared.class.Starts.{Starts}
 use Rattle.select.specs.declared.table.Choices.{Choices}
 use Rattle.select.specs.declared.best.Best.{Best}
-use Rattle.select.specs.Select.{classOf, noneYet, offerOf, Scanned}
+use Rattle.select.specs.declared.best.Selected.{Selected}
+use Rattle.select.specs.Select.{classOf, choicesOf, noneYet, offerOf, chosenOf, Scanned}
 use Rattle.select.specs.SelectLaws as select
 use Rattle.stitch_run.specs.Run.{passing}
-use Rattle.stitch_round.specs.Ready.{hasAny, Met}
+use Rattle.stitch_answer.specs.declared.answer.Answer.the-variants.{NoCandidate, Asked}
+use Rattle.stitch_answer.specs.Answer.{hasAny, answerOf}
+use Rattle.stitch_round.specs.declared.scan.Seen.{Seen}
+use Rattle.stitch_round.specs.Ready.{Met}
 
 -- a start point that was read is held against the box
 pub near-of : (t : Tolerance) (end p : Point) (points : List Float) (i : ℕ) (r : Bool) → p ≡ pointAt points i → r ≡ inBox t end p → r ≡ inBox t end (pointAt points i)
@@ -69,3 +73,18 @@ module _ (p : ℕ → Bool) (s : Starts) (c : Choices) (n : ℕ) where
   meet-end any b j m h = let e : j ≡ n = omega (arith, m .upto) in record { any = rw e at (m .any); best = rw e at (m .best) }
 
 pub ruleset meeting = (meet-none, meet-skip, meet-more, meet-end)
+
+-- ---- what the selector answers among those that were met
+
+module _ (p : ℕ → Bool) (s : Starts) (selector current n : ℕ) (c : Choices) (seen : Seen) (e : c ≡ choicesOf selector s current) (m : Met p s c n seen) where
+  pub answer-none : not (seen .any) ≡ true → NoCandidate ≡ answerOf selector s current (passing p n)
+  unfolding answerOf
+  answer-none h = rw (sym (m .any) ∙ not-true (seen .any) h)
+
+  pub answer-asked : (z : Selected) → not (seen .any) ≡ false → z ≡ chosenOf (seen .best) → Asked z ≡ answerOf selector s current (passing p n)
+  unfolding answerOf
+  answer-asked z h q =
+      rw (sym (m .any) ∙ not-false (seen .any) h)
+      (ap (λ (y : Selected). Asked y) (select.scan-select selector s current c (passing p n) z e (select.scan-end c s (passing p n) (seen .best) z (m .best) q)))
+
+pub ruleset answering = (answer-none, answer-asked)

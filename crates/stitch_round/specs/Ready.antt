@@ -1,6 +1,6 @@
 -- What a caller has shown, and what the functions leave: one record for each contract.
 use Prim.Native.Nat.{ℕ, _+_, _*_, _≤_, _<_}
-use mathlib.Core.Bool.{Bool, true, false, cond, _&&_}
+use mathlib.Core.Bool.{Bool, cond}
 use lib.Dec.{eqb, ltb}
 use mathlib.Core.Path.{_≡_}
 use mathlib.Core.List.{List, [], _∷_}
@@ -8,12 +8,10 @@ use lib.ListN.{length}
 use lib.Ieee.{Float}
 use Rattle.outline.specs.Outline.{pointAt}
 use Rattle.basis.specs.Sizes.{mostSlices}
-use Rattle.basis.specs.declared.number.Tolerance.{Tolerance}
-use Rattle.outline.specs.declared.point.Point.{Point}
 use Rattle.outline.specs.declared.point.Vertex.{Vertex}
-use Rattle.outline.specs.Points.{inBox}
 use Rattle.view.specs.View.{Fit}
 use Rattle.select.specs.declared.class.Starts.{Starts}
+use Rattle.select.specs.declared.best.Selected.the-variants.{Slice, NoSlice}
 use Rattle.select.specs.declared.table.Choices.{Choices}
 use Rattle.select.specs.Select.{Scanned}
 use Rattle.stitch_vertices.specs.Held.{chainOf, Grown}
@@ -21,7 +19,13 @@ use Rattle.stitch_run.specs.declared.plan.Plan.{Plan}
 use Rattle.stitch_round.specs.declared.scan.Seen.{Seen}
 use Rattle.stitch_round.specs.declared.step.Step.{Step}
 use Rattle.stitch_round.specs.declared.step.Step.the-variants.{Onto, Ends}
-use Rattle.stitch_run.specs.Run.{Next, onto, ends, closed, tooSmall, Underway, passing, free, nextOf}
+use Rattle.stitch_links.specs.declared.layout.Layout.{Layout}
+use Rattle.stitch_links.specs.Ready.{There, Marked, ScanFit}
+use Rattle.stitch_links.specs.Hung.{Hung}
+use Rattle.stitch_answer.specs.declared.answer.Answer.{Answer}
+use Rattle.stitch_answer.specs.declared.answer.Answer.the-variants.{NoCandidate, Asked}
+use Rattle.stitch_answer.specs.Answer.{hasAny}
+use Rattle.stitch_run.specs.Run.{Next, onto, ends, closed, tooSmall, noCandidate, noSelection, Underway, passing, nextOf}
 use Rattle.stitch_run.specs.Stitch.{Given, given, sliceOutline, sliceCount, startPoint, addSlice, rulesOf, howOf}
 use Rattle.slice.specs.Slice.{codeWidth, shapeWidth, sliceView, sliceOffset}
 
@@ -60,28 +64,13 @@ pub record Points (g : Given) (points : List Float) : Type 0 where
 
 -- ---- the scan
 
-pub record MarkThere (visited : List Bool) (j : ℕ) : Type 0 where
-  pub inside : j < length visited
-
-pub record PointThere (points : List Float) (j : ℕ) : Type 0 where
-  pub inside : 2 * j + 1 < length points
-
 pub record BothThere (points : List Float) (visited : List Bool) (j : ℕ) : Type 0 where
-  pub point : PointThere points j
-  pub mark : MarkThere visited j
+  pub point : There points j
+  pub mark : Marked visited j
 
-pub record ScanFit (points : List Float) (visited : List Bool) (n : ℕ) : Type 0 where
-  pub size : 2 * n ≤ length points
-  pub marks : length visited ≡ n
-  pub few : n ≤ mostSlices
-
--- slice j is a candidate of the end
-abbrev pub nearEnd : List Float → List Bool → ℕ → Point → Tolerance → ℕ → Bool
-nearEnd points visited first end t j = free visited first j && inBox t end (pointAt points (2 * j))
-
-abbrev pub hasAny : List ℕ → Bool
-hasAny [] = false
-hasAny (j ∷ l) = true
+pub record Scannable (points : List Float) (visited : List Bool) (p : Plan) : Type 0 where
+  pub scan : ScanFit points visited (p .slices)
+  pub selectors : p .selector < 2
 
 -- the numbers below n that pass were met: whether there was any, and of each choice the first that suits
 pub record Met (p : ℕ → Bool) (s : Starts) (c : Choices) (n : ℕ) (r : Seen) : Type 0 where
@@ -99,8 +88,15 @@ toldOf (ends e) = Ends (howOf e)
 unfoldable pub stepOf : ℕ → ℕ → ℕ → Step
 stepOf n first j = cond (eqb j first) (cond (ltb n 3) (Ends (howOf tooSmall)) (Ends (howOf closed))) (Onto j)
 
-pub record RoundFit (points : List Float) (visited : List Bool) (room : List Float) (n : ℕ) (p : Plan) : Type 0 where
+-- what the selector answered, for a chain of n vertices
+abbrev pub comesTo : ℕ → ℕ → Answer → Step
+comesTo n first NoCandidate = Ends (howOf noCandidate)
+comesTo n first (Asked (Slice j)) = stepOf n first j
+comesTo n first (Asked NoSlice) = Ends (howOf noSelection)
+
+pub record RoundFit (points : List Float) (visited : List Bool) (link : List ℕ) (w : Layout) (room : List Float) (n first : ℕ) (p : Plan) : Type 0 where
   pub scan : ScanFit points visited (p .slices)
+  pub hung : Hung points visited first w link (p .slices) (p .starts)
   pub some : 0 < n
   pub fits : 3 * n ≤ length room
   pub selectors : p .selector < 2
@@ -109,7 +105,8 @@ pub record RoundFit (points : List Float) (visited : List Bool) (room : List Flo
 abbrev pub standing : ℕ → ℕ → List Vertex → List Bool → Underway (List Vertex)
 standing first current vs visited = record { first = first; current = current; built = vs; visited = visited; past = [] }
 
--- the round of the definition, for whichever slices have these start points
-pub record Rounded (points : List Float) (visited : List Bool) (room : List Float) (n first current : ℕ) (p : Plan) (r : Step) : Type 0 where
+-- the round of the definition, for whichever slices have these start points; and the lists are as good as they were
+pub record Rounded (points : List Float) (visited : List Bool) (link : List ℕ) (w : Layout) (room : List Float) (n first current : ℕ) (p : Plan) (r : Step) : Type 0 where
   pub is : (o1 o2 : List Float) (at : List ℕ) (numbers : List Float) → Points (given o1 o2 at numbers p) points
       → r ≡ toldOf (nextOf (rulesOf (given o1 o2 at numbers p)) (standing first current (chainOf room n) visited))
+  pub hung : Hung points visited first w link (p .slices) (p .starts)

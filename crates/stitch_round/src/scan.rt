@@ -5,7 +5,9 @@ ghost use Prim.Native.Nat.{_*_};
 ghost use Rattle.outline.specs.Outline.{pointAt};
 ghost use Rattle.outline.specs.Points.{inBox};
 ghost use Rattle.stitch_run.specs.Run.{free};
-ghost use Rattle.stitch_round.specs.Ready.{nearEnd, PointThere, MarkThere, BothThere, ScanFit, Met};
+ghost use Rattle.stitch_links.specs.Ready.{There, ScanFit};
+ghost use Rattle.stitch_answer.specs.Answer.{nearEnd, answerAt};
+ghost use Rattle.stitch_round.specs.Ready.{BothThere, Scannable, Met};
 use basis::number::Tolerance;
 use outline::point;
 use outline::point::Point;
@@ -14,20 +16,16 @@ use select::best;
 use select::best::Best;
 use select::class;
 use select::class::Starts;
+use select::table;
 use select::table::Choices;
+use stitch_answer::answer::Answer;
+use stitch_links::look;
+use stitch_run::plan::Plan;
 
 // What a scan has met: whether any candidate, and of each choice the first that suits.
-pub(crate) struct Seen {
-    pub any: bool,
-    pub best: Best,
-}
-
-// Unvisited or the chain's first slice.
-fn is_free(visited: &[bool], first: usize, j: usize) -> bool
-    requires { ⌜ MarkThere (now visited) j ⌝ }
-    ensures { λ r. ⌜ r ≡ free (now (visited .entry)) first j ⌝ }
-{
-    !visited[j] || j == first
+struct Seen {
+    any: bool,
+    best: Best,
 }
 
 // A start point joins an end: it is in the closed box around it.
@@ -39,7 +37,7 @@ fn joins(start: Point, end: Point, t: Tolerance) -> bool
 
 // The start point of slice j joins the end.
 fn is_near(points: &[f64], end: Point, t: Tolerance, j: usize) -> bool
-    requires { ⌜ PointThere (now points) j ⌝ }
+    requires { ⌜ There (now points) j ⌝ }
     ensures { λ r. ⌜ r ≡ inBox t end (pointAt (now (points .entry)) (2 * j)) ⌝ }
 {
     joins(read::point_at(points, 2 * j), end, t)
@@ -57,11 +55,11 @@ fn is_candidate(
     requires { ⌜ BothThere (now points) (now visited) j ⌝ }
     ensures { λ r. ⌜ r ≡ (free (now (visited .entry)) first j && inBox t end (pointAt (now (points .entry)) (2 * j))) ⌝ }
 {
-    is_free(visited, first, j) && is_near(points, end, t, j)
+    look::is_free(visited, first, j) && is_near(points, end, t, j)
 }
 
 // The candidates of an end, in ascending number.
-pub(crate) fn scan(
+fn scan(
     points: &[f64],
     visited: &[bool],
     first: usize,
@@ -88,4 +86,25 @@ pub(crate) fn scan(
         j += 1;
     }
     Seen { any, best }
+}
+
+// What the selector answers among them, after the slice that was joined last.
+pub(crate) fn answer_of(
+    points: &[f64],
+    visited: &[bool],
+    end: Point,
+    first: usize,
+    current: usize,
+    p: Plan,
+) -> Answer
+    requires { ⌜ Scannable (now points) (now visited) p ⌝ }
+    ensures { λ r. ⌜ r ≡ answerAt (now (points .entry)) (now (visited .entry)) first current end p ⌝ }
+{
+    let choices = table::choices_of(p.selector, p.starts, current);
+    let t = p.tolerance;
+    let seen = scan(points, visited, first, end, t, p.starts, choices, p.slices);
+    if !seen.any {
+        return Answer::NoCandidate;
+    }
+    Answer::Asked(best::chosen(seen.best))
 }

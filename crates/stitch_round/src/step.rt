@@ -3,15 +3,15 @@ ghost use mathlib.Core.Path.{_≡_};
 ghost use Prim.Native.Nat.{_-_};
 ghost use Rattle.outline.specs.Points.{posOf};
 ghost use Rattle.outline.specs.Outline.{vertexAt};
-ghost use Rattle.select.specs.Select.{choicesOf};
-ghost use Rattle.stitch_round.specs.Ready.{nearEnd, Met, stepOf, RoundFit, Rounded};
+ghost use Rattle.stitch_answer.specs.Answer.{Answered};
+ghost use Rattle.stitch_round.specs.Ready.{stepOf, comesTo, RoundFit, Rounded};
 use crate::scan;
-use crate::scan::Seen;
 use outline::point;
 use outline::read;
-use select::best;
 use select::best::Selected;
-use select::table;
+use stitch_answer::answer;
+use stitch_answer::answer::Answer;
+use stitch_links::layout::Layout;
 use stitch_run::plan::Plan;
 
 // How a chain ended.
@@ -42,54 +42,57 @@ fn taken(n: usize, first: usize, j: usize) -> Step
     Step::Ends(CLOSED)
 }
 
-// The candidates of the last vertex of a chain of n vertices, for the choices of the slice that was joined last.
+// No candidate, or no slice selected, discards the chain.
+fn step_of(n: usize, first: usize, answer: Answer) -> Step
+    ensures { λ r. ⌜ r ≡ comesTo n first answer ⌝ }
+{
+    let Answer::Asked(selected) = answer else {
+        return Step::Ends(NO_CANDIDATE);
+    };
+    let Selected::Slice(j) = selected else {
+        return Step::Ends(NO_SELECTION);
+    };
+    taken(n, first, j)
+}
+
+// What the selector answers for the last vertex of a chain of n vertices: by lists of cells, or by a scan where the slices hang on no lists.
 fn look(
     points: &[f64],
     visited: &[bool],
+    link: &mut [usize],
+    layout: Layout,
     room: &[f64],
     n: usize,
     first: usize,
     current: usize,
     p: Plan,
-) -> Seen
-    requires { ⌜ RoundFit (now points) (now visited) (now room) n p ⌝ }
-    ensures { λ r. ⌜ Met (nearEnd (now (points .entry)) (now (visited .entry)) first (posOf (vertexAt (now (room .entry)) (n - 1))) (p .tolerance)) (p .starts) (choicesOf (p .selector) (p .starts) current) (p .slices) r ⌝ }
+) -> Answer
+    requires { ⌜ RoundFit (now points) (now visited) (now link) layout (now room) n first p ⌝ }
+    ensures { λ r. ⌜ Answered (now (points .entry)) (now (visited .entry)) (now (link .exit)) layout first current (posOf (vertexAt (now (room .entry)) (n - 1))) p r ⌝ }
 {
     let last = read::vertex_at(room, n - 1);
     let end = point::pos(last);
-    let choices = table::choices_of(p.selector, p.starts, current);
-    scan::scan(
-        points,
-        visited,
-        first,
-        end,
-        p.tolerance,
-        p.starts,
-        choices,
-        p.slices,
-    )
+    if layout.lists == 0 {
+        return scan::answer_of(points, visited, end, first, current, p);
+    }
+    answer::answer_of(points, visited, link, layout, end, first, current, p)
 }
 
-// What the round comes to. No candidate, or no slice selected, discards the chain.
+// What the round comes to.
 pub fn next_of(
     points: &[f64],
     visited: &[bool],
+    link: &mut [usize],
+    layout: Layout,
     room: &[f64],
     n: usize,
     first: usize,
     current: usize,
     p: Plan,
 ) -> Step
-    requires { ⌜ RoundFit (now points) (now visited) (now room) n p ⌝ }
-    ensures { λ r. ⌜ Rounded (now (points .entry)) (now (visited .entry)) (now (room .entry)) n first current p r ⌝ }
+    requires { ⌜ RoundFit (now points) (now visited) (now link) layout (now room) n first p ⌝ }
+    ensures { λ r. ⌜ Rounded (now (points .entry)) (now (visited .entry)) (now (link .exit)) layout (now (room .entry)) n first current p r ⌝ }
 {
-    let seen = look(points, visited, room, n, first, current, p);
-    if !seen.any {
-        return Step::Ends(NO_CANDIDATE);
-    }
-    let answer = best::chosen(seen.best);
-    let Selected::Slice(j) = answer else {
-        return Step::Ends(NO_SELECTION);
-    };
-    taken(n, first, j)
+    let answer = look(points, visited, link, layout, room, n, first, current, p);
+    step_of(n, first, answer)
 }

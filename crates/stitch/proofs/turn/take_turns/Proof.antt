@@ -7,19 +7,19 @@ use Rattle.stitch.proofs.turn.take_turns.Statement.{statement}
 use Rattle.stitch.proofs.turn.take_turns.Tie as tie
 
 abbrev Inv-loop : tie.InvT-loop
-Inv-loop visited₀ room₀ ends₀ chain₀ chain-ends₀ chain-how₀ outline1 outline2 slice-at slice points p w₀ i₀ visited room ends chain chain-ends chain-how w i = Turning (given outline1 outline2 slice-at slice p) points (lists room₀ ends₀ chain₀ chain-ends₀ chain-how₀) w visited (lists room ends chain chain-ends chain-how) i
+Inv-loop visited₀ link₀ room₀ ends₀ chain₀ chain-ends₀ chain-how₀ outline1 outline2 slice-at slice points layout p w₀ i₀ visited link room ends chain chain-ends chain-how w i = Turning (given outline1 outline2 slice-at slice p) points layout link₀ (lists room₀ ends₀ chain₀ chain-ends₀ chain-how₀) w visited link (lists room ends chain chain-ends chain-how) i
 
 abbrev μ-loop : tie.MeasureT-loop
-μ-loop visited₀ room₀ ends₀ chain₀ chain-ends₀ chain-how₀ outline1 outline2 slice-at slice points p w₀ i₀ visited room ends chain chain-ends chain-how w i = p .slices - i
+μ-loop visited₀ link₀ room₀ ends₀ chain₀ chain-ends₀ chain-how₀ outline1 outline2 slice-at slice points layout p w₀ i₀ visited link room ends chain chain-ends chain-how w i = p .slices - i
 
 loop-holds : tie.Need-loop-holds Inv-loop μ-loop
 loop-holds c = search (needs, turning)
 
 take-turn-requires : tie.Need-take-turn-requires Inv-loop μ-loop
 take-turn-requires c κs =
-    let within = c .before .before .before .before .before .before in
+    let within = c .before .before .before .before .before .before .before in
     let turn = within .before .before in
-    turns-turn _ _ _ _ _ _ _ (turn .loop .inv) (within .if1 .taken)
+    turns-turn _ _ _ _ _ _ _ _ _ _ (turn .loop .inv) (within .if1 .taken)
 
 add-i : tie.Need-add-i Inv-loop μ-loop
 add-i c = search needs
@@ -48,6 +48,9 @@ same-length-5 c = search needs
 same-length-6 : tie.Need-same-length-6 Inv-loop μ-loop
 same-length-6 c = search needs
 
+same-length-7 : tie.Need-same-length-7 Inv-loop μ-loop
+same-length-7 c = search needs
+
 returns : tie.Need-returns Inv-loop μ-loop
 returns c = search (needs, turning)
 
@@ -68,4 +71,5 @@ take-turns-spec =
     same-length-4
     same-length-5
     same-length-6
+    same-length-7
     returns)

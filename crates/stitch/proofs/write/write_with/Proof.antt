@@ -6,43 +6,45 @@ use Rattle.stitch.proofs.write.write_with.Tie as tie
 fill-points-requires : tie.Need-fill-points-requires
 fill-points-requires c κs = search needs
 
+hang-requires : tie.Need-hang-requires
+hang-requires c κs = search needs
+
 take-turns-requires : tie.Need-take-turns-requires
 take-turns-requires c κs =
-    let filled = c .before .before .before .before .before .before .before .before .before in
-    let lent = filled .before .before .before .before .before .before in
-    let entry = lent .before .before .before .before .before .before .before in
-    begin-turns _ _ (entry .pre .fit) _ _ _ (entry .pre) (filled .fill-points .ensures)
+    let hung = c .before .before .before .before .before .before .before .before .before .before in
+    let filled = hung .before .before .before .before .before in
+    let entry = filled .before .before .before .before .before .before .before .before .before .before .before .before .before .before in
+    begin-turns _ _ _ _ _ _ _ _ _ _ _ _ _ (entry .pre) (filled .fill-points .ensures) (hung .hang .ensures)
 
 room-need-requires : tie.Need-room-need-requires
 room-need-requires c κs =
-    let turned = c .before .before .before .before .before .before .before .before .before .before .before .before .before in
-    let filled = turned .before .before .before .before .before .before .before .before .before in
-    let lent = filled .before .before .before .before .before .before in
-    let entry = lent .before .before .before .before .before .before .before in
+    let turned = c .before .before .before .before .before .before .before .before .before .before .before .before .before .before in
+    let hung = turned .before .before .before .before .before .before .before .before .before .before .before in
+    let entry = hung .before .before .before .before .before .before .before .before .before .before .before .before .before .before .before .before .before .before .before in
     need-fit _ _ (entry .pre .fit)
 
 clear-rest-requires : tie.Need-clear-rest-requires
 clear-rest-requires c κs =
     let needed = c .before .before .before .before .before in
-    let turned = needed .before .before .before .before .before .before .before .before .before .before .before .before .before in
-    let filled = turned .before .before .before .before .before .before .before .before .before .before in
-    let lent = filled .before .before .before .before .before .before in
-    let entry = lent .before .before .before .before .before .before .before in
+    let turned = needed .before .before .before .before .before .before .before .before .before .before .before .before .before .before .before in
+    let hung = turned .before .before .before .before .before .before .before .before .before .before .before in
+    let entry = hung .before .before .before .before .before .before .before .before .before .before .before .before .before .before .before .before .before .before .before in
     rest-fit _ _ _ _ _ (entry .pre .fit) (turned .take-turns .ensures) (needed .room-need .ensures)
 
 same-length : tie.Need-same-length
 same-length c =
-    let cleared = c .before .before .before .before .before .before .before .before .before .before in
-    let needed = cleared .before .before .before .before .before .before in
-    let turned = needed .before .before .before .before .before .before .before .before .before .before .before .before .before in
-    let filled = turned .before .before .before .before .before .before .before .before .before in
+    let turned = c .before .before .before .before .before .before .before .before .before .before .before .before .before .before .before .before .before .before .before .before .before .before .before .before .before .before .before .before .before .before .before in
+    let filled = turned .before .before .before .before .before .before .before .before .before .before .before .before .before .before .before in
     search (needs, filled .points)
 
 same-length-2 : tie.Need-same-length-2
 same-length-2 c = search needs
 
 same-length-3 : tie.Need-same-length-3
-same-length-3 c = search needs
+same-length-3 c =
+    let marked = c .before .before .before .before .before .before .before .before .before .before .before .before .before .before .before .before .before .before .before .before .before .before .before .before .before .before .before .before in
+    let hung = marked .before .before .before .before .before .before .before .before .before .before .before .before .before in
+    search (needs, marked .link2, hung .link)
 
 same-length-4 : tie.Need-same-length-4
 same-length-4 c = search needs
@@ -56,11 +58,14 @@ same-length-6 c = search needs
 same-length-7 : tie.Need-same-length-7
 same-length-7 c = search needs
 
+same-length-8 : tie.Need-same-length-8
+same-length-8 c = search needs
+
 returns : tie.Need-returns
 returns c =
     let cleared = c .before .before .before .before .before .before .before .before .before .before in
     let needed = cleared .before .before .before .before .before .before in
-    let turned = needed .before .before .before .before .before .before .before .before .before .before .before .before .before in
+    let turned = needed .before .before .before .before .before .before .before .before .before .before .before .before .before .before .before in
     written-of _ _ _ _ _ _ (turned .take-turns .ensures) (needed .room-need .ensures) (cleared .clear-rest .ensures)
 
 pub write-with-spec : {M : Type 1} → statement M
@@ -68,6 +73,7 @@ write-with-spec =
     tie.close
     (tie.spec
     fill-points-requires
+    hang-requires
     take-turns-requires
     room-need-requires
     clear-rest-requires
@@ -78,4 +84,5 @@ write-with-spec =
     same-length-5
     same-length-6
     same-length-7
+    same-length-8
     returns)

@@ -1,6 +1,6 @@
 use borrow.Author.Needs.{needs}
 use Prim.Native.Nat.{_-_}
-use Rattle.stitch_round.specs.Ready.{nearEnd}
+use Rattle.stitch_answer.specs.Answer.{nearEnd}
 use Rattle.stitch_round.proofs.Scanning.{Meeting, meeting}
 use Rattle.stitch_round.proofs.scan.scan.Statement.{statement}
 use Rattle.stitch_round.proofs.scan.scan.Tie as tie

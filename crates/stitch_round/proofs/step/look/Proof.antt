@@ -12,14 +12,20 @@ vertex-at-requires c κs = search needs
 pos-requires : tie.Need-pos-requires
 pos-requires c κs = search needs
 
-choices-of-requires : tie.Need-choices-of-requires
-choices-of-requires c κs = search needs
-
-scan-requires : tie.Need-scan-requires
-scan-requires c κs = search needs
+answer-of-requires : tie.Need-answer-of-requires
+answer-of-requires c κs = search needs
 
 returns : tie.Need-returns
 returns c = search (needs, rounding)
+
+answer-of-requires-2 : tie.Need-answer-of-requires-2
+answer-of-requires-2 c κs = search (needs, rounding)
+
+same-length : tie.Need-same-length
+same-length c = search needs
+
+returns-2 : tie.Need-returns-2
+returns-2 c = search (needs, rounding)
 
 pub look-spec : {M : Type 1} → statement M
 look-spec =
@@ -28,6 +34,8 @@ look-spec =
     sub-vertex-at
     vertex-at-requires
     pos-requires
-    choices-of-requires
-    scan-requires
-    returns)
+    answer-of-requires
+    returns
+    answer-of-requires-2
+    same-length
+    returns-2)

@@ -1,8 +1,8 @@
 use Rattle.basis.specs.Choice.{cases}
 use Rattle.stitch_run.specs.Run.{free}
 use borrow.Author.Needs.{needs}
-use Rattle.stitch_round.proofs.scan.is_free.Statement.{statement}
-use Rattle.stitch_round.proofs.scan.is_free.Tie as tie
+use Rattle.stitch_links.proofs.look.is_free.Statement.{statement}
+use Rattle.stitch_links.proofs.look.is_free.Tie as tie
 
 shared-slice-read-if1 : tie.Need-shared-slice-read-if1
 shared-slice-read-if1 c = search needs

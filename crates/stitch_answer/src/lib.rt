@@ -1,0 +1,2 @@
+// What the selector answers for an end, by lists of cells.
+pub mod answer;

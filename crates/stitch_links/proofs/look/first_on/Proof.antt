@@ -1,0 +1,104 @@
+use native.Mathlib.Omega.{arith}
+use Rattle.basis.specs.Choice.{told-yes, told-no, told-not-yes, told-not-no}
+use Prim.Native.Nat.{_-_}
+use Rattle.stitch_links.specs.LoopLaws.{Seeking, seeking-none, onward, seeking-skip, seeking-on, seeking-found, seeking-end, there}
+use borrow.Author.Needs.{needs}
+use Rattle.stitch_links.proofs.look.first_on.Statement.{statement}
+use Rattle.stitch_links.proofs.look.first_on.Tie as tie
+
+abbrev Inv-loop : tie.InvT-loop
+Inv-loop points visited link₀ w q h lists end at₀ next₀ link at next = Seeking points visited w q link₀ h lists end link at next
+
+abbrev μ-loop : tie.MeasureT-loop
+μ-loop points visited link₀ w q h lists end at₀ next₀ link at next = end - next
+
+add-end : tie.Need-add-end Inv-loop μ-loop
+add-end c = search needs
+
+mul-next : tie.Need-mul-next Inv-loop μ-loop
+mul-next c = search needs
+
+slice-read-next : tie.Need-slice-read-next Inv-loop μ-loop
+slice-read-next c = search needs
+
+loop-holds : tie.Need-loop-holds Inv-loop μ-loop
+loop-holds c = seeking-none _ _ _ _ _ _ (c .before .before .before .before .before .pre)
+
+sub-j : tie.Need-sub-j Inv-loop μ-loop
+sub-j c = omega (arith, (onward _ _ _ _ _ _ _ _ _ _ _ (c .before .loop .inv) (c .loop-test .taken)) .under)
+
+is-free-requires : tie.Need-is-free-requires Inv-loop μ-loop
+is-free-requires c κs = record { inside = omega (arith, (onward _ _ _ _ _ _ _ _ _ _ _ (c .before .loop .inv) (c .loop-test .taken)) .slice, (c .before .loop .inv) .marks) }
+
+mul-past : tie.Need-mul-past Inv-loop μ-loop
+mul-past c = search needs
+
+slice-read-past : tie.Need-slice-read-past Inv-loop μ-loop
+slice-read-past c = search needs
+
+mul-link : tie.Need-mul-link Inv-loop μ-loop
+mul-link c = search needs
+
+slice-write-link : tie.Need-slice-write-link Inv-loop μ-loop
+slice-write-link c = search needs
+
+loop-less : tie.Need-loop-less Inv-loop μ-loop
+loop-less c = omega (arith, (onward _ _ _ _ _ _ _ _ _ _ _ (c .before .before .before .before .loop .inv) (c .before .before .before .loop-test .taken)) .higher)
+
+loop-again : tie.Need-loop-again Inv-loop μ-loop
+loop-again c = seeking-skip _ _ _ _ _ _ _ _ _ _ _ (c .before .before .before .before .loop .inv) (c .before .before .before .loop-test .taken) (told-not-yes _ _ (c .before .before .is-free .ensures) (c .before .if1 .taken))
+
+meets-requires : tie.Need-meets-requires Inv-loop μ-loop
+meets-requires c κs = there _ _ _ (c .before .before .before .loop .inv .fit) ((onward _ _ _ _ _ _ _ _ _ _ _ (c .before .before .before .loop .inv) (c .before .before .loop-test .taken)) .slice)
+
+same-length : tie.Need-same-length Inv-loop μ-loop
+same-length c = search needs
+
+returns : tie.Need-returns Inv-loop μ-loop
+returns c = seeking-found _ _ _ _ _ _ _ _ _ _ _ (c .before .before .before .before .before .loop .inv) (c .before .before .before .before .loop-test .taken) (told-not-no _ _ (c .before .before .before .is-free .ensures) (c .before .before .if1 .left)) (told-yes _ _ (c .before .meets .ensures) (c .if2 .taken))
+
+mul-next-2 : tie.Need-mul-next-2 Inv-loop μ-loop
+mul-next-2 c = search needs
+
+slice-read-next-2 : tie.Need-slice-read-next-2 Inv-loop μ-loop
+slice-read-next-2 c = search needs
+
+loop-less-2 : tie.Need-loop-less-2 Inv-loop μ-loop
+loop-less-2 c = omega (arith, (onward _ _ _ _ _ _ _ _ _ _ _ (c .before .before .before .before .before .before .loop .inv) (c .before .before .before .before .before .loop-test .taken)) .higher)
+
+loop-again-2 : tie.Need-loop-again-2 Inv-loop μ-loop
+loop-again-2 c = seeking-on _ _ _ _ _ _ _ _ _ _ _ (c .before .before .before .before .before .before .loop .inv) (c .before .before .before .before .before .loop-test .taken) (told-no _ _ (c .before .before .meets .ensures) (c .before .if2 .left))
+
+same-length-2 : tie.Need-same-length-2 Inv-loop μ-loop
+same-length-2 c = search needs
+
+returns-2 : tie.Need-returns-2 Inv-loop μ-loop
+returns-2 c = seeking-end _ _ _ _ _ _ _ _ _ _ _ (c .before .loop .inv) (c .loop-test .left)
+
+pub first-on-spec : {M : Type 1} → statement M
+first-on-spec =
+    tie.close
+    (tie.spec
+    Inv-loop
+    μ-loop
+    add-end
+    mul-next
+    slice-read-next
+    loop-holds
+    sub-j
+    is-free-requires
+    mul-past
+    slice-read-past
+    mul-link
+    slice-write-link
+    loop-less
+    loop-again
+    meets-requires
+    same-length
+    returns
+    mul-next-2
+    slice-read-next-2
+    loop-less-2
+    loop-again-2
+    same-length-2
+    returns-2)

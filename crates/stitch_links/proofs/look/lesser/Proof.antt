@@ -1,0 +1,16 @@
+use Rattle.basis.specs.Choice.{cases}
+use Rattle.stitch_links.specs.Slices.{lesserOf}
+use borrow.Author.Needs.{needs}
+use Rattle.stitch_links.proofs.look.lesser.Statement.{statement}
+use Rattle.stitch_links.proofs.look.lesser.Tie as tie
+
+returns : tie.Need-returns
+unfolding lesserOf
+returns c = search (needs, cases)
+
+returns-2 : tie.Need-returns-2
+unfolding lesserOf
+returns-2 c = search (needs, cases)
+
+pub lesser-spec : {M : Type 1} → statement M
+lesser-spec = tie.close (tie.spec returns returns-2)
