@@ -1,17 +1,20 @@
 -- Laws of the loop that lists the kept loops; and what is true of the list.
-use Prim.Native.Nat.{ℕ, zero, suc, _+_, _≤_, _<_, zero-le}
+use Prim.Native.Nat.{ℕ, zero, suc, _+_, _*_, _≤_, _<_, zero-le}
 use mathlib.Core.Bool.{Bool, true, false, not, cond}
-use mathlib.Core.Path.{_≡_, refl, sym, ap, _∙_}
+use mathlib.Core.Path.{_≡_, refl, ap, _∙_}
 use mathlib.Core.List.{List, [], _∷_, _++_, append-nil}
 use native.Mathlib.Numerals.{add-one}
 use native.Mathlib.Omega.{arith}
-use lib.ListN.{length, getD, set, drop, length-append, length-set}
-use lib.Seq.{set-at, drop-cons, append-snoc}
+use lib.ListN.{length, getD, set, take, drop, length-append, length-set}
+use lib.Seq.{take-suc-set, take-set-le, drop-set-lt}
 use lib.Ieee.{Float, nan, lt}
+use mir.Syntax.{w64}
+use mir.Val.{Fits}
+use Rattle.basis.specs.Choice.{codeOf, by-test}
 use Rattle.basis.specs.Number.{ownAbs}
 use Rattle.basis.specs.NumberLaws.{abs-lt}
-use Rattle.basis.specs.Room.{cleared}
-use Rattle.basis.specs.RoomLaws.{room-left}
+use Rattle.basis.specs.Room.{roomOf, cleared}
+use Rattle.basis.specs.Sizes.{mostSlices}
 use Rattle.area.specs.Area.{isKept, keptTo, keptOf, Kept}
 
 -- what code with a test for the sign finds
@@ -45,42 +48,66 @@ pub record Listing (areas : List Float) (limit : Float) (entry : List ℕ) (kept
   pub ahead : i ≤ length areas
   pub few : n ≤ i
   pub counted : n ≡ length (keptTo areas limit i)
-  pub list : kept ≡ keptTo areas limit i ++ drop n entry
+  pub front : take n kept ≡ keptTo areas limit i
+  pub beyond : drop (length areas) kept ≡ drop (length areas) entry
   pub size : length kept ≡ length entry
 
 module _ (areas : List Float) (limit : Float) (entry : List ℕ) where
   pub list-none : Listing areas limit entry entry 0 0
   unfolding keptTo
-  list-none = record { ahead = zero-le; few = zero-le; counted = refl; list = refl; size = refl }
+  list-none = record { ahead = zero-le; few = zero-le; counted = refl; front = refl; beyond = refl; size = refl }
 
-  pub list-no : (kept : List ℕ) (n i : ℕ) → Listing areas limit entry kept n i → i < length areas → isKept limit (getD areas i nan) ≡ false
-      → Listing areas limit entry kept n (i + 1)
-  list-no kept n i l h e =
-      let f = kept-no areas limit i e in
-      record { ahead = omega arith; few = omega arith; counted = rw f (l .counted); list = rw f (l .list); size = l .size }
+  -- number i is written, and counts where its loop stays
+  pub list-more : (kept : List ℕ) (n i d : ℕ) → Listing areas limit entry kept n i → i < length areas → length areas ≤ length entry
+      → d ≡ codeOf (isKept limit (getD areas i nan)) → Listing areas limit entry (set kept n i) (n + d) (i + 1)
+  list-more kept n i d l h k e = by-test (isKept limit (getD areas i nan)) yes no
+    where
+      past : drop (length areas) (set kept n i) ≡ drop (length areas) entry
+      past = drop-set-lt (length areas) kept n i (omega (arith, l .few)) ∙ l .beyond
 
-  pub list-yes : (kept : List ℕ) (n i : ℕ) → Listing areas limit entry kept n i → i < length areas → length areas ≤ length entry
-      → isKept limit (getD areas i nan) ≡ true → Listing areas limit entry (set kept n i) (n + 1) (i + 1)
-  list-yes kept n i l h k e =
-      let f = kept-yes areas limit i e in
-      let d : drop n entry ≡ getD entry n 0 ∷ drop (suc n) entry = drop-cons entry n 0 (omega arith) in
-      record {
-        ahead = omega arith;
-        few = omega arith;
-        counted = rw (f, length-append) (omega arith);
-        list = rw (l .list, d, set-at (keptTo areas limit i) (getD entry n 0) (drop (suc n) entry) i n (sym (l .counted)), f, add-one)
-            (sym (append-snoc (keptTo areas limit i) i (drop (suc n) entry)));
-        size = rw length-set (l .size);
-      }
+      yes : isKept limit (getD areas i nan) ≡ true → Listing areas limit entry (set kept n i) (n + d) (i + 1)
+      yes t =
+          let f = kept-yes areas limit i t in
+          let g : d ≡ 1 = rw t at e in
+          let m : n + d ≡ suc n = omega arith in
+          rw m
+          (record {
+            ahead = omega arith;
+            few = omega (arith, l .few);
+            counted = rw (f, length-append) (omega (arith, l .counted));
+            front = rw f (take-suc-set kept n i (omega (arith, l .few, l .size)) ∙ ap (λ (x : List ℕ). x ++ (i ∷ [])) (l .front));
+            beyond = past;
+            size = rw length-set (l .size);
+          })
+
+      no : isKept limit (getD areas i nan) ≡ false → Listing areas limit entry (set kept n i) (n + d) (i + 1)
+      no t =
+          let f = kept-no areas limit i t in
+          let g : d ≡ 0 = rw t at e in
+          let m : n + d ≡ n = omega arith in
+          rw m
+          (record {
+            ahead = omega arith;
+            few = omega (arith, l .few);
+            counted = rw f (l .counted);
+            front = rw f (take-set-le n kept n i (omega arith) ∙ l .front);
+            beyond = past;
+            size = rw length-set (l .size);
+          })
+
+  pub list-fits : (kept : List ℕ) (n i d : ℕ) → Listing areas limit entry kept n i → i < length areas → length areas ≤ mostSlices
+      → d ≡ codeOf (isKept limit (getD areas i nan)) → Fits w64 (n + d)
+  list-fits kept n i d l h k e = by-test (isKept limit (getD areas i nan)) (λ t. let g : d ≡ 1 = rw t at e in record { fits = omega (arith, l .few) }) (λ t. let g : d ≡ 0 = rw t at e in record { fits = omega (arith, l .few) })
 
   -- after the last loop, and with the rest cleared
   pub list-end : (kept exit : List ℕ) (n i : ℕ) → Listing areas limit entry kept n i → length areas ≤ i → exit ≡ cleared 0 n (length areas) kept
       → Kept areas limit entry n exit
-  unfolding keptOf
+  unfolding keptOf cleared roomOf
   list-end kept exit n i l h e =
-      let z : i ≡ length areas = omega arith in
+      let z : i ≡ length areas = omega (arith, l .ahead) in
       let p : n ≡ length (keptTo areas limit (length areas)) = rw z at (l .counted) in
-      let q : kept ≡ keptTo areas limit (length areas) ++ drop n entry = rw z at (l .list) in
-      record { counted = p; list = room-left 0 1 (length areas) (keptTo areas limit (length areas)) entry kept exit n (length areas) e q p (omega arith) (omega arith) }
+      let q : take n kept ≡ keptTo areas limit (length areas) = rw z at (l .front) in
+      let w : 1 * length areas ≡ length areas = omega arith in
+      record { counted = p; list = e ∙ rw (q, w, l .beyond, ← p) }
 
-pub ruleset listing = (list-none, list-no, list-yes, list-end)
+pub ruleset listing = (list-none, list-more, list-fits, list-end)

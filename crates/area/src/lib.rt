@@ -1,5 +1,6 @@
 // Document 01, the area pass: one area per loop; the loops that stay, listed by number.
 ghost use mathlib.Core.Path.{_≡_};
+ghost use Rattle.basis.specs.Choice.{codeOf};
 ghost use Rattle.area.specs.Area.{isKept, Roomy, Kept};
 use basis::number;
 use basis::room;
@@ -12,7 +13,15 @@ fn is_kept(area: f64, limit: f64) -> bool
     !(size < limit)
 }
 
-// Writes the numbers of the loops that stay, in order, then 0 up to one entry per loop, and says how many there are.
+// 1 where a loop stays, 0 where it goes.
+fn count_of(area: f64, limit: f64) -> usize
+    ensures { λ r. ⌜ r ≡ codeOf (isKept limit area) ⌝ }
+{
+    if is_kept(area, limit) { 1 } else { 0 }
+}
+
+// Writes the numbers of the loops that stay, in order, then 0 up to one entry per loop, and says how many there are. Each number is written behind those that stay, and
+// the next goes over it where its loop does not; so nothing hangs on a guess of which loops stay.
 pub fn write_kept(areas: &[f64], limit: f64, kept: &mut [usize]) -> usize
     requires { ⌜ Roomy (now areas) (now kept) ⌝ }
     ensures { λ r. ⌜ Kept (now (areas .entry)) limit (now (kept .entry)) r (now (kept .exit)) ⌝ }
@@ -20,13 +29,9 @@ pub fn write_kept(areas: &[f64], limit: f64, kept: &mut [usize]) -> usize
     let mut n = 0;
     let mut i = 0;
     while i < areas.len() {
-        let k = i;
+        kept[n] = i;
+        n += count_of(areas[i], limit);
         i += 1;
-        if !is_kept(areas[k], limit) {
-            continue;
-        }
-        kept[n] = k;
-        n += 1;
     }
     room::clear_counts(kept, n, areas.len());
     n

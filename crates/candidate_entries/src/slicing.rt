@@ -142,7 +142,7 @@ fn found_with(
     walked(outline, cut_at, cut, splits, s, cand_at, cand, probe)
 }
 
-// The same by lists for 16 cuts, which cost little to set up; by lists for 64; and by lists for the most.
+// The same by lists for 8 cuts, which cost little to set up; by lists for 64; by lists for 256; and by lists for the most.
 fn found_small(
     outline: &[f64],
     hit_at: &[usize],
@@ -155,12 +155,12 @@ fn found_small(
     cand: &mut [f64],
     probe: &mut [f64],
 ) -> usize
-    requires { ⌜ Few 16 (given (now outline) (now «hit_at») (now hit) (now «lap_at») (now lap) s) (now splits) (rooms (now «cand_at») (now cand) (now probe)) ⌝ }
+    requires { ⌜ Few 8 (given (now outline) (now «hit_at») (now hit) (now «lap_at») (now lap) s) (now splits) (rooms (now «cand_at») (now cand) (now probe)) ⌝ }
     ensures { λ r. ⌜ Written (alongCuts (given (now (outline .entry)) (now («hit_at» .entry)) (now (hit .entry)) (now («lap_at» .entry)) (now (lap .entry)) s) (now (splits .entry))) (rooms (now («cand_at» .entry)) (now (cand .entry)) (now (probe .entry))) r (rooms (now («cand_at» .exit)) (now (cand .exit)) (now (probe .exit))) ⌝ }
 {
-    let mut order = [0usize; 16];
-    let mut cut_at = [0usize; 48];
-    let mut cut = [0.0f64; 32];
+    let mut order = [0usize; 8];
+    let mut cut_at = [0usize; 24];
+    let mut cut = [0.0f64; 16];
     found_with(
         outline,
         hit_at,
@@ -196,6 +196,41 @@ fn found_few(
     let mut order = [0usize; 64];
     let mut cut_at = [0usize; 192];
     let mut cut = [0.0f64; 128];
+    found_with(
+        outline,
+        hit_at,
+        hit,
+        lap_at,
+        lap,
+        splits,
+        s,
+        &mut order,
+        &mut cut_at,
+        &mut cut,
+        cand_at,
+        cand,
+        probe,
+    )
+}
+
+fn found_more(
+    outline: &[f64],
+    hit_at: &[usize],
+    hit: &[f64],
+    lap_at: &[usize],
+    lap: &[f64],
+    splits: &[f64],
+    s: Case,
+    cand_at: &mut [usize],
+    cand: &mut [f64],
+    probe: &mut [f64],
+) -> usize
+    requires { ⌜ Few 256 (given (now outline) (now «hit_at») (now hit) (now «lap_at») (now lap) s) (now splits) (rooms (now «cand_at») (now cand) (now probe)) ⌝ }
+    ensures { λ r. ⌜ Written (alongCuts (given (now (outline .entry)) (now («hit_at» .entry)) (now (hit .entry)) (now («lap_at» .entry)) (now (lap .entry)) s) (now (splits .entry))) (rooms (now («cand_at» .entry)) (now (cand .entry)) (now (probe .entry))) r (rooms (now («cand_at» .exit)) (now (cand .exit)) (now (probe .exit))) ⌝ }
+{
+    let mut order = [0usize; 256];
+    let mut cut_at = [0usize; 768];
+    let mut cut = [0.0f64; 512];
     found_with(
         outline,
         hit_at,
@@ -265,7 +300,7 @@ fn found(
     ensures { λ r. ⌜ Written (alongCuts (given (now (outline .entry)) (now («hit_at» .entry)) (now (hit .entry)) (now («lap_at» .entry)) (now (lap .entry)) s) (now (splits .entry))) (rooms (now («cand_at» .entry)) (now (cand .entry)) (now (probe .entry))) r (rooms (now («cand_at» .exit)) (now (cand .exit)) (now (probe .exit))) ⌝ }
 {
     let count = s.hits + 2 * s.laps;
-    if count <= 16 {
+    if count <= 8 {
         return found_small(
             outline,
             hit_at,
@@ -281,6 +316,20 @@ fn found(
     }
     if count <= 64 {
         return found_few(
+            outline,
+            hit_at,
+            hit,
+            lap_at,
+            lap,
+            splits,
+            s,
+            cand_at,
+            cand,
+            probe,
+        );
+    }
+    if count <= 256 {
+        return found_more(
             outline,
             hit_at,
             hit,

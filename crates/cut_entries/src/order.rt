@@ -60,7 +60,7 @@ fn refusal(
     room_refusal(s.hits + 2 * s.laps, numbers, points)
 }
 
-// The cuts of an accepted call, put in order by a list for 16 of them, which costs little to set up; by one for 64; and by one for the most.
+// The cuts of an accepted call, put in order by a list for 16 of them, which costs little to set up; by one for 64; by one for 256; and by one for the most.
 fn order_small(
     outline: &[f64],
     hit_at: &[usize],
@@ -102,6 +102,33 @@ fn order_few(
     ensures { λ _. ⌜ Written (given (now (outline .entry)) (now («hit_at» .entry)) (now (hit .entry)) (now («lap_at» .entry)) (now (lap .entry)) s) (now («cut_at» .entry)) (now (cut .entry)) (now («cut_at» .exit)) (now (cut .exit)) ⌝ }
 {
     let mut order = [0usize; 64];
+    write::write_order(
+        outline,
+        hit_at,
+        hit,
+        lap_at,
+        lap,
+        s,
+        &mut order,
+        cut_at,
+        cut,
+    );
+}
+
+fn order_more(
+    outline: &[f64],
+    hit_at: &[usize],
+    hit: &[f64],
+    lap_at: &[usize],
+    lap: &[f64],
+    s: Case,
+    cut_at: &mut [usize],
+    cut: &mut [f64],
+)
+    requires { ⌜ Few 256 (given (now outline) (now «hit_at») (now hit) (now «lap_at») (now lap) s) (now «cut_at») (now cut) ⌝ }
+    ensures { λ _. ⌜ Written (given (now (outline .entry)) (now («hit_at» .entry)) (now (hit .entry)) (now («lap_at» .entry)) (now (lap .entry)) s) (now («cut_at» .entry)) (now (cut .entry)) (now («cut_at» .exit)) (now (cut .exit)) ⌝ }
+{
+    let mut order = [0usize; 256];
     write::write_order(
         outline,
         hit_at,
@@ -163,6 +190,10 @@ fn order_cuts(
     }
     if count <= 64 {
         order_few(outline, hit_at, hit, lap_at, lap, s, cut_at, cut);
+        return count;
+    }
+    if count <= 256 {
+        order_more(outline, hit_at, hit, lap_at, lap, s, cut_at, cut);
         return count;
     }
     order_many(outline, hit_at, hit, lap_at, lap, s, cut_at, cut);

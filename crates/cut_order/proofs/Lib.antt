@@ -1,3 +1,2 @@
-pub mod Sorting
 pub mod Keying
 pub mod Writing

@@ -1,8 +1,7 @@
+use lib.ListN.{length}
+use Rattle.area.proofs.Listing.{Listing, listing}
 use borrow.Author.Needs.{needs}
 use Prim.Native.Nat.{_-_}
-use lib.ListN.{length}
-use Rattle.basis.specs.Choice.{cases}
-use Rattle.area.proofs.Listing.{Listing, listing}
 use Rattle.area.proofs.write_kept.Statement.{statement}
 use Rattle.area.proofs.write_kept.Tie as tie
 
@@ -15,38 +14,32 @@ abbrev μ-loop : tie.MeasureT-loop
 loop-holds : tie.Need-loop-holds Inv-loop μ-loop
 loop-holds c = search (needs, listing)
 
-add-i : tie.Need-add-i Inv-loop μ-loop
-add-i c = search needs
-
-mul-is-kept : tie.Need-mul-is-kept Inv-loop μ-loop
-mul-is-kept c = search needs
-
-shared-slice-read-is-kept : tie.Need-shared-slice-read-is-kept Inv-loop μ-loop
-shared-slice-read-is-kept c = search needs
-
-is-kept-requires : tie.Need-is-kept-requires Inv-loop μ-loop
-is-kept-requires c κs = search needs
-
-loop-less : tie.Need-loop-less Inv-loop μ-loop
-loop-less c = search needs
-
-loop-again : tie.Need-loop-again Inv-loop μ-loop
-loop-again c = search (needs, cases, listing)
-
 mul-kept : tie.Need-mul-kept Inv-loop μ-loop
 mul-kept c = search needs
 
 slice-write-kept : tie.Need-slice-write-kept Inv-loop μ-loop
 slice-write-kept c = search needs
 
+mul-count-of : tie.Need-mul-count-of Inv-loop μ-loop
+mul-count-of c = search needs
+
+shared-slice-read-count-of : tie.Need-shared-slice-read-count-of Inv-loop μ-loop
+shared-slice-read-count-of c = search needs
+
+count-of-requires : tie.Need-count-of-requires Inv-loop μ-loop
+count-of-requires c κs = search needs
+
 add-n : tie.Need-add-n Inv-loop μ-loop
-add-n c = search needs
+add-n c = search (needs, listing)
 
-loop-less-2 : tie.Need-loop-less-2 Inv-loop μ-loop
-loop-less-2 c = search needs
+add-i : tie.Need-add-i Inv-loop μ-loop
+add-i c = search needs
 
-loop-again-2 : tie.Need-loop-again-2 Inv-loop μ-loop
-loop-again-2 c = search (needs, cases, listing)
+loop-less : tie.Need-loop-less Inv-loop μ-loop
+loop-less c = search needs
+
+loop-again : tie.Need-loop-again Inv-loop μ-loop
+loop-again c = search (needs, listing)
 
 clear-counts-requires : tie.Need-clear-counts-requires Inv-loop μ-loop
 clear-counts-requires c κs = search needs
@@ -64,17 +57,15 @@ write-kept-spec =
     Inv-loop
     μ-loop
     loop-holds
-    add-i
-    mul-is-kept
-    shared-slice-read-is-kept
-    is-kept-requires
-    loop-less
-    loop-again
     mul-kept
     slice-write-kept
+    mul-count-of
+    shared-slice-read-count-of
+    count-of-requires
     add-n
-    loop-less-2
-    loop-again-2
+    add-i
+    loop-less
+    loop-again
     clear-counts-requires
     same-length
     returns)

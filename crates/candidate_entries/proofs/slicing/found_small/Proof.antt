@@ -16,7 +16,7 @@ slice-aggregate-found-with-3 : tie.Need-slice-aggregate-found-with-3
 slice-aggregate-found-with-3 c = search needs
 
 found-with-requires : tie.Need-found-with-requires
-found-with-requires c κs = few-lists _ _ _ _ _ _ 16 (search c) (length-replicate {A = ℕ} 16 0) (length-replicate {A = ℕ} 48 0) (length-replicate 32 +0)
+found-with-requires c κs = few-lists _ _ _ _ _ _ 8 (search c) (length-replicate {A = ℕ} 8 0) (length-replicate {A = ℕ} 24 0) (length-replicate 16 +0)
 
 same-length : tie.Need-same-length
 same-length c = search needs
