@@ -1,11 +1,8 @@
 // Replays the recorded answers of the original, data/vectors.bin, through the exported entries. oracle/RECORD.md says what stands in the file.
-mod bits;
 mod case;
-mod lists;
-mod starts;
 mod tally;
-mod views;
-mod words;
+
+use vectors_words::bits;
 
 // Reads so many bytes into a list that is as long: yes where they were all there.
 fn filled(fd: i32, buf: &mut [u8]) -> bool {

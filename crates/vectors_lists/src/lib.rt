@@ -1,0 +1,2 @@
+// Recorded calls of the entries that write lists, replayed.
+pub mod lists;

@@ -1,0 +1,3 @@
+// Recorded calls of the entries over views, replayed.
+pub mod starts;
+pub mod views;
