@@ -123,6 +123,7 @@ extern "C" {
 #define MASK_STACK_STRAIGHT_WINDING 512
 #define MASK_STACK_STRAIGHT_AREA 512
 #define MASK_STACK_STRAIGHT_REPORT 512
+#define MASK_STACK_STRAIGHT_SLICES 184320
 #define MASK_STACK_STORE_PUT 10240
 #define MASK_STACK_STORE_RELEASE 10240
 #define MASK_STACK_STORE_LIST 10240
@@ -142,7 +143,7 @@ enum mask_refusal {
     MASK_REFUSED_SETTINGS_FULL = 17, /* the record has its 16 settings */
     MASK_REFUSED_TOLERANCE = 4, /* either is not finite or out of range (area limit: below 0) */
     MASK_REFUSED_NUMBER = 5,    /* not finite, or beyond 2^30 (areas: not finite) */
-    MASK_REFUSED_RANGE = 18,    /* a whole coordinate is out of range */
+    MASK_REFUSED_RANGE = 18,    /* a coordinate of a straight mask is out of range or not whole, or it has a bulge */
     MASK_REFUSED_LOOPS = 19,    /* more than 4096 outlines in a report */
     MASK_REFUSED_INDEX = 6,     /* an index is not below the vertex count */
     MASK_REFUSED_BACKWARD = 15, /* an open outline with its start index above its end index */
@@ -663,8 +664,9 @@ mask_done_answer mask_store_compact(size_t *held, size_t held_len, size_t *slice
                                     uint32_t party);
 
 /*
- * Masks without arcs, in whole microdegrees. An outline has two numbers to a vertex: x,
- * y, each of magnitude at most 400000000. Nothing is rounded, and nothing is written.
+ * Masks without arcs, in whole microdegrees. For the first three entries an outline has two
+ * numbers to a vertex: x, y, each of magnitude at most 400000000. Nothing is rounded, and
+ * nothing is written. The last entry takes such masks as the entries above take theirs.
  */
 
 typedef struct mask_winding_answer {
@@ -713,6 +715,41 @@ mask_area_answer mask_straight_area(const int64_t *outline, size_t outline_len, 
  */
 mask_report_answer mask_straight_report(const int64_t *points, size_t points_len,
                                         const size_t *ends, size_t ends_len, size_t loops);
+
+/*
+ * The slices of two such masks in one call: what `mask_candidates` of outline 1,
+ * `mask_candidates` of outline 2, the inside answers and `mask_prune` give in turn. No
+ * host is asked between them. The outlines, intersections and overlaps are lent as to
+ * these three, so an outline has three numbers to a vertex and all are binary64; but
+ * every coordinate of a vertex, of an intersection and of an overlap's two ends is whole,
+ * of magnitude at most 400000000, and every bulge is 0 (-0 is 0 too).
+ *   splits  the parts of a segment keep their positions and have bulge +0: the start part
+ *           is the running vertex, and the split vertex is the cut, for the whole segment
+ *           too
+ *   inside  where `mask_straight_winding` of the other outline is not 0 at the doubled
+ *           midpoint of a candidate's two vertices, which is their sum
+ * Whole points agree only where they are equal, since a tolerance is at most 1: any two
+ * tolerances that are accepted give the same slices.
+ * Where the three accept, the answer and the slices are theirs. `mode`, `opposing`, `hits`,
+ * `laps`, `lap_edition` and the tolerances are as for them; `edition1` and `edition2` are
+ * the outlines'. `slices` and `starts` are as `mask_prune` answers them, and so are the
+ * lists; their need is that of `mask_prune` with a candidate for each cut of each outline:
+ * 2 (hits + 2 laps) + 2 laps slices. Refusals 1, 2, 3, 4, 5, 18, 6, 7, 9. 5 is given for
+ * the same numbers as by the three; 18 for a number within 2^30 that is beyond 400000000
+ * or not whole, and for a bulge other than 0. For masks with arcs the three remain.
+ */
+mask_prune_answer mask_straight_slices(uint32_t mode, uint32_t opposing, const double *outline1,
+                                       size_t outline1_len, size_t vc1, uint32_t edition1,
+                                       const double *outline2, size_t outline2_len, size_t vc2,
+                                       uint32_t edition2, const size_t *hit_at,
+                                       size_t hit_at_len, const double *hit, size_t hit_len,
+                                       size_t hits, const size_t *lap_at, size_t lap_at_len,
+                                       const double *lap, size_t lap_len,
+                                       const uint32_t *lap_edition, size_t lap_edition_len,
+                                       size_t laps, double tolerance_x, double tolerance_y,
+                                       size_t *slice_at, size_t slice_at_len, double *slice,
+                                       size_t slice_len, uint32_t *slice_edition,
+                                       size_t slice_edition_len);
 
 #ifdef __cplusplus
 }

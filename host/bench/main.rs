@@ -1,7 +1,8 @@
 //! Our stages and the original's, timed side by side on the same inputs in one run.
 //!
 //! `bench FILE.svg` prints tables of ratios, and writes the plot of times against sizes to the file.
-//! `bench once` is what it starts, some times over.
+//! `bench straight` prints only the tables of straight masks.
+//! `bench once` and `bench once straight` are what they start, some times over.
 //! `bench repeat STAGE INPUT SIZE` makes one of our calls again and again, for a profiler.
 
 mod ours;
@@ -241,6 +242,70 @@ fn prune(families: &[Family]) {
     }
 }
 
+/// Straight masks in whole microdegrees.
+fn straight_families() -> [Family; 2] {
+    let mut comb = family("comb", 1, shapes::whole_comb);
+    let most = Input::new(shapes::whole_flat_comb(MOST_CUTS), MOST_CUTS);
+    comb.inputs.push((MOST_CUTS, most));
+    [family("wave", 0, shapes::wave), comb]
+}
+
+/// Cut order, splits, candidates and inside answers of both outlines and the prune: the calls that the
+/// one call stands for.
+fn three_in_turn(
+    pair: &Pair,
+    whole: &[Vec<i64>; 2],
+    rooms: &mut [CutRoom; 2],
+    slices: &mut Slices,
+) {
+    for (outline, room) in rooms.iter_mut().enumerate() {
+        ours::cut_order(pair, outline, room);
+        ours::straight_splits(pair, outline, room);
+        ours::candidates(pair, outline, room);
+        ours::answer_inside(&whole[1 - outline], room);
+    }
+    done(ours::prune(pair, UNION, rooms, slices));
+}
+
+fn check_straight(input: &Input, slices: &mut Slices) {
+    let theirs = input.shared.slices(UNION);
+    let answer = ours::straight_slices(&input.pair, UNION, slices);
+    assert_eq!(answer.slices, theirs.count());
+    assert_eq!(slices.slice_at[..4 * answer.slices], theirs.slice_at);
+    assert_eq!(slices.slice[..6 * answer.slices], theirs.slice);
+    assert_eq!(answer.starts.pline2, theirs.starts[0]);
+    assert_eq!(answer.starts.pline1_overlapping, theirs.starts[1]);
+    assert_eq!(answer.starts.pline2_overlapping, theirs.starts[2]);
+}
+
+fn straight() {
+    for family in straight_families() {
+        for (size, input) in &family.inputs {
+            let (pair, shared) = (&input.pair, &input.shared);
+            let whole = ours::whole_outlines(pair);
+            let mut rooms = [0; 2].map(|_| CutRoom::new(pair.cuts()));
+            let [mut at_once, mut in_turn] = [0; 2].map(|_| ours::straight_room(pair));
+            check_straight(input, &mut at_once);
+            let times = measure(&mut [
+                &mut || done(ours::straight_slices(black_box(pair), UNION, &mut at_once)),
+                &mut || done(shared.prune(UNION)),
+                &mut || three_in_turn(black_box(pair), &whole, &mut rooms, &mut in_turn),
+            ]);
+            let count = shared.prune(UNION).len();
+            assert_eq!(at_once.slice_at[..4 * count], in_turn.slice_at[..4 * count]);
+            assert_eq!(at_once.slice[..6 * count], in_turn.slice[..6 * count]);
+            tables::tell(tables::STRAIGHT, family.name, *size, times.ratio(0, 1));
+            tables::tell(
+                tables::STRAIGHT_THREE,
+                family.name,
+                *size,
+                times.ratio(0, 2),
+            );
+            tables::tell(tables::THREE, family.name, *size, times.ratio(2, 1));
+        }
+    }
+}
+
 /// Slices for a stitch, with the outlines they are of.
 struct Job {
     outlines: Outlines,
@@ -472,7 +537,9 @@ fn repeat(stage: &str, input: &str, size: usize, calls: Option<usize>) {
         "star" => (shapes::star, 0),
         "comb" => (shapes::comb, 1),
         "arcs" => (shapes::round_star, 0),
-        _ => panic!("the inputs are star, comb and arcs"),
+        "wave" => (shapes::wave, 0),
+        "whole" => (shapes::whole_comb, 1),
+        _ => panic!("the inputs are star, comb and arcs, and in whole numbers wave and whole"),
     };
     let many = |call: &mut dyn FnMut()| call_again(calls, call);
     if stage.ends_with("stitch") {
@@ -502,6 +569,11 @@ fn repeat(stage: &str, input: &str, size: usize, calls: Option<usize>) {
         "splits" => many(&mut || shared.split_cuts(outline, room)),
         "midpoints" => many(&mut || shared.use_midpoints(room)),
         "slicing" => many(&mut || shared.our_candidates(pair, outline, room)),
+        "straight" => {
+            let mut slices = ours::straight_room(pair);
+            many(&mut || done(ours::straight_slices(pair, UNION, &mut slices)));
+        }
+        "rust-straight" => many(&mut || done(shared.prune(UNION))),
         "pruning" => many(&mut || our_pruning(&input, &mut rooms, &mut slices)),
         "rust-order" => many(&mut || shared.cut_order(&input.order, outline)),
         "rust-slicing" => many(&mut || done(shared.candidates(outline))),
@@ -519,15 +591,16 @@ fn time_all() {
     cut_order(&families[..2]);
     candidates(&families);
     prune(&families);
+    straight();
     stitch();
     area_pass();
     view_vertices();
 }
 
-/// What a process of this program tells, which times every stage.
-fn told_by_a_process() -> String {
+/// What a process of this program tells, which times every stage, or the one that is named.
+fn told_by_a_process(stage: Option<&str>) -> String {
     let program = std::env::current_exe().expect("this program cannot be found");
-    let output = Command::new(program).arg("once").output();
+    let output = Command::new(program).arg("once").args(stage).output();
     let output = output.expect("this program cannot be run again");
     let errors = String::from_utf8_lossy(&output.stderr);
     assert!(output.status.success(), "{errors}");
@@ -535,10 +608,10 @@ fn told_by_a_process() -> String {
 }
 
 /// Times differ from process to process, so several are asked.
-fn compare(to: &str) {
+fn told(stage: Option<&str>) -> (Vec<Table>, [plot::Panel; 4]) {
     let (mut tables, mut panels) = (tables::all(), plot::panels());
     for _ in 0..PROCESSES {
-        for line in told_by_a_process().lines() {
+        for line in told_by_a_process(stage).lines() {
             let words: Vec<&str> = line.split('\t').collect();
             let number = |i: usize| words[i].parse::<f64>().expect("a number");
             let (title, input, size) = (words[1], words[2], number(3) as usize);
@@ -555,10 +628,23 @@ fn compare(to: &str) {
             }
         }
     }
+    (tables, panels)
+}
+
+fn compare(to: &str) {
+    let (tables, panels) = told(None);
     tables::print_goal(&tables);
     tables.iter().for_each(Table::print);
     tables::print_spread(&tables);
     std::fs::write(to, plot::svg(&panels)).expect("the plot cannot be written");
+}
+
+/// The tables of straight masks alone.
+fn compare_straight() {
+    let (mut tables, _) = told(Some("straight"));
+    tables.retain(|table| !table.is_empty());
+    tables.iter().for_each(Table::print);
+    tables::print_spread(&tables);
 }
 
 fn main() {
@@ -571,7 +657,12 @@ fn main() {
             repeat(stage, input, number(size), Some(number(calls)));
         }
         ["once"] => time_all(),
+        ["once", "straight"] => straight(),
+        ["straight"] => compare_straight(),
         [to] => compare(to),
-        _ => panic!("usage: bench FILE.svg, bench once, or bench repeat STAGE INPUT SIZE [CALLS]"),
+        _ => panic!(
+            "usage: bench FILE.svg, bench [once] straight, bench once, or bench repeat STAGE INPUT \
+             SIZE [CALLS]"
+        ),
     }
 }

@@ -178,6 +178,74 @@ pub fn prune(pair: &Pair, mode: u32, rooms: &[CutRoom; 2], slices: &mut Slices) 
     answer
 }
 
+/// Room for the slices of the one call, exactly as long as its need.
+pub fn straight_room(pair: &Pair) -> Slices {
+    Slices::room(2 * pair.cuts() + 2 * pair.laps())
+}
+
+pub fn straight_slices(pair: &Pair, mode: u32, slices: &mut Slices) -> PruneAnswer {
+    let [one, two] = &pair.outlines;
+    let answer = archive::straight_slices(
+        mode,
+        u32::from(pair.opposing),
+        one,
+        pair.vertex_count(0),
+        EDITIONS[0],
+        two,
+        pair.vertex_count(1),
+        EDITIONS[1],
+        &pair.hit_at,
+        &pair.hit,
+        pair.hits(),
+        &pair.lap_at,
+        &pair.lap,
+        &pair.lap_edition,
+        pair.laps(),
+        pair.tolerance,
+        pair.tolerance,
+        &mut slices.slice_at,
+        &mut slices.slice,
+        &mut slices.slice_edition,
+    );
+    assert_eq!(answer.refusal, 0);
+    answer
+}
+
+/// The outlines of a pair in whole numbers, x and y in turn.
+pub fn whole_outlines(pair: &Pair) -> [Vec<i64>; 2] {
+    pair.outlines.each_ref().map(|outline| {
+        let positions = outline.chunks_exact(3).flat_map(|v| [v[0], v[1]]);
+        positions.map(|n| n as i64).collect()
+    })
+}
+
+/// The inside answers of the candidates in the room, by `mask_straight_winding` of the other outline.
+pub fn answer_inside(other: &[i64], room: &mut CutRoom) {
+    let probes = room.probe[..6 * room.count].chunks_exact(6);
+    for (n, inside) in probes.zip(&mut room.inside) {
+        let (x, y) = (n[0] as i64 + n[3] as i64, n[1] as i64 + n[4] as i64);
+        let answer = archive::straight_winding(other, other.len() / 2, x, y);
+        assert_eq!(answer.refusal, 0);
+        *inside = u8::from(answer.winding != 0);
+    }
+}
+
+/// The splits of straight segments at the cuts in the room: positions stay, bulges are +0.
+pub fn straight_splits(pair: &Pair, outline: usize, room: &mut CutRoom) {
+    let vertices = &pair.outlines[outline];
+    for (p, split) in room.splits.chunks_exact_mut(9).enumerate() {
+        let segment = room.cut_at[3 * p];
+        let running = match p > 0 && room.cut_at[3 * p - 3] == segment {
+            true => &room.cut[2 * p - 2..2 * p],
+            false => &vertices[3 * segment..3 * segment + 2],
+        };
+        let cut = &room.cut[2 * p..2 * p + 2];
+        split[..2].copy_from_slice(running);
+        split[3..5].copy_from_slice(cut);
+        split[6..8].copy_from_slice(cut);
+    }
+}
+
 /// Room for a stitch.
 pub struct StitchRoom {
     pub vertices: Vec<f64>,

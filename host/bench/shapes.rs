@@ -83,6 +83,72 @@ pub fn flat_comb(cuts: usize) -> Outlines {
     [comb, band(right + 1.0)]
 }
 
+/// Outlines in whole microdegrees, whose crossings are whole too.
+fn whole(outlines: Outlines) -> Outlines {
+    outlines.map(|numbers| numbers.iter().map(|n| n * 65_536.0).collect())
+}
+
+/// A square wave over a line of short segments, which each of its upright sides crosses once: one cut
+/// on a segment.
+pub fn wave(crossings: usize) -> Outlines {
+    let (mut wave, mut line) = (Vec::new(), Vec::new());
+    let last = crossings / 2 - 1;
+    for i in 0..=last {
+        let left = 2.0 * i as f64;
+        let bottom = |at: usize| if i == at { -3.0 } else { -1.0 };
+        add(&mut wave, left, bottom(0), 0.0);
+        add(&mut wave, left, 1.0, 0.0);
+        add(&mut wave, left + 1.0, 1.0, 0.0);
+        add(&mut wave, left + 1.0, bottom(last), 0.0);
+    }
+    for i in 0..=crossings {
+        add(&mut line, i as f64 - 0.5, 0.0, 0.0);
+    }
+    add(&mut line, crossings as f64 - 0.5, 4.0, 0.0);
+    add(&mut line, -0.5, 4.0, 0.0);
+    whole([wave, line])
+}
+
+/// A band whose length is a power of two, as is the comb's over it: then a part of it is not rounded.
+fn whole_band(right: f64) -> Vec<f64> {
+    let (left, right) = (-0.5 * right, 1.5 * right);
+    let corners = [[left, -1.0], [right, -1.0], [right, 0.0], [left, 0.0]];
+    corners.iter().flat_map(|c| [c[0], c[1], 0.0]).collect()
+}
+
+/// The comb with teeth whose sides go down as far as they go across.
+pub fn whole_comb(crossings: usize) -> Outlines {
+    let teeth = crossings / 4;
+    let right = 8.0 * teeth as f64;
+    let mut comb = Vec::new();
+    for i in 0..teeth {
+        add(&mut comb, 8.0 * i as f64, 1.0, 0.0);
+        add(&mut comb, 8.0 * i as f64 + 4.0, -3.0, 0.0);
+    }
+    add(&mut comb, right, 1.0, 0.0);
+    add(&mut comb, right, 5.0, 0.0);
+    add(&mut comb, 0.0, 5.0, 0.0);
+    whole([comb, whole_band(right)])
+}
+
+/// The same, of which each second tooth ends flat on the band's edge.
+pub fn whole_flat_comb(cuts: usize) -> Outlines {
+    let pairs = cuts / 6;
+    let right = 16.0 * pairs as f64;
+    let mut comb = Vec::new();
+    for i in 0..pairs {
+        let left = 16.0 * i as f64;
+        let corners = [[0.0, 1.0], [4.0, -3.0], [8.0, 1.0], [9.0, 0.0], [15.0, 0.0]];
+        for [x, y] in corners {
+            add(&mut comb, left + x, y, 0.0);
+        }
+    }
+    add(&mut comb, right, 1.0, 0.0);
+    add(&mut comb, right, 5.0, 0.0);
+    add(&mut comb, 0.0, 5.0, 0.0);
+    whole([comb, whole_band(right)])
+}
+
 /// Outlines for slices that no pipeline made. Their vertices are far from the slices' ends.
 pub fn plain() -> Outlines {
     [0.2, 0.7].map(|turn| ring(8, turn, 0.0, |_| 1e6))

@@ -13,6 +13,11 @@ pub const CANDIDATES_ALL: &str = "Candidates, with the cut order that a host ask
 pub const PRUNE: &str = "Prune, the same work: slicing on both sides, inside answers handed in";
 pub const PRUNE_ALL: &str = "Prune, with cut order and inside answers, as a host calls";
 pub const PRUNE_ALONE: &str = "Prune, `mask_prune` alone beside the Rust's slicing and pruning";
+pub const STRAIGHT: &str =
+    "Straight masks, `mask_straight_slices` beside the Rust's slicing and pruning";
+pub const STRAIGHT_THREE: &str =
+    "The same beside the three calls in turn, with `mask_straight_winding` for each candidate";
+pub const THREE: &str = "The three calls in turn beside the Rust's slicing and pruning";
 pub const STITCH_LIST: &str = "Stitch, the index a plain list";
 pub const STITCH_TREE: &str = "Stitch, the index a packed tree";
 pub const AREA: &str = "Area pass, beside a plain Rust loop";
@@ -21,11 +26,12 @@ pub const VERTICES: &str = "All vertices of a whole view, `mask_view_vertices`";
 pub const VERTICES_SINGLY: &str = "The same by `mask_view_vertex`, one call for each vertex";
 
 /// The tables that the goal is about, with the names of their stages.
-const STAGES: [(&str, &str); 7] = [
+const STAGES: [(&str, &str); 8] = [
     ("cut order", ORDER),
     ("candidates, the entry alone", CANDIDATES_ALONE),
     ("candidates, the same work", CANDIDATES),
     ("prune, the same work", PRUNE),
+    ("straight masks, one call", STRAIGHT),
     ("stitch, the index a plain list", STITCH_LIST),
     ("stitch, the index a packed tree", STITCH_TREE),
     ("all vertices of a view", VERTICES),
@@ -62,6 +68,9 @@ pub fn all() -> Vec<Table> {
         of_cuts(PRUNE),
         of_cuts(PRUNE_ALL),
         of_cuts(PRUNE_ALONE),
+        of_cuts(STRAIGHT),
+        of_cuts(STRAIGHT_THREE),
+        of_cuts(THREE),
         of_slices(STITCH_LIST),
         of_slices(STITCH_TREE),
         table(AREA, "loops", &SLICE_SIZES),
@@ -115,6 +124,10 @@ impl Table {
         let mut inputs: Vec<&str> = self.cells.iter().map(|cell| &cell.input[..]).collect();
         inputs.dedup();
         inputs
+    }
+
+    pub fn is_empty(&self) -> bool {
+        self.cells.is_empty()
     }
 
     fn at(&self, input: &str, size: usize) -> Option<&Cell> {

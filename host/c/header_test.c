@@ -71,6 +71,9 @@ static size_t held[PLACES], kept_at[4 * PLACES], handles[PLACES];
 static double kept_slice[6 * PLACES];
 static uint32_t kept_edition[PLACES], list_edition[PLACES];
 
+/* The same masks in whole numbers, with cuts that are whole too. */
+static double whole_outline[3 * VC], whole_hit[2 * HITS];
+
 static void make_inputs(void)
 {
     for (size_t i = 0; i < VC; i++) {
@@ -96,6 +99,12 @@ static void make_inputs(void)
     }
     for (size_t i = 0; i < OUTLINES; i++)
         many_ends[i] = 2 * (i + 1);
+    for (size_t i = 0; i < VC; i++) {
+        whole_outline[3 * i] = (double)points[2 * i];
+        whole_outline[3 * i + 1] = (double)points[2 * i + 1];
+    }
+    for (size_t i = 0; i < HITS; i++)
+        whole_hit[2 * i] = (double)points[2 * (HITS - i)] + 195000;
     entered[0] = 1;
     settings[0] = settings[1] = 1;
     settings[2] = 2;
@@ -232,6 +241,15 @@ static void straight_report(void)
     refusal = mask_straight_report(ALL(many), ALL(many_ends), OUTLINES).refusal;
 }
 
+static void straight_slices(void)
+{
+    refusal = mask_straight_slices(MASK_MODE_UNION, 0, ALL(whole_outline), VC, 0, ALL(whole_outline), VC,
+                                   0, ALL(hit_at), ALL(whole_hit), HITS, ALL(lap_at), ALL(lap),
+                                   ALL(lap_edition), LAPS, T, T, ALL(slice_at), ALL(slice),
+                                   ALL(slice_edition))
+                  .refusal;
+}
+
 static void store_put(void)
 {
     static const size_t put_at[] = {1, 0, 2, 3};
@@ -333,6 +351,7 @@ int main(void)
     measure("mask_straight_winding", straight_winding, MASK_STACK_STRAIGHT_WINDING);
     measure("mask_straight_area", straight_area, MASK_STACK_STRAIGHT_AREA);
     measure("mask_straight_report", straight_report, MASK_STACK_STRAIGHT_REPORT);
+    measure("mask_straight_slices", straight_slices, MASK_STACK_STRAIGHT_SLICES);
     measure("mask_store_put", store_put, MASK_STACK_STORE_PUT);
     measure("mask_store_release", store_release, MASK_STACK_STORE_RELEASE);
     measure("mask_store_list", store_list, MASK_STACK_STORE_LIST);

@@ -54,6 +54,9 @@ enum {
     CHAIN_ENDS,
     CHAIN_HOW,
     KEPT,
+    STRAIGHT_AT,
+    STRAIGHT,
+    STRAIGHT_EDITION,
     LISTS
 };
 
@@ -100,7 +103,8 @@ static void begin(void)
         [VERTICES] = 15, [CUT_AT] = 12,       [CUT] = 8,        [CAND_AT] = 8, [CAND] = 24,
         [PROBE] = 24,    [NEW_SLICE_AT] = 24, [NEW_SLICE] = 36, [ROOM] = 27,   [ENDS] = 2,
         [CHAIN] = 2,     [CHAIN_ENDS] = 2,    [CHAIN_HOW] = 2,  [KEPT] = 3,
-        [CAND_EDITION] = 4, [NEW_SLICE_EDITION] = 6};
+        [CAND_EDITION] = 4, [NEW_SLICE_EDITION] = 6, [STRAIGHT_AT] = 40, [STRAIGHT] = 60,
+        [STRAIGHT_EDITION] = 10};
     memset(&c, 0, sizeof c);
     memcpy(c.outline1, A, sizeof A);
     memcpy(c.outline2, B, sizeof B);
@@ -170,6 +174,17 @@ static uint32_t prune(void)
         .refusal;
 }
 
+static uint32_t straight_slices(void)
+{
+    return mask_straight_slices(
+               c.mode, 0, READ(OUTLINE1, outline1), c.vc1, c.edition, READ(OUTLINE2, outline2), c.vc2,
+               c.edition, READ(HIT_AT, hit_at), READ(HIT, hit), 2, READ(LAP_AT, lap_at),
+               READ(LAP, lap), READ_EDITIONS(LAP_EDITION, lap_edition), 1, c.tolerance_x,
+               c.tolerance_y, WRITTEN(STRAIGHT_AT), WRITTEN(STRAIGHT),
+               WRITTEN_EDITIONS(STRAIGHT_EDITION))
+        .refusal;
+}
+
 /* A record whose second setting has these numbers. All others are NaN: nothing looks at them. */
 static const double *setting(double x, double y, double limit)
 {
@@ -214,6 +229,8 @@ static const struct {
     {"mask_prune", prune, NEW_SLICE_AT, NEW_SLICE_EDITION, 1u << CAND1 | 1u << CAND2 | 1u << LAP},
     {"mask_stitch", stitch, ROOM, CHAIN_HOW, 1u << OUTLINE1 | 1u << OUTLINE2 | 1u << SLICE},
     {"mask_area_pass", area_pass, KEPT, KEPT, 1u << AREAS},
+    {"mask_straight_slices", straight_slices, STRAIGHT_AT, STRAIGHT_EDITION,
+     1u << OUTLINE1 | 1u << OUTLINE2 | 1u << HIT | 1u << LAP},
 };
 enum { ENTRY_COUNT = sizeof ENTRIES / sizeof *ENTRIES };
 
@@ -223,7 +240,7 @@ enum { ENTRY_COUNT = sizeof ENTRIES / sizeof *ENTRIES };
 static int holds(int list, size_t i)
 {
     const uint64_t held = guard_word(i);
-    if (list == CAND_EDITION || list == NEW_SLICE_EDITION)
+    if (list == CAND_EDITION || list == NEW_SLICE_EDITION || list == STRAIGHT_EDITION)
         return left_editions(list, c.len[list] + BEFORE)[i] == guard_edition(i);
     return memcmp((const uint64_t *)lent[list].end - c.len[list] - BEFORE + i, &held, 8) == 0;
 }
@@ -305,9 +322,9 @@ static int spoil(int e, uint32_t number)
         c.hit_at[0] = c.cand_at1[0] = c.slice_at[2] = c.view.start_index = 4;
         return ENTRIES[e].call != area_pass;
     case 7:
-        c.cand_at1[1] = c.slice_at[3] = c.view.end_index_offset = 5;
+        c.cand_at1[1] = c.slice_at[3] = c.view.end_index_offset = c.lap_at[6] = 5;
         return ENTRIES[e].call == prune || ENTRIES[e].call == stitch ||
-               ENTRIES[e].call == view_vertices;
+               ENTRIES[e].call == view_vertices || ENTRIES[e].call == straight_slices;
     case 8:
         c.pline2 = 3;
         return ENTRIES[e].call == stitch;
@@ -317,6 +334,9 @@ static int spoil(int e, uint32_t number)
     case 16:
         c.entered = 1;
         return ENTRIES[e].call == stitch || ENTRIES[e].call == area_pass;
+    case 18:
+        c.hit[0] = 0.5;
+        return ENTRIES[e].call == straight_slices;
     default:
         return 0;
     }
@@ -325,7 +345,7 @@ static int spoil(int e, uint32_t number)
 static int faults(int e)
 {
     int tried = 0;
-    for (uint32_t number = 1; number <= 16; number++)
+    for (uint32_t number = 1; number <= 18; number++)
         if (spoil(e, number)) {
             if (!is_refused(e, number))
                 return 0;

@@ -7,7 +7,7 @@ use crate::random::Random;
 use crate::realistic::Pair;
 use crate::stages;
 use crate::tally::Tally;
-use crate::{late, ours, refusal, straight, theirs};
+use crate::{at_once, late, ours, refusal, straight, theirs};
 use cavalier_contours::polyline::internal::pline_boolean::polyline_boolean;
 use cavalier_contours::polyline::{
     BooleanOp, BooleanResultPline, PlineBooleanOptions, PlineSource, PlineVertex, Polyline,
@@ -18,6 +18,7 @@ const TOLERANCE: f64 = 1.0 / 1024.0;
 /// Prints them all.
 pub fn show() {
     straight::show();
+    at_once::show();
     late::show();
     ties();
     joined_overlap(

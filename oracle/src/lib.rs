@@ -4,6 +4,7 @@
 //! a call, by watching what it does; `second` is a second implementation of what takes two tolerances,
 //! which the original has not; the others are the cases of the comparison.
 
+pub mod at_once;
 pub mod axes;
 pub mod call;
 pub mod cases;

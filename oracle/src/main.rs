@@ -5,8 +5,8 @@ use oracle::random::Random;
 use oracle::record::{Origin, Record};
 use oracle::tally::{Tally, quiet_caught_panics};
 use oracle::{
-    axes, damaged, findings, hostile, late, limits, ours, print, realistic, refusal, second, starts,
-    theirs,
+    at_once, axes, damaged, findings, hostile, late, limits, ours, print, realistic, refusal, second,
+    starts, theirs,
 };
 use std::process::ExitCode;
 
@@ -20,6 +20,7 @@ const USAGE: &str = "usage:
   compare --judges N SEED           the same, only the judges beside each other
   compare --starts N SEED           N outlines of few vertices, with all pairs of their points
   compare --late N SEED             N pairs of outlines, one of them changed after it was cut
+  compare --straight N SEED         N pairs of straight masks in whole microdegrees, by the one call
   compare --paste 'WORDS'           one call, as a difference prints it, answered both ways
   compare --findings                the known differences, each at its smallest input";
 
@@ -41,6 +42,7 @@ fn main() -> ExitCode {
         ["--judges", count, seed] => alone(count, seed, AXES, axes::judges),
         ["--starts", count, seed] => alone(count, seed, STARTS, starts::scenario),
         ["--late", count, seed] => alone(count, seed, LATE, late::scenario),
+        ["--straight", count, seed] => alone(count, seed, STRAIGHT, at_once::scenario),
         ["--paste", words] => paste(words),
         ["--findings"] => {
             findings::show();
@@ -68,6 +70,7 @@ fn scenario(tally: &mut Tally, seed: u64, number: u64) {
     match number % 10 {
         0..=4 => {
             realistic::scenario(tally, &mut rng);
+            at_once::scenario(tally, &mut later.apart());
             late::scenario(tally, &mut later);
         }
         5..=8 => {
@@ -102,6 +105,7 @@ fn compare(count: &str, seed: &str) -> Option<ExitCode> {
 const AXES: &str = "calls of each entry that takes tolerances";
 const STARTS: &str = "outlines with all pairs of their points";
 const LATE: &str = "pairs of outlines, one of them changed after it was cut";
+const STRAIGHT: &str = "pairs of straight masks in whole microdegrees";
 
 /// One family alone.
 fn alone(

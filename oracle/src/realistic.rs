@@ -510,13 +510,13 @@ impl Pair {
     }
 }
 
-fn bits(loops: &[Vec<f64>]) -> Vec<Vec<u64>> {
+pub fn bits(loops: &[Vec<f64>]) -> Vec<Vec<u64>> {
     let one = |l: &Vec<f64>| l.iter().map(|n| n.to_bits()).collect();
     loops.iter().map(one).collect()
 }
 
 /// A union's loops: those that run as the second outline does, and the others.
-fn parted(loops: &[Vec<f64>], orientation: PlineOrientation) -> (Vec<Vec<f64>>, Vec<Vec<f64>>) {
+pub fn parted(loops: &[Vec<f64>], orientation: PlineOrientation) -> (Vec<Vec<f64>>, Vec<Vec<f64>>) {
     let runs_alike = |l: &Vec<f64>| stages::outline(l).orientation() == orientation;
     loops.iter().cloned().partition(runs_alike)
 }

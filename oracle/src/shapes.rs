@@ -177,6 +177,28 @@ fn near_copy(rng: &mut Random, first: &[f64]) -> Vec<f64> {
     second
 }
 
+/// Two outlines on whole numbers whose sides run along the axes, some with rounded corners.
+pub fn square_pair(rng: &mut Random, largest: usize) -> [Vec<f64>; 2] {
+    let any = |rng: &mut Random| match rng.below(3) {
+        0 => rectangle(rng),
+        1 => horizon(rng, largest),
+        _ => comb(rng, largest),
+    };
+    let mut first = any(rng);
+    let mut second = match rng.below(4) {
+        0 => moved(&first, whole(rng, -2, 2), whole(rng, -2, 2)),
+        1 => near_copy(rng, &first),
+        _ => any(rng),
+    };
+    if rng.once_in(3) {
+        first = reversed(&first);
+    }
+    if rng.once_in(3) {
+        second = reversed(&second);
+    }
+    [first, second]
+}
+
 /// Two outlines of at most about `largest` vertices each.
 pub fn pair(rng: &mut Random, largest: usize) -> [Vec<f64>; 2] {
     let mut first = any(rng, largest);

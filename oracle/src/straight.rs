@@ -34,14 +34,14 @@ unsafe extern "C" {
 
 const MOST: i64 = 400_000_000;
 
-type Corner = (i64, i64);
+pub type Corner = (i64, i64);
 
 fn flat(o: &[Corner]) -> Vec<i64> {
     o.iter().flat_map(|&(x, y)| [x, y]).collect()
 }
 
 /// The archive's winding number round a point in doubled coordinates.
-fn ours(o: &[Corner], (x, y): Corner) -> i64 {
+pub fn ours(o: &[Corner], (x, y): Corner) -> i64 {
     let o = flat(o);
     // SAFETY: pointer and length are those of one list, which is only read.
     let a = unsafe { mask_straight_winding(o.as_ptr(), o.len(), o.len() / 2, x, y) };
@@ -81,9 +81,34 @@ fn side((a, b): (Corner, Corner), (x, y): Corner) -> i128 {
 }
 
 /// The point lies on an edge, its ends included.
-fn on_edge(o: &[Corner], p: Corner) -> bool {
+pub fn on_edge(o: &[Corner], p: Corner) -> bool {
     let within = |a: i64, b: i64, z: i64| 2 * a.min(b) <= z && z <= 2 * a.max(b);
     edges(o).any(|e| side(e, p) == 0 && within(e.0.0, e.1.0, p.0) && within(e.0.1, e.1.1, p.1))
+}
+
+/// The winding number as request K8 says it, in sums of 128 bits.
+pub fn exact(o: &[Corner], p: Corner) -> i64 {
+    let turn = |(a, b): (Corner, Corner)| {
+        let (y, y1, y2) = (p.1, 2 * a.1, 2 * b.1);
+        let side = side((a, b), p);
+        i64::from(y1 <= y && y < y2 && side > 0) - i64::from(y2 <= y && y < y1 && side < 0)
+    };
+    edges(o).map(turn).sum()
+}
+
+/// The original, in f64, sees the point on another side of an edge than it is.
+pub fn is_rounded(o: &[Corner], p: Corner) -> bool {
+    let (x, y) = (p.0 as f64 / 2.0, p.1 as f64 / 2.0);
+    let rounded = |(a, b): (Corner, Corner)| {
+        let (ax, ay, bx, by) = (a.0 as f64, a.1 as f64, b.0 as f64, b.1 as f64);
+        (bx - ax) * (y - ay) - (by - ay) * (x - ax)
+    };
+    let sign = |e| match side(e, p) {
+        0 => 0.0,
+        side => side.signum() as f64,
+    };
+    let f64_sign = |z: f64| if z == 0.0 { 0.0 } else { z.signum() };
+    edges(o).any(|e| f64_sign(rounded(e)) != sign(e))
 }
 
 fn text(o: &[Corner]) -> String {

@@ -1,6 +1,7 @@
 //! Compares one call after the other, and counts.
 
 use crate::call::{COUNT, Call, ENTRIES, Entry, Outcome, Param};
+use crate::at_once;
 use crate::late::Counts;
 use crate::record::{Origin, Record};
 use crate::{ours, print, refusal, scaled, second, theirs};
@@ -66,6 +67,8 @@ pub struct Tally {
     unexplained: u64,
     /// What came of old slices on outlines that were changed late.
     pub late: Counts,
+    /// What came of straight masks by the one call.
+    pub straight: at_once::Counts,
     /// The scenario that runs now, for the print of a difference.
     pub scenario: u64,
     pub record: Option<Record>,
@@ -225,7 +228,7 @@ impl Tally {
     }
 
     pub fn total(&self) -> u64 {
-        self.compared.iter().flatten().sum()
+        self.compared.iter().flatten().sum::<u64>() + self.straight.calls()
     }
 
     /// Prints the counts. Gives the number of unexplained differences.
@@ -262,6 +265,9 @@ impl Tally {
         );
         if !self.late.is_empty() {
             println!("\noutlines changed late\n{}", self.late);
+        }
+        if !self.straight.is_empty() {
+            println!("\nstraight masks in whole microdegrees\n{}", self.straight);
         }
         println!("\nthe same by another road, beside the calls above");
         for (name, count) in &self.extra {

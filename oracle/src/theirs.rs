@@ -62,7 +62,7 @@ pub fn answer(call: &Call) -> Outcome {
 }
 
 /// Runs with a host in place of the crate's helpers.
-fn with_host<A>(host: impl Host + 'static, run: impl FnOnce() -> A) -> A {
+pub fn with_host<A>(host: impl Host + 'static, run: impl FnOnce() -> A) -> A {
     struct Unset;
     impl Drop for Unset {
         fn drop(&mut self) {

@@ -4,12 +4,12 @@
 //! lists is stitched.
 
 use mask_tools::{
-    prune, stitch, First, Intersection, Intersections, Masks, Mode, Named, OnSegment, Outline,
-    Overlaps, Point, Refusal, Second, Setting, Settings, Slices, Source, Store, StraightHost,
-    Tolerance, Verdict, Vertex,
+    stitch, First, Intersection, Intersections, Masks, Mode, Named, OnSegment, Outline, Overlaps,
+    Point, Refusal, Second, Setting, Settings, Slices, Source, Store, StraightHost, Tolerance,
+    Verdict, Vertex,
 };
 
-/// Both outlines cut, and what the union keeps of them.
+/// Both outlines cut, and what the union keeps of them: one call, since both are straight and whole.
 fn cut(
     a: &Outline,
     b: &Outline,
@@ -23,15 +23,7 @@ fn cut(
         overlaps: &Overlaps::new(),
         setting,
     };
-    let of_a = masks.answered(Source::Pline1, &mut StraightHost)?;
-    let of_b = masks.answered(Source::Pline2, &mut StraightHost)?;
-    prune(
-        Mode::Union,
-        false,
-        [a.vertex_count(), b.vertex_count()],
-        [&of_a, &of_b],
-        &Overlaps::new(),
-    )
+    masks.slices(Mode::Union, &mut StraightHost)
 }
 
 fn main() -> Result<(), Refusal> {

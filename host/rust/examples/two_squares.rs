@@ -1,4 +1,5 @@
-//! The two squares of document 01's sheet: their union, intersection and differences.
+//! The two squares of document 01's sheet: their union, intersection and differences. They are straight
+//! and in whole numbers, so `combine` cuts, asks and prunes in one call.
 
 use mask_tools::{
     Intersection, Intersections, Masks, Mode, Outline, Overlaps, Point, Refusal, Setting, Settings,
@@ -29,6 +30,7 @@ fn main() -> Result<(), Refusal> {
         overlaps: &Overlaps::new(),
         setting: settings.named(edition),
     };
+    assert!(masks.is_straight_and_whole());
     for mode in Mode::ALL {
         println!("{mode:?}");
         for lp in masks.combine(mode, &mut StraightHost)?.loops() {

@@ -41,6 +41,12 @@ pub fn slices_needed(candidates: [&Candidates; 2], overlaps: &Overlaps) -> usize
     candidates[0].len() + candidates[1].len() + 2 * overlaps.len()
 }
 
+/// The need of [`straight_slices`] in slices: that of [`prune`] with a candidate for each cut of each
+/// outline.
+pub fn straight_slices_needed(intersections: &Intersections, overlaps: &Overlaps) -> usize {
+    2 * cuts_needed(intersections, overlaps) + 2 * overlaps.len()
+}
+
 /// The need of [`stitch`] in vertices: one more than the sum of (offset + 1), and 0 where there
 /// are no slices.
 pub fn vertices_needed(slices: &Slices) -> usize {
@@ -125,7 +131,7 @@ pub fn candidates(
     Refusal::check(answer.refusal, answer.count)
 }
 
-/// Room for slices, for each of [`slices_needed`]:
+/// Room for slices, for each of [`slices_needed`] or [`straight_slices_needed`]:
 #[derive(Debug)]
 pub struct SliceRoom<'a> {
     /// 4: source, inverted, start, offset.
@@ -136,7 +142,7 @@ pub struct SliceRoom<'a> {
     pub slice_edition: &'a mut [u32],
 }
 
-/// What [`prune`] wrote.
+/// What [`prune`] or [`straight_slices`] wrote.
 #[derive(Debug, Clone, Copy, PartialEq, Eq)]
 pub struct Pruned {
     /// How many slices.
@@ -175,6 +181,47 @@ pub fn prune(
         overlaps.numbers(),
         overlaps.editions(),
         overlaps.len(),
+        room.slice_at,
+        room.slice,
+        room.slice_edition,
+    );
+    let pruned = Pruned {
+        slices: answer.slices,
+        starts: answer.starts,
+    };
+    Refusal::check(answer.refusal, pruned)
+}
+
+/// Writes the slices that `mode` keeps of two straight masks in whole microdegrees: candidates,
+/// inside answers and pruning in one call.
+pub fn straight_slices(
+    mode: Mode,
+    opposing: bool,
+    outlines: [&Outline; 2],
+    intersections: &Intersections,
+    overlaps: &Overlaps,
+    tolerance: Tolerance,
+    room: SliceRoom<'_>,
+) -> Result<Pruned, Refusal> {
+    let [pline1, pline2] = outlines;
+    let answer = ffi::straight_slices(
+        mode.code(),
+        u32::from(opposing),
+        pline1.numbers(),
+        pline1.vertex_count(),
+        pline1.edition(),
+        pline2.numbers(),
+        pline2.vertex_count(),
+        pline2.edition(),
+        intersections.indexes(),
+        intersections.numbers(),
+        intersections.len(),
+        overlaps.indexes(),
+        overlaps.numbers(),
+        overlaps.editions(),
+        overlaps.len(),
+        tolerance.x,
+        tolerance.y,
         room.slice_at,
         room.slice,
         room.slice_edition,

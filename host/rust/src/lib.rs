@@ -66,6 +66,10 @@
 //! 5. [`stitch`]: the loops that the slices make.
 //! 6. [`area_pass`]: which loops are not below the area limit.
 //!
+//! Where the masks and their cuts are straight and in whole microdegrees, [`straight_slices`] takes the
+//! place of the first four for both outlines, and the host is asked for areas alone.
+//! [`Masks::is_straight_and_whole`] says which way it goes.
+//!
 //! [`View`] has the entries over a single part of an outline. [`lent`] has the calls that write
 //! lists with room that the caller lends.
 //!
@@ -127,7 +131,9 @@
 //! # Masks in whole microdegrees
 //!
 //! [`WholeOutline`] is an outline without arcs whose coordinates are whole numbers. Its winding
-//! number and its area are exact, and so is [`straight_report`], which totals many of them.
+//! number and its area are exact, and so is [`straight_report`], which totals many of them. Two such
+//! masks are cut, asked and pruned in one call, [`straight_slices`], with these winding numbers for the
+//! inside answers; [`Masks::combine`] makes it where it can.
 //!
 //! # Settings by edition
 //!
@@ -198,5 +204,5 @@ pub use slices::{prune, Answered, Mode, Slice, Slices};
 pub use start::{slice_span, Place, Span};
 pub use stitch::{area_pass, stitch, Chain, ChainEnd, Selector, Stitched};
 pub use store::{First, Handle, Kept, Listed, Party, Second, Store};
-pub use straight::{straight_report, StraightReport, WholeOutline};
+pub use straight::{straight_report, straight_slices, StraightReport, WholeOutline};
 pub use view::{OnSegment, Verdict, Vertices, View, Walk};

@@ -1,8 +1,9 @@
 //! Two masks, and all the steps from where they meet to the loops.
 
+use crate::straight::{are_straight_and_whole, is_whole};
 use crate::{
-    area_pass, candidates, cut_order, prune, split_cuts, stitch, Answered, Host, Intersections,
-    Mode, Named, Outline, Overlaps, Refusal, Slices, Source, Stitched, Vertex,
+    area_pass, candidates, cut_order, prune, split_cuts, stitch, straight_slices, Answered, Host,
+    Intersections, Mode, Named, Outline, Overlaps, Refusal, Slices, Source, Stitched, Vertex,
 };
 
 /// Two masks, and where their outlines meet.
@@ -49,13 +50,54 @@ impl Masks<'_> {
         !self.intersections.is_empty() || !self.overlaps.is_empty()
     }
 
-    /// Cuts both outlines, asks the host, prunes, stitches, and takes the area pass, all by one
-    /// setting. The first call that is refused ends it. Overlaps of another edition of outline 2
-    /// are refused with [`Refusal::Edition`].
-    pub fn combine<H: Host + ?Sized>(&self, mode: Mode, host: &mut H) -> Result<Combined, Refusal> {
+    /// Whether both outlines, the intersections and the overlaps are straight and in whole
+    /// microdegrees: every bulge 0, every coordinate whole and of magnitude at most 400,000,000. Then
+    /// [`slices`](Masks::slices) and [`combine`](Masks::combine) go by one call,
+    /// [`straight_slices`]; else they ask the host for splits and inside answers.
+    pub fn is_straight_and_whole(&self) -> bool {
+        self.pline1.is_straight_and_whole()
+            && self.pline2.is_straight_and_whole()
+            && self.intersections.numbers().iter().copied().all(is_whole)
+            && are_straight_and_whole(self.overlaps)
+    }
+
+    /// The slices of both outlines that `mode` keeps, by the setting's tolerances.
+    ///
+    /// There are two ways, and [`is_straight_and_whole`](Masks::is_straight_and_whole) says which of
+    /// them it goes:
+    ///
+    /// - Straight masks in whole microdegrees: one call, [`straight_slices`]. The host is asked only
+    ///   whether the outlines run in opposing directions. Splits are the points themselves with bulge
+    ///   +0, and inside answers are exact winding numbers, whatever the host would say.
+    /// - All others: [`answered`](Masks::answered) for each outline, then [`prune`].
+    ///
+    /// Where a host splits with bulge +0 and answers by the winding number of [`WholeOutline`], both
+    /// ways give the same slices, bit for bit. [`StraightHost`] does so but for a midpoint on an edge,
+    /// for products that it rounds, far out, and for bulges of -0, which it keeps.
+    ///
+    /// [`WholeOutline`]: crate::WholeOutline
+    /// [`StraightHost`]: crate::StraightHost
+    pub fn slices<H: Host + ?Sized>(&self, mode: Mode, host: &mut H) -> Result<Slices, Refusal> {
+        if self.is_straight_and_whole() {
+            let t = self.setting.ask()?.tolerance;
+            let opposing = host.opposing_directions(self.pline1, self.pline2);
+            let (outlines, hits) = ([self.pline1, self.pline2], self.intersections);
+            return straight_slices(mode, opposing, outlines, hits, self.overlaps, t);
+        }
         let answered1 = self.answered(Source::Pline1, host)?;
         let answered2 = self.answered(Source::Pline2, host)?;
-        self.combine_answered(mode, [&answered1, &answered2], host)
+        self.pruned(mode, [&answered1, &answered2], host)
+    }
+
+    /// Cuts both outlines, learns what lies inside, prunes, stitches, and takes the area pass, all by
+    /// one setting. The first call that is refused ends it. Overlaps of another edition of outline 2
+    /// are refused with [`Refusal::Edition`].
+    ///
+    /// It goes by the one call for straight masks, or asks the host, as [`slices`](Masks::slices) does;
+    /// [`is_straight_and_whole`](Masks::is_straight_and_whole) says which.
+    pub fn combine<H: Host + ?Sized>(&self, mode: Mode, host: &mut H) -> Result<Combined, Refusal> {
+        let slices = self.slices(mode, host)?;
+        self.joined(mode, slices, host)
     }
 
     /// Cuts one outline, and asks the host of each candidate whether it lies inside the other
@@ -89,9 +131,29 @@ impl Masks<'_> {
         answered: [&Answered; 2],
         host: &mut H,
     ) -> Result<Combined, Refusal> {
+        let slices = self.pruned(mode, answered, host)?;
+        self.joined(mode, slices, host)
+    }
+
+    /// What stays of the candidates.
+    fn pruned<H: Host + ?Sized>(
+        &self,
+        mode: Mode,
+        answered: [&Answered; 2],
+        host: &mut H,
+    ) -> Result<Slices, Refusal> {
         let opposing = host.opposing_directions(self.pline1, self.pline2);
         let vertex_counts = [self.pline1.vertex_count(), self.pline2.vertex_count()];
-        let slices = prune(mode, opposing, vertex_counts, answered, self.overlaps)?;
+        prune(mode, opposing, vertex_counts, answered, self.overlaps)
+    }
+
+    /// The loops that the slices make, and which of them are kept.
+    fn joined<H: Host + ?Sized>(
+        &self,
+        mode: Mode,
+        slices: Slices,
+        host: &mut H,
+    ) -> Result<Combined, Refusal> {
         let stitched = stitch(
             self.pline1,
             self.pline2,
@@ -131,7 +193,7 @@ mod tests {
     use super::*;
     use crate::ffi::standin::{told, Call, Lent, Reply};
     use crate::ffi::{CountAnswer, PruneAnswer, SettingAnswer, StitchAnswer};
-    use crate::{Intersection, Point, Probe, Settings, Split, StraightHost};
+    use crate::{Intersection, Overlap, Point, Probe, Settings, Split, StraightHost};
 
     /// A host whose inside answers are told, and that writes down what was asked.
     struct Told {
@@ -226,17 +288,28 @@ mod tests {
         ]
     }
 
-    fn combine(replies: Vec<Reply>, host: &mut Told) -> (Result<Combined, Refusal>, Vec<Call>) {
+    /// Combines a square with a triangle whose last corner is this high up.
+    fn combine_with(
+        high: f64,
+        replies: Vec<Reply>,
+        host: &mut Told,
+    ) -> (Result<Combined, Refusal>, Vec<Call>) {
         let settings = Settings::new();
         let masks = Masks {
             pline1: &Outline::straight(&[(0.0, 0.0), (4.0, 0.0), (4.0, 4.0), (0.0, 4.0)])
                 .with_edition(2),
-            pline2: &Outline::straight(&[(2.0, 2.0), (6.0, 2.0), (6.0, 6.0)]).with_edition(3),
+            pline2: &Outline::straight(&[(2.0, 2.0), (6.0, 2.0), (6.0, high)]).with_edition(3),
             intersections: &Intersections::from([Intersection::default()]),
             overlaps: &Overlaps::new(),
             setting: settings.named(5),
         };
+        assert_eq!(masks.is_straight_and_whole(), high.fract() == 0.0);
         told(replies, || masks.combine(Mode::FirstMinusSecond, host))
+    }
+
+    /// Masks that are not whole: the host is asked.
+    fn combine(replies: Vec<Reply>, host: &mut Told) -> (Result<Combined, Refusal>, Vec<Call>) {
+        combine_with(6.5, replies, host)
     }
 
     #[test]
@@ -309,6 +382,162 @@ mod tests {
         let combined = combined.unwrap();
         assert_eq!(combined.kept, [0]);
         assert_eq!(combined.loops().count(), 1);
+    }
+
+    #[test]
+    fn straight_masks_in_whole_microdegrees_go_by_one_call() {
+        let mut host = host(1.0);
+        let replies = vec![asked(), pruned(), stitched(), passed(&[0])];
+        let (combined, calls) = combine_with(6.0, replies, &mut host);
+        let entries: Vec<&str> = calls.iter().map(|call| call.entry).collect();
+        let expected = ["settings_ask", "straight_slices", "stitch", "area_pass"];
+        assert_eq!(entries, expected);
+        assert!(host.asked.is_empty());
+        let call = &calls[1];
+        assert_eq!(call.lent("mode"), Lent::Code(2));
+        assert_eq!(call.lent("opposing"), Lent::Code(0));
+        assert_eq!(
+            (call.lent("vc1"), call.lent("edition1")),
+            (Lent::Count(4), Lent::Code(2))
+        );
+        assert_eq!(
+            (call.lent("vc2"), call.lent("edition2")),
+            (Lent::Count(3), Lent::Code(3))
+        );
+        assert_eq!(call.lent("hits"), Lent::Count(1));
+        assert_eq!(call.lent("tolerance_x"), Lent::Number(0.5));
+        assert_eq!(call.lent("tolerance_y"), Lent::Number(0.25));
+        assert_eq!(calls[2].lent("slice_at"), Lent::Counts(vec![2, 0, 1, 2]));
+        assert_eq!(calls[2].lent("slice_edition"), Lent::Editions(vec![4]));
+        assert_eq!(combined.unwrap().kept, [0]);
+    }
+
+    #[test]
+    fn a_refusal_of_the_one_call_ends_it() {
+        let refused = |refusal| {
+            Reply::of(PruneAnswer {
+                refusal,
+                ..PruneAnswer::default()
+            })
+        };
+        for (number, refusal) in [
+            (1, Refusal::Length),
+            (18, Refusal::Range),
+            (6, Refusal::Index),
+        ] {
+            let (combined, calls) =
+                combine_with(6.0, vec![asked(), refused(number)], &mut host(1.0));
+            assert_eq!(combined, Err(refusal));
+            assert_eq!(calls.len(), 2);
+        }
+    }
+
+    #[test]
+    fn what_is_straight_and_whole() {
+        let whole = Outline::straight(&[(0.0, -0.0), (-4e8, 4e8)]);
+        let (hits, laps) = (Intersections::new(), Overlaps::new());
+        let settings = Settings::new();
+        let masks = Masks {
+            pline1: &whole,
+            pline2: &whole,
+            intersections: &hits,
+            overlaps: &laps,
+            setting: settings.named(1),
+        };
+        assert!(masks.is_straight_and_whole());
+        let flat: Outline = [Vertex::new(0.0, 0.0, -0.0), Vertex::new(1.0, 0.0, 0.0)].into();
+        assert!(Masks {
+            pline1: &flat,
+            ..masks
+        }
+        .is_straight_and_whole());
+
+        for number in [
+            0.5,
+            4e8 + 1.0,
+            -4e8 - 1.0,
+            f64::NAN,
+            f64::INFINITY,
+            1e300,
+            5e-324,
+        ] {
+            for (x, y) in [(number, 0.0), (0.0, number)] {
+                let other = Outline::straight(&[(0.0, 0.0), (x, y)]);
+                assert!(!Masks {
+                    pline1: &other,
+                    ..masks
+                }
+                .is_straight_and_whole());
+                assert!(!Masks {
+                    pline2: &other,
+                    ..masks
+                }
+                .is_straight_and_whole());
+                let point = Point::new(x, y);
+                let hit = Intersection {
+                    point,
+                    ..Intersection::default()
+                };
+                let hits = Intersections::from([Intersection::default(), hit]);
+                assert!(!Masks {
+                    intersections: &hits,
+                    ..masks
+                }
+                .is_straight_and_whole());
+                let mut lap = Overlap::default();
+                lap.view_data.updated_start = Vertex::new(x, y, 0.0);
+                let laps = Overlaps::from([Overlap::default(), lap]);
+                assert!(!Masks {
+                    overlaps: &laps,
+                    ..masks
+                }
+                .is_straight_and_whole());
+                let mut lap = Overlap::default();
+                lap.view_data.end_point = point;
+                let laps = Overlaps::from([lap, Overlap::default()]);
+                assert!(!Masks {
+                    overlaps: &laps,
+                    ..masks
+                }
+                .is_straight_and_whole());
+            }
+        }
+        for bulge in [1.0, -5e-324, f64::NAN] {
+            let arc: Outline = [Vertex::new(0.0, 0.0, 0.0), Vertex::new(1.0, 0.0, bulge)].into();
+            assert!(!Masks {
+                pline1: &arc,
+                ..masks
+            }
+            .is_straight_and_whole());
+            assert!(!Masks {
+                pline2: &arc,
+                ..masks
+            }
+            .is_straight_and_whole());
+            let mut laps = [Overlap::default(); 3];
+            laps[0].view_data.updated_end_bulge = -0.0;
+            laps[1].view_data.updated_start.bulge = -0.0;
+            let both = Overlaps::from(laps);
+            assert!(Masks {
+                overlaps: &both,
+                ..masks
+            }
+            .is_straight_and_whole());
+            for which in 0..2 {
+                let mut laps = laps;
+                if which == 0 {
+                    laps[2].view_data.updated_start.bulge = bulge;
+                } else {
+                    laps[2].view_data.updated_end_bulge = bulge;
+                }
+                let laps = Overlaps::from(laps);
+                assert!(!Masks {
+                    overlaps: &laps,
+                    ..masks
+                }
+                .is_straight_and_whole());
+            }
+        }
     }
 
     #[test]

@@ -1,6 +1,7 @@
 //! Points, vertices and outlines.
 
 use crate::ffi;
+use crate::straight::is_whole;
 use crate::{Point, Vertex};
 
 impl Point {
@@ -161,6 +162,19 @@ impl Outline {
     /// Whether every bulge is 0.
     pub fn is_straight(&self) -> bool {
         self.vertices.iter().all(|vertex| vertex.bulge == 0.0)
+    }
+
+    /// Whether every bulge is 0, and every coordinate is whole and of magnitude at most 400,000,000.
+    ///
+    /// ```
+    /// use mask_tools::Outline;
+    ///
+    /// assert!(Outline::straight(&[(0.0, 0.0), (-4e8, 3.0)]).is_straight_and_whole());
+    /// assert!(!Outline::straight(&[(0.0, 0.0), (0.5, 3.0)]).is_straight_and_whole());
+    /// ```
+    pub fn is_straight_and_whole(&self) -> bool {
+        let is_whole = |vertex: &Vertex| is_whole(vertex.x) && is_whole(vertex.y);
+        self.is_straight() && self.vertices.iter().all(is_whole)
     }
 
     /// The two vertices of the segment that starts at `index`; none where there is no such vertex.

@@ -48,7 +48,8 @@ pub enum Refusal {
     UnknownSetting,
     /// 17: the record has its 16 settings.
     SettingsFull,
-    /// 18: a whole coordinate is out of range.
+    /// 18: a coordinate of a straight mask is out of range or not whole, or the mask has a bulge.
+    /// [`Masks::combine`](crate::Masks::combine) gives such masks to the calls for masks with arcs.
     Range,
     /// 19: a report has more than 4,096 outlines.
     Loops,
@@ -120,7 +121,10 @@ impl Refusal {
             Refusal::Backward => (15, "an open outline's start index is above its end index"),
             Refusal::UnknownSetting => (16, "no setting was entered under the edition"),
             Refusal::SettingsFull => (17, "the record has its 16 settings"),
-            Refusal::Range => (18, "a whole coordinate is out of range"),
+            Refusal::Range => (
+                18,
+                "a coordinate is out of range or not whole, or a straight mask has a bulge",
+            ),
             Refusal::Loops => (19, "too many outlines in a report"),
             Refusal::Full => (20, "the party's part of the store is full"),
             Refusal::Handle => (21, "no live slice of the party has the handle"),

@@ -1,6 +1,6 @@
 //! Slices: which candidates and overlaps stay.
 
-use crate::lent::{self, SliceRoom};
+use crate::lent::{self, Pruned, SliceRoom};
 use crate::list::{Flat, Layout, List};
 use crate::{Candidates, Overlaps, Refusal, Selector, Source, Starts, View};
 
@@ -80,6 +80,26 @@ impl Slices {
     pub fn iter(&self) -> crate::list::Iter<'_, Slice> {
         self.list.iter()
     }
+
+    /// The slices that a call writes into room for so many. Beyond the most the call is refused,
+    /// whatever the room.
+    pub(crate) fn written(
+        need: usize,
+        call: impl FnOnce(SliceRoom<'_>) -> Result<Pruned, Refusal>,
+    ) -> Result<Slices, Refusal> {
+        let mut list = List::with_room(need.min(MOST_SLICES));
+        let room = list.room();
+        let pruned = call(SliceRoom {
+            slice_at: &mut room.indexes,
+            slice: &mut room.numbers,
+            slice_edition: &mut room.editions,
+        })?;
+        list.truncate(pruned.slices);
+        Ok(Slices {
+            list,
+            starts: pruned.starts,
+        })
+    }
 }
 
 /// The candidates of one outline, and for each whether it lies inside the other outline.
@@ -105,29 +125,12 @@ pub fn prune(
 ) -> Result<Slices, Refusal> {
     let inside = answered.map(|one| codes_of(&one.inside));
     let candidates = answered.map(|one| &one.candidates);
-    let room = lent::slices_needed(candidates, overlaps).min(MOST_SLICES);
-    let mut list = List::with_room(room);
-    let room = list.room();
-    let room = SliceRoom {
-        slice_at: &mut room.indexes,
-        slice: &mut room.numbers,
-        slice_edition: &mut room.editions,
-    };
-    let pruned = lent::prune(
-        mode,
-        opposing,
-        vertex_counts,
-        [
-            (candidates[0], &inside[0][..]),
-            (candidates[1], &inside[1][..]),
-        ],
-        overlaps,
-        room,
-    )?;
-    list.truncate(pruned.slices);
-    Ok(Slices {
-        list,
-        starts: pruned.starts,
+    let answered = [
+        (candidates[0], &inside[0][..]),
+        (candidates[1], &inside[1][..]),
+    ];
+    Slices::written(lent::slices_needed(candidates, overlaps), |room| {
+        lent::prune(mode, opposing, vertex_counts, answered, overlaps, room)
     })
 }
 

@@ -1,6 +1,81 @@
-//! Masks without arcs, in whole microdegrees: winding numbers and areas, exactly.
+//! Masks without arcs, in whole microdegrees: winding numbers and areas, exactly; and the slices of two
+//! such masks in one call.
 
-use crate::{ffi, Refusal};
+use crate::{ffi, lent};
+use crate::{Intersections, Mode, Outline, Overlaps, Refusal, Slices, Tolerance};
+
+/// The largest magnitude of a whole coordinate.
+pub(crate) const MOST_WHOLE: i64 = 400_000_000;
+
+/// Whether a coordinate is whole, and in range.
+pub(crate) fn is_whole(number: f64) -> bool {
+    // What is not finite, or beyond an i64, is out of range.
+    number.abs() <= MOST_WHOLE as f64 && number as i64 as f64 == number
+}
+
+/// Whether each of these overlaps begins and ends at whole coordinates, and has no arc there.
+pub(crate) fn are_straight_and_whole(overlaps: &Overlaps) -> bool {
+    overlaps.iter().all(|overlap| {
+        let (start, end) = (overlap.view_data.updated_start, overlap.view_data.end_point);
+        [start.x, start.y, end.x, end.y].into_iter().all(is_whole)
+            && start.bulge == 0.0
+            && overlap.view_data.updated_end_bulge == 0.0
+    })
+}
+
+/// The slices that `mode` keeps of two straight masks in whole microdegrees, in one call: what
+/// [`candidates`](crate::candidates) of both outlines, inside answers and [`prune`](crate::prune) give
+/// in turn. No host is asked: the parts of a straight segment keep their positions and have bulge +0,
+/// and a candidate is inside where the exact winding number of the other outline is not 0 at the middle
+/// of its two vertices. `opposing` says whether the two outlines run in opposing directions.
+///
+/// Every bulge is 0, and every coordinate of the outlines, of the intersections and of an overlap's
+/// two ends is whole and of magnitude at most 400,000,000; else it refuses with [`Refusal::Range`].
+/// [`Masks::slices`](crate::Masks::slices) looks first, and takes the other way where it has to.
+///
+/// Refusals: `Length`, `Outline`, `Tolerance`, `Number`, `Range`, `Index`, `Count`.
+///
+/// ```
+/// use mask_tools::{straight_slices, Intersection, Intersections, Mode, Outline, Overlaps, Point};
+/// use mask_tools::{Source, Tolerance};
+///
+/// # fn main() -> Result<(), mask_tools::Refusal> {
+/// let a = Outline::straight(&[(0.0, 0.0), (4.0, 0.0), (4.0, 4.0), (0.0, 4.0)]);
+/// let b = Outline::straight(&[(2.0, 2.0), (6.0, 2.0), (6.0, 6.0), (2.0, 6.0)]);
+/// let crossing = |start_index1, start_index2, x, y| Intersection {
+///     start_index1,
+///     start_index2,
+///     point: Point::new(x, y),
+/// };
+/// let crossings = Intersections::from([crossing(1, 0, 4.0, 2.0), crossing(2, 3, 2.0, 4.0)]);
+/// let (laps, t) = (Overlaps::new(), Tolerance::new(1.0 / 1024.0));
+/// let kept = straight_slices(Mode::Union, false, [&a, &b], &crossings, &laps, t)?;
+/// let sources: Vec<Source> = kept.iter().map(|slice| slice.source).collect();
+/// assert_eq!(sources, [Source::Pline1, Source::Pline2]);
+/// # Ok(())
+/// # }
+/// ```
+pub fn straight_slices(
+    mode: Mode,
+    opposing: bool,
+    outlines: [&Outline; 2],
+    intersections: &Intersections,
+    overlaps: &Overlaps,
+    tolerance: Tolerance,
+) -> Result<Slices, Refusal> {
+    let need = lent::straight_slices_needed(intersections, overlaps);
+    Slices::written(need, |room| {
+        lent::straight_slices(
+            mode,
+            opposing,
+            outlines,
+            intersections,
+            overlaps,
+            tolerance,
+            room,
+        )
+    })
+}
 
 /// An outline without arcs in whole microdegrees: x and y of each vertex, of magnitude at most
 /// 400,000,000. It has 2 to 1,024 vertices, and its last vertex goes on to its first.
@@ -145,7 +220,8 @@ pub fn straight_report(outlines: &[WholeOutline]) -> Result<StraightReport, Refu
 mod tests {
     use super::*;
     use crate::ffi::standin::{told, Lent, Reply};
-    use crate::ffi::{AreaAnswer, ReportAnswer, WindingAnswer};
+    use crate::ffi::{AreaAnswer, PruneAnswer, ReportAnswer, WindingAnswer};
+    use crate::{Intersection, Overlap, Starts};
 
     fn outline() -> WholeOutline {
         WholeOutline::new(&[(1, 2), (3, 4), (5, 6)])
@@ -224,6 +300,74 @@ mod tests {
         assert_eq!(calls[0].lent("points"), Lent::Wholes(points));
         assert_eq!(calls[0].lent("ends"), Lent::Counts(vec![3, 5]));
         assert_eq!(calls[0].lent("loops"), Lent::Count(2));
+    }
+
+    #[test]
+    fn masks_are_lent_with_the_need_of_all_their_cuts() {
+        let edition = |edition| Outline::straight(&[(1.0, 2.0), (3.0, 4.0)]).with_edition(edition);
+        let hits = Intersections::from([Intersection::default(); 3]);
+        let mut lap = Overlap::default();
+        lap.view_data.edition = 7;
+        let laps = Overlaps::from([lap, lap]);
+        let answer = PruneAnswer {
+            refusal: 0,
+            slices: 1,
+            starts: Starts {
+                pline2: 1,
+                ..Starts::default()
+            },
+        };
+        let reply = Reply::writing(answer, vec![vec![1, 1, 0, 2]], vec![vec![5.0]]);
+        let (given, calls) = told([reply.with_editions(&[9])], || {
+            let t = Tolerance { x: 0.5, y: 0.25 };
+            straight_slices(
+                Mode::Intersection,
+                true,
+                [&edition(4), &edition(5)],
+                &hits,
+                &laps,
+                t,
+            )
+        });
+        let given = given.unwrap();
+        assert_eq!((given.len(), given.starts.pline2), (1, 1));
+        let slice = given.iter().next().unwrap();
+        assert_eq!(slice.view.end_index_offset, 2);
+        assert_eq!((slice.view.edition, slice.view.updated_start.x), (9, 5.0));
+
+        let call = &calls[0];
+        assert_eq!(call.entry, "straight_slices");
+        assert_eq!(
+            (call.lent("mode"), call.lent("opposing")),
+            (Lent::Code(1), Lent::Code(1))
+        );
+        assert_eq!(
+            call.lent("outline1"),
+            Lent::Numbers(vec![1.0, 2.0, 0.0, 3.0, 4.0, 0.0])
+        );
+        assert_eq!(
+            (call.lent("edition1"), call.lent("edition2")),
+            (Lent::Code(4), Lent::Code(5))
+        );
+        assert_eq!(
+            (call.lent("hits"), call.lent("laps")),
+            (Lent::Count(3), Lent::Count(2))
+        );
+        assert_eq!(call.lent("lap_edition"), Lent::Editions(vec![7, 7]));
+        // 2 (3 + 2 * 2) + 2 * 2 slices
+        assert_eq!(call.lent("slice_at"), Lent::Room(4 * 18));
+        assert_eq!(call.lent("slice"), Lent::Room(6 * 18));
+        assert_eq!(call.lent("slice_edition"), Lent::Room(18));
+    }
+
+    #[test]
+    fn whole_coordinates() {
+        for number in [0.0, -0.0, 1.0, -3.0, 4e8, -4e8] {
+            assert!(is_whole(number));
+        }
+        for number in [0.5, -0.25, 4e8 + 1.0, 1e19, f64::INFINITY, f64::NAN] {
+            assert!(!is_whole(number) && !is_whole(-number));
+        }
     }
 
     #[test]

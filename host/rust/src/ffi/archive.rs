@@ -517,6 +517,39 @@ mod entries {
             loops: usize,
         ) -> ReportAnswer;
 
+        pub fn mask_straight_slices(
+            mode: u32,
+            opposing: u32,
+            outline1: *const f64,
+            outline1_len: usize,
+            vc1: usize,
+            edition1: u32,
+            outline2: *const f64,
+            outline2_len: usize,
+            vc2: usize,
+            edition2: u32,
+            hit_at: *const usize,
+            hit_at_len: usize,
+            hit: *const f64,
+            hit_len: usize,
+            hits: usize,
+            lap_at: *const usize,
+            lap_at_len: usize,
+            lap: *const f64,
+            lap_len: usize,
+            lap_edition: *const u32,
+            lap_edition_len: usize,
+            laps: usize,
+            tolerance_x: f64,
+            tolerance_y: f64,
+            slice_at: *mut usize,
+            slice_at_len: usize,
+            slice: *mut f64,
+            slice_len: usize,
+            slice_edition: *mut u32,
+            slice_edition_len: usize,
+        ) -> PruneAnswer;
+
         pub fn mask_settings_enter(
             entered: *mut usize,
             entered_len: usize,
@@ -1141,6 +1174,68 @@ mod entries {
                 ends.as_ptr(),
                 ends.len(),
                 loops,
+            )
+        }
+    }
+
+    #[inline]
+    #[allow(clippy::too_many_arguments)] // those of the header
+    pub fn straight_slices(
+        mode: u32,
+        opposing: u32,
+        outline1: &[f64],
+        vc1: usize,
+        edition1: u32,
+        outline2: &[f64],
+        vc2: usize,
+        edition2: u32,
+        hit_at: &[usize],
+        hit: &[f64],
+        hits: usize,
+        lap_at: &[usize],
+        lap: &[f64],
+        lap_edition: &[u32],
+        laps: usize,
+        tolerance_x: f64,
+        tolerance_y: f64,
+        slice_at: &mut [usize],
+        slice: &mut [f64],
+        slice_edition: &mut [u32],
+    ) -> PruneAnswer {
+        // SAFETY: each pointer and length are those of one slice; the three that are written are
+        // `&mut`, so nothing shares them.
+        unsafe {
+            mask_straight_slices(
+                mode,
+                opposing,
+                outline1.as_ptr(),
+                outline1.len(),
+                vc1,
+                edition1,
+                outline2.as_ptr(),
+                outline2.len(),
+                vc2,
+                edition2,
+                hit_at.as_ptr(),
+                hit_at.len(),
+                hit.as_ptr(),
+                hit.len(),
+                hits,
+                lap_at.as_ptr(),
+                lap_at.len(),
+                lap.as_ptr(),
+                lap.len(),
+                lap_edition.as_ptr(),
+                lap_edition.len(),
+                laps,
+                tolerance_x,
+                tolerance_y,
+                slice_at.as_mut_ptr(),
+                slice_at.len(),
+                slice.as_mut_ptr(),
+                slice.len(),
+                slice_edition.as_mut_ptr(),
+                slice_edition.len(),
             )
         }
     }

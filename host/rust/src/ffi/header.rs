@@ -278,7 +278,7 @@ fn bound() -> Vec<Function> {
 fn functions_are_declared_in_the_header() {
     let declared = declared();
     let bound = bound();
-    assert_eq!(bound.len(), 25);
+    assert_eq!(bound.len(), 26);
     for here in bound {
         let there = declared.iter().find(|there| there.0 == here.0);
         assert_eq!(there, Some(&here));

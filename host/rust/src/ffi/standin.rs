@@ -372,6 +372,19 @@ pub(crate) mod entries {
         play(call!(straight_report: points, ends, loops;), &mut [], &mut []).into()
     }
 
+    pub(crate) fn straight_slices(
+        mode: u32, opposing: u32, outline1: &[f64], vc1: usize, edition1: u32,
+        outline2: &[f64], vc2: usize, edition2: u32, hit_at: &[usize], hit: &[f64], hits: usize,
+        lap_at: &[usize], lap: &[f64], lap_edition: &[u32], laps: usize,
+        tolerance_x: f64, tolerance_y: f64,
+        slice_at: &mut [usize], slice: &mut [f64], slice_edition: &mut [u32],
+    ) -> PruneAnswer {
+        let call = call!(straight_slices: mode, opposing, outline1, vc1, edition1, outline2, vc2,
+            edition2, hit_at, hit, hits, lap_at, lap, lap_edition, laps, tolerance_x, tolerance_y;
+            slice_at, slice, slice_edition);
+        play_all(call, &mut [slice_at], &mut [slice], slice_edition).into()
+    }
+
     pub(crate) fn settings_enter(
         entered: &mut [usize], settings: &mut [f64],
         tolerance_x: f64, tolerance_y: f64, area_limit: f64,

@@ -1,5 +1,6 @@
 //! Calls the archive through the crate, as a user does. The tests in `src` have a stand-in for it.
 
+mod at_once;
 mod editions;
 mod masks;
 mod random;

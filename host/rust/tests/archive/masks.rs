@@ -367,8 +367,22 @@ impl Host for Broken {
 fn a_broken_host_is_refused() {
     let (a, b, hits, laps) = (a(), b(), hits(), Overlaps::new());
     let masks = masks(&a, &b, &hits, &laps);
-    let found = masks.combine(Mode::Union, &mut Broken);
-    assert_eq!(found, Err(Refusal::Number));
+    let found = masks.answered(Source::Pline1, &mut Broken);
+    assert_eq!(found.err(), Some(Refusal::Number));
+    // Masks that are not whole go by the host's splits, the others by its areas alone.
+    let mut corners = b.vertices().to_vec();
+    corners[2] = Vertex::new(6.5, 6.5, 0.0);
+    let not_whole = Masks {
+        pline2: &corners.into(),
+        ..masks
+    };
+    let slices = |masks: &Masks<'_>| masks.slices(Mode::Union, &mut Broken).map(|s| s.len());
+    assert_eq!(slices(&not_whole), Err(Refusal::Number));
+    assert_eq!(slices(&masks), Ok(2));
+    assert_eq!(
+        masks.combine(Mode::Union, &mut Broken),
+        Err(Refusal::Number)
+    );
 
     let answered1 = masks.answered(Source::Pline1, &mut StraightHost).unwrap();
     let answered2 = masks.answered(Source::Pline2, &mut StraightHost).unwrap();
