@@ -798,6 +798,8 @@ mask_report_answer mask_straight_report(const int64_t *points, size_t points_len
  *           too
  *   inside  where `mask_straight_winding` of the other outline is not 0 at the doubled
  *           midpoint of a candidate's two vertices, which is their sum
+ * Whole points agree only where they are equal, since a tolerance is at most 1: any two
+ * tolerances that are accepted give the same slices.
  * Where the three accept, the answer and the slices are theirs. `mode`, `opposing`, `hits`,
  * `laps`, `lap_edition` and the tolerances are as for them; `edition1` and `edition2` are
  * the outlines'. `slices` and `starts` are as `mask_prune` answers them, and so are the

@@ -1071,6 +1071,32 @@ static void drawn(void)
         check(met[kinds[i].kind] >= 100, "among them %u times or more: %s", 100u, kinds[i].what);
 }
 
+/* Whole numbers that differ do so by 1 at least, and a tolerance is at most 1: points agree only where
+ * they are equal, so no accepted tolerance gives other slices than another. */
+static void tolerances(void)
+{
+    static const double list[] = {1, 1.0 / 1024, 5e-324};
+    static size_t at[4 * SLICES + BEYOND];
+    static double numbers[6 * SLICES + BEYOND];
+    unsigned compared = 0;
+    int ok = 1;
+    for (unsigned i = 0; i < 4000 && ok; i++) {
+        mask_prune_answer first;
+        drawn_call();
+        first = straight_slices();
+        if (first.refusal)
+            continue;
+        memcpy(at, slice_at(), c.slice_at_len * sizeof *at);
+        memcpy(numbers, slice(), c.slice_len * sizeof *numbers);
+        c.tolerance = (axes){list[below(3)], list[below(3)]};
+        told = straight_slices();
+        ok = same_answer(told, first) && memcmp(at, slice_at(), c.slice_at_len * sizeof *at) == 0 &&
+             memcmp(numbers, slice(), c.slice_len * sizeof *numbers) == 0;
+        compared += told.slices > 0;
+    }
+    check(ok && compared >= 1000, "tolerances: of %u drawn calls the same slices by any others", compared);
+}
+
 int main(void)
 {
     make_room();
@@ -1085,6 +1111,7 @@ int main(void)
     lengths();
     most();
     sizes();
+    tolerances();
     drawn();
     return finish("straight_slices_test");
 }
