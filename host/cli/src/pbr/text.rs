@@ -191,54 +191,53 @@ impl Reader {
 
     /// What the whole text says.
     fn draft(mut self) -> Result<Draft, Fault> {
-        if let Some((mut base, line)) = self.base.take() {
-            if self.has_items() {
-                let why = "behind `of` stand edits alone, and no items".to_string();
-                return Err(Fault {
-                    line: Some(line),
-                    why,
-                });
-            }
-            base.edits.append(&mut self.edits);
-            return Ok(Draft {
-                edited_on: Some(self.edited_on.unwrap_or(line)),
-                ..base
-            });
+        if let Some((base, line)) = self.base.take() {
+            return self.edited(base, line);
         }
         self.whole()?;
-        let (version, editions) = self.version_and_editions()?;
-        let tolerance = self.tolerance(version)?;
-        let [pline2, pline1_overlapping, pline2_overlapping] =
-            value(&self.starts).unwrap_or_default().map(usize::from);
-        let [first, second] = self.outlines;
-        let of_outline = |slice: RecordSlice, edition: Option<u32>| {
-            let outline = usize::from(slice.source_code.clamp(1, 2)) - 1;
-            let view = View {
-                edition: edition.unwrap_or(editions[outline]),
-                ..slice.view
-            };
-            RecordSlice { view, ..slice }
-        };
         Ok(Draft {
-            contents: RecordContents {
-                version,
-                pline1: Outline::new(first).with_edition(editions[0]),
-                pline2: Outline::new(second).with_edition(editions[1]),
-                selector_code: value(&self.selector).unwrap_or_default(),
-                tolerance,
-                starts: Starts {
-                    pline2,
-                    pline1_overlapping,
-                    pline2_overlapping,
-                },
-                slices: self
-                    .slices
-                    .into_iter()
-                    .map(|(slice, edition, _)| of_outline(slice, edition))
-                    .collect(),
-            },
+            contents: self.contents()?,
             edits: self.edits,
             edited_on: self.edited_on,
+        })
+    }
+
+    /// Another text's draft, with the edits of this one.
+    fn edited(mut self, mut base: Draft, line: usize) -> Result<Draft, Fault> {
+        if self.has_items() {
+            let why = "behind `of` stand edits alone, and no items".to_string();
+            return Err(Fault {
+                line: Some(line),
+                why,
+            });
+        }
+        base.edits.append(&mut self.edits);
+        base.edited_on = Some(self.edited_on.unwrap_or(line));
+        Ok(base)
+    }
+
+    /// The contents of a text that has all its items.
+    fn contents(&self) -> Result<RecordContents, Fault> {
+        let (version, editions) = self.version_and_editions()?;
+        let [pline2, pline1_overlapping, pline2_overlapping] =
+            value(&self.starts).unwrap_or_default().map(usize::from);
+        let outline = |k: usize| Outline::new(self.outlines[k].clone()).with_edition(editions[k]);
+        let slices = self
+            .slices
+            .iter()
+            .map(|(slice, edition, _)| of_edition(*slice, *edition, editions));
+        Ok(RecordContents {
+            version,
+            pline1: outline(0),
+            pline2: outline(1),
+            selector_code: value(&self.selector).unwrap_or_default(),
+            tolerance: self.tolerance(version)?,
+            starts: Starts {
+                pline2,
+                pline1_overlapping,
+                pline2_overlapping,
+            },
+            slices: slices.collect(),
         })
     }
 
@@ -328,6 +327,19 @@ impl Reader {
                     .to_string(),
             }),
         }
+    }
+}
+
+/// A slice of the edition that its line says, or else of its outline's.
+fn of_edition(slice: RecordSlice, said: Option<u32>, editions: [u32; 2]) -> RecordSlice {
+    let outline = usize::from(slice.source_code.clamp(1, 2)) - 1;
+    let edition = said.unwrap_or(editions[outline]);
+    RecordSlice {
+        view: View {
+            edition,
+            ..slice.view
+        },
+        ..slice
     }
 }
 

@@ -25,65 +25,90 @@ pub enum Entry {
     End(ChainEnd),
 }
 
+impl Entry {
+    const ALL: [Entry; 15] = [
+        Entry::Outline(1),
+        Entry::Outline(2),
+        Entry::Slice(1),
+        Entry::Slice(2),
+        Entry::Inverted,
+        Entry::Overlap,
+        Entry::Stale,
+        Entry::Before,
+        Entry::Moved,
+        Entry::Join,
+        Entry::Gap,
+        Entry::Loop,
+        Entry::End(ChainEnd::NoCandidate),
+        Entry::End(ChainEnd::NotSelected),
+        Entry::End(ChainEnd::TooSmall),
+    ];
+
+    /// Whether the picture of these records has it.
+    fn is_in(self, subjects: &[Subject]) -> bool {
+        match self {
+            Entry::Outline(_) => true,
+            Entry::Before | Entry::Moved => has_changed(subjects),
+            Entry::Join => any_join(subjects, |end, start| end == start),
+            Entry::Gap => any_join(subjects, |end, start| end != start),
+            Entry::Loop => any_end(subjects, ChainEnd::Closed),
+            Entry::End(end) => any_end(subjects, end),
+            Entry::Slice(_) | Entry::Inverted | Entry::Overlap | Entry::Stale => {
+                any_slice(subjects, |subject, slice| self.is_of(subject, slice))
+            }
+        }
+    }
+
+    /// Whether it is the sign of a slice.
+    fn is_of(self, subject: &Subject, number: usize) -> bool {
+        let slice = &subject.contents.slices[number];
+        let stale = subject.is_stale(number);
+        match self {
+            Entry::Slice(source) => slice.source_code == source && !stale,
+            Entry::Inverted => slice.inverted_code == 1 && !stale,
+            Entry::Overlap => subject.is_overlap(number),
+            _ => stale,
+        }
+    }
+}
+
 /// The entries for what these records show.
 pub fn entries(subjects: &[Subject]) -> Vec<Entry> {
-    let slices = || {
-        subjects
+    let mut entries = Entry::ALL.to_vec();
+    entries.retain(|entry| entry.is_in(subjects));
+    entries
+}
+
+fn any_slice(subjects: &[Subject], test: impl Fn(&Subject, usize) -> bool) -> bool {
+    subjects.iter().any(|subject| {
+        let ways = subject.ways.iter().enumerate();
+        ways.into_iter()
+            .any(|(number, way)| way.is_some() && test(subject, number))
+    })
+}
+
+fn any_join(subjects: &[Subject], test: impl Fn(Point, Point) -> bool) -> bool {
+    subjects.iter().any(|subject| {
+        let chains = subject.chains();
+        let mut joins = chains.iter().flat_map(|chain| subject.joined(chain));
+        joins.any(|(end, start)| test(end, start))
+    })
+}
+
+fn any_end(subjects: &[Subject], end: ChainEnd) -> bool {
+    subjects
+        .iter()
+        .any(|subject| subject.chains().iter().any(|chain| chain.end == end))
+}
+
+/// Whether the two records have different outlines.
+fn has_changed(subjects: &[Subject]) -> bool {
+    match subjects {
+        [one, other] => [1, 2]
             .iter()
-            .flat_map(|s| (0..s.contents.slices.len()).map(move |k| (s, k)))
-    };
-    let any = |test: &dyn Fn(&Subject, usize) -> bool| {
-        slices().any(|(s, k)| s.ways[k].is_some() && test(s, k))
-    };
-    let of = |source: u8| any(&|s, k| s.contents.slices[k].source_code == source && !s.is_stale(k));
-    let ended = |end: ChainEnd| {
-        subjects
-            .iter()
-            .any(|s| s.chains().iter().any(|chain| chain.end == end))
-    };
-    let changed = subjects.len() == 2
-        && [1, 2]
-            .iter()
-            .any(|k| subjects[0].vertices(*k) != subjects[1].vertices(*k));
-    let joins = |test: &dyn Fn(Point, Point) -> bool| {
-        let chains = |s: &Subject| {
-            s.chains()
-                .iter()
-                .flat_map(|c| s.joined(c))
-                .any(|(a, b)| test(a, b))
-        };
-        subjects.iter().any(chains)
-    };
-    let all = [
-        (Entry::Outline(1), true),
-        (Entry::Outline(2), true),
-        (Entry::Slice(1), of(1)),
-        (Entry::Slice(2), of(2)),
-        (
-            Entry::Inverted,
-            any(&|s, k| s.contents.slices[k].inverted_code == 1 && !s.is_stale(k)),
-        ),
-        (Entry::Overlap, any(&|s, k| s.is_overlap(k))),
-        (Entry::Stale, any(&|s, k| s.is_stale(k))),
-        (Entry::Before, changed),
-        (Entry::Moved, changed),
-        (Entry::Join, joins(&|end, start| end == start)),
-        (Entry::Gap, joins(&|end, start| end != start)),
-        (Entry::Loop, ended(ChainEnd::Closed)),
-        (
-            Entry::End(ChainEnd::NoCandidate),
-            ended(ChainEnd::NoCandidate),
-        ),
-        (
-            Entry::End(ChainEnd::NotSelected),
-            ended(ChainEnd::NotSelected),
-        ),
-        (Entry::End(ChainEnd::TooSmall), ended(ChainEnd::TooSmall)),
-    ];
-    all.iter()
-        .filter(|(_, there)| *there)
-        .map(|(entry, _)| *entry)
-        .collect()
+            .any(|source| one.vertices(*source) != other.vertices(*source)),
+        _ => false,
+    }
 }
 
 fn columns(width: f64) -> usize {
