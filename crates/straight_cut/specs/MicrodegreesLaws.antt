@@ -5,11 +5,12 @@ use mathlib.Core.Bool.{Bool, true, false, cond, _&&_}
 use mathlib.Core.List.{List, [], _∷_}
 use native.Mathlib.Numerals.{add-one}
 use native.Mathlib.Omega.{arith}
-use lib.Dec.{T}
+use lib.Dec.{T, leb→le, le→leb, lt→ltb}
+use native.Mathlib.Nat.{le-trans}
 use lib.ListN.{length, getD, set}
 use lib.Seq.{sets}
-use lib.IntN.{ℤ, pos}
-use lib.Ieee.{Float, fin, binary64, le, lt, eq, ofInt, toSigned}
+use lib.IntN.{ℤ, pos, negsuc}
+use lib.Ieee.{Float, fin, binary64, le, lt, eq, ofInt, toSigned, inFloat}
 use Rattle.basis.specs.Choice.{by-test, and-left, and-right}
 use Rattle.basis.specs.Room.{roomOf}
 use Rattle.basis.specs.All.{All, all-both}
@@ -22,18 +23,37 @@ use Rattle.straight_entries.specs.RangeLaws.{reach-near}
 use Rattle.straight_cut.specs.Microdegrees.{reach, isWhole, valueOf, wholeVertex, wholesOf, WholesFit, WholesRoom}
 
 -- ---- whether it is whole
+and-no : (t : Bool) → t && false ≡ false
+and-no true = refl
+and-no false = refl
+
+and-yes : (t : Bool) → t && true ≡ t
+and-yes true = refl
+and-yes false = refl
+
+-- an f64 holds each whole number of a mask
+pub near-held : (z : ℤ) → Near 400000000 z → T (inFloat binary64 z)
+unfolding inFloat
+near-held (pos n) h = le→leb n _ (le-trans (h .near) (leb→le 400000000 _ tt))
+near-held (negsuc n) h = lt→ltb n _ (le-trans (h .near) (leb→le 400000000 _ tt))
+
+pub near-yes : (z : ℤ) (t : Bool) → t ≡ inReach 400000000 z → t ≡ true → Near 400000000 z
+near-yes z t q o = reach-near 400000000 z (sym q ∙ o)
+
 module _ (x : Float) where
-  module _ (z : ℤ) (b : Float) (h : le (fin true 1 (pos 63)) x ≡ true) (k : lt x (fin false 1 (pos 63)) ≡ true) (e : z ≡ toSigned 63 x) (f : b ≡ ofInt binary64 z) where
-    same : (t : Bool) → eq b x ≡ t → eq (ofInt binary64 (toSigned 63 x)) x ≡ t
-    same t q = ap (λ (v : ℤ). eq (ofInt binary64 v) x) (sym e) ∙ ap (λ (v : Float). eq v x) (sym f) ∙ q
+  module _ (z : ℤ) (h : le (fin true 1 (pos 63)) x ≡ true) (k : lt x (fin false 1 (pos 63)) ≡ true) (e : z ≡ toSigned 63 x) where
+    near-is : (t : Bool) → t ≡ inReach 400000000 z → inReach 400000000 (toSigned 63 x) ≡ t
+    near-is t q = ap (inReach 400000000) (sym e) ∙ sym q
 
-    pub whole-yes : (r : Bool) → eq b x ≡ true → r ≡ inReach 400000000 z → r ≡ isWhole x
+    pub whole-far : (t : Bool) → t ≡ inReach 400000000 z → t ≡ false → false ≡ isWhole x
     unfolding isWhole reach
-    whole-yes r t q = q ∙ ap (inReach 400000000) e ∙ sym (λ i. (h i && k i) && (same true t i && inReach 400000000 (toSigned 63 x)))
+    whole-far t q o = sym ((λ i. (h i && k i) && (eq (ofInt binary64 (toSigned 63 x)) x && (near-is t q ∙ o) i)) ∙ and-no (eq (ofInt binary64 (toSigned 63 x)) x))
 
-    pub whole-no : eq b x ≡ false → false ≡ isWhole x
+    pub whole-near : (t : Bool) → t ≡ inReach 400000000 z → t ≡ true → (b : Float) → b ≡ ofInt binary64 z → eq b x ≡ isWhole x
     unfolding isWhole reach
-    whole-no t = sym (λ i. (h i && k i) && (same false t i && inReach 400000000 (toSigned 63 x)))
+    whole-near t q o b f =
+        (λ i. eq ((f ∙ ap (ofInt binary64) e) i) x)
+        ∙ sym ((λ i. (h i && k i) && (eq (ofInt binary64 (toSigned 63 x)) x && (near-is t q ∙ o) i)) ∙ and-yes (eq (ofInt binary64 (toSigned 63 x)) x))
 
   pub whole-above : le (fin true 1 (pos 63)) x ≡ true → lt x (fin false 1 (pos 63)) ≡ false → false ≡ isWhole x
   unfolding isWhole reach
@@ -45,14 +65,6 @@ module _ (x : Float) where
 
   -- ---- which it is
   module _ (b : Bool) (e : b ≡ isWhole x) where
-    pub whole-reaches : b ≡ true → T (le (fin true 1 (pos 63)) x) × T (lt x (fin false 1 (pos 63)))
-    unfolding isWhole reach
-    whole-reaches t =
-        let r : reach x ≡ true = and-left (reach x) _ (sym e ∙ t) in (
-          subst T (sym (and-left (le (fin true 1 (pos 63)) x) (lt x (fin false 1 (pos 63))) r)) tt,
-          subst T (sym (and-right (le (fin true 1 (pos 63)) x) (lt x (fin false 1 (pos 63))) r)) tt,
-        )
-
     pub value-yes : (z : ℤ) → b ≡ true → z ≡ toSigned 63 x → z ≡ valueOf x
     unfolding valueOf
     value-yes z t q = q ∙ sym (λ i. cond ((sym e ∙ t) i) (toSigned 63 x) (pos 0))

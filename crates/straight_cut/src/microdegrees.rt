@@ -4,9 +4,19 @@ ghost use lib.ListN.{set};
 ghost use lib.Seq.{sets};
 ghost use Rattle.basis.specs.Room.{roomOf, RoomFor};
 ghost use lib.IntN.{pos};
+ghost use lib.Ieee.{binary64, ofInt};
+ghost use Rattle.whole.specs.Fit.{Near};
 ghost use Rattle.straight_cut.specs.Microdegrees.{isWhole, valueOf, wholeVertex, wholesOf, WholesFit, WholesRoom};
 use outline::read;
 use straight_entries::range;
+
+// A whole number of a mask as an f64, which holds it.
+fn float_of(z: i64) -> f64
+    requires { ⌜ Near 400000000 z ⌝ }
+    ensures { λ r. ⌜ r ≡ ofInt binary64 z ⌝ }
+{
+    z as f64
+}
 
 // Whether x is a whole number of microdegrees, within those of a mask.
 pub(crate) fn is_whole(x: f64) -> bool
@@ -15,23 +25,29 @@ pub(crate) fn is_whole(x: f64) -> bool
     if x >= -9223372036854775808.0 {
         if x < 9223372036854775808.0 {
             let z = std::num::truncating_f64_to_i64(x);
-            if std::num::nearest_i64_to_f64(z) == x {
-                return range::near_vertex(z);
+            if range::near_vertex(z) {
+                return float_of(z) == x;
             }
         }
     }
     false
 }
 
-// Which number of microdegrees x is, and 0 where it is none.
+// Which number of microdegrees x is, and 0 where it is none. One truncation gives both.
 pub(crate) fn value_of(x: f64) -> i64
     ensures { λ r. ⌜ r ≡ valueOf x ⌝ }
 {
-    if is_whole(x) {
-        std::num::truncating_f64_to_i64(x)
-    } else {
-        0
+    if x >= -9223372036854775808.0 {
+        if x < 9223372036854775808.0 {
+            let z = std::num::truncating_f64_to_i64(x);
+            if range::near_vertex(z) {
+                if float_of(z) == x {
+                    return z;
+                }
+            }
+        }
     }
+    0
 }
 
 // Writes a whole number at a place.

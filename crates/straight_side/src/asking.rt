@@ -36,7 +36,15 @@ fn asked_with(
     told(wholes, vc, probe, count, inside);
 }
 
-// The same by a list for 64 vertices, and by one for the most.
+// The same by a list for 16 vertices, by one for 64, and by one for the most.
+fn asked_least(other: &[f64], vc: usize, probe: &[f64], count: usize, inside: &mut [u8])
+    requires { ⌜ AskFew 16 (now other) vc (now probe) count (now inside) ⌝ }
+    ensures { λ _. ⌜ now (inside .exit) ≡ roomOf 0 1 count (insidesOf (wholesOf (now (other .entry)) vc) (take (6 * count) (now (probe .entry))) count) (now (inside .entry)) ⌝ }
+{
+    let mut wholes = [0i64; 32];
+    asked_with(other, vc, probe, count, &mut wholes, inside);
+}
+
 fn asked_few(other: &[f64], vc: usize, probe: &[f64], count: usize, inside: &mut [u8])
     requires { ⌜ AskFew 64 (now other) vc (now probe) count (now inside) ⌝ }
     ensures { λ _. ⌜ now (inside .exit) ≡ roomOf 0 1 count (insidesOf (wholesOf (now (other .entry)) vc) (take (6 * count) (now (probe .entry))) count) (now (inside .entry)) ⌝ }
@@ -58,6 +66,10 @@ pub(crate) fn asked(other: &[f64], vc: usize, probe: &[f64], count: usize, insid
     requires { ⌜ AskRoom (now other) vc (now probe) count (now inside) ⌝ }
     ensures { λ _. ⌜ now (inside .exit) ≡ roomOf 0 1 count (insidesOf (wholesOf (now (other .entry)) vc) (take (6 * count) (now (probe .entry))) count) (now (inside .entry)) ⌝ }
 {
+    if vc <= 16 {
+        asked_least(other, vc, probe, count, inside);
+        return;
+    }
     if vc <= 64 {
         asked_few(other, vc, probe, count, inside);
         return;

@@ -127,7 +127,54 @@ fn kept_with(
     )
 }
 
-// The same by lists for 16 candidates, which cost little to set up; by lists for 64; and by lists for the most.
+// The same by lists for 8 candidates, which cost little to set up; by lists for 16; by lists for 64; and by lists for the most.
+fn kept_least(
+    outline: &[f64],
+    other: &[f64],
+    other_vc: usize,
+    hit_at: &[usize],
+    hit: &[f64],
+    lap_at: &[usize],
+    lap: &[f64],
+    s: Case,
+    edition: u32,
+    part: Part,
+    slice_at: &mut [usize],
+    slice: &mut [f64],
+    slice_edition: &mut [u32],
+    m: usize,
+) -> usize
+    requires { ⌜ KeptFew 8 (given (now outline) (now «hit_at») (now hit) (now «lap_at») (now lap) s) (now other) «other_vc» (rooms (now «slice_at») (now slice) (now «slice_edition»)) m ⌝ }
+    ensures { λ r. ⌜ Wrote (keptTo (sideCands (given (now (outline .entry)) (now («hit_at» .entry)) (now (hit .entry)) (now («lap_at» .entry)) (now (lap .entry)) s) (now (other .entry)) «other_vc» edition) part (sideCount (given (now (outline .entry)) (now («hit_at» .entry)) (now (hit .entry)) (now («lap_at» .entry)) (now (lap .entry)) s))) (sideCount (given (now (outline .entry)) (now («hit_at» .entry)) (now (hit .entry)) (now («lap_at» .entry)) (now (lap .entry)) s)) (rooms (now («slice_at» .entry)) (now (slice .entry)) (now («slice_edition» .entry))) m r (rooms (now («slice_at» .exit)) (now (slice .exit)) (now («slice_edition» .exit))) ⌝ }
+{
+    let mut probe = [0.0f64; 48];
+    let mut cand_at = [0usize; 16];
+    let mut cand = [0.0f64; 48];
+    let mut cand_edition = [0u32; 8];
+    let mut inside = [0u8; 8];
+    kept_with(
+        outline,
+        other,
+        other_vc,
+        hit_at,
+        hit,
+        lap_at,
+        lap,
+        s,
+        edition,
+        part,
+        &mut probe,
+        &mut cand_at,
+        &mut cand,
+        &mut cand_edition,
+        &mut inside,
+        slice_at,
+        slice,
+        slice_edition,
+        m,
+    )
+}
+
 fn kept_small(
     outline: &[f64],
     other: &[f64],
@@ -269,7 +316,7 @@ fn kept_many(
     )
 }
 
-// Writes the slices of one outline from number m on, and says where they end.
+// Writes the slices of one outline from number m on, and says where they end. The call with the largest lists stands twice, so that the compiler leaves it a function and a small mask does not pay for its stack.
 pub fn kept(
     outline: &[f64],
     other: &[f64],
@@ -289,9 +336,8 @@ pub fn kept(
     requires { ⌜ KeptRoom (given (now outline) (now «hit_at») (now hit) (now «lap_at») (now lap) s) (now other) «other_vc» (rooms (now «slice_at») (now slice) (now «slice_edition»)) m ⌝ }
     ensures { λ r. ⌜ Wrote (keptTo (sideCands (given (now (outline .entry)) (now («hit_at» .entry)) (now (hit .entry)) (now («lap_at» .entry)) (now (lap .entry)) s) (now (other .entry)) «other_vc» edition) part (sideCount (given (now (outline .entry)) (now («hit_at» .entry)) (now (hit .entry)) (now («lap_at» .entry)) (now (lap .entry)) s))) (sideCount (given (now (outline .entry)) (now («hit_at» .entry)) (now (hit .entry)) (now («lap_at» .entry)) (now (lap .entry)) s)) (rooms (now («slice_at» .entry)) (now (slice .entry)) (now («slice_edition» .entry))) m r (rooms (now («slice_at» .exit)) (now (slice .exit)) (now («slice_edition» .exit))) ⌝ }
 {
-    let count = s.hits + 2 * s.laps;
-    if count <= 16 {
-        return kept_small(
+    if s.hits > 64 {
+        return kept_many(
             outline,
             other,
             other_vc,
@@ -308,7 +354,26 @@ pub fn kept(
             m,
         );
     }
-    if count <= 64 {
+    let count = s.hits + 2 * s.laps;
+    if count > 64 {
+        return kept_many(
+            outline,
+            other,
+            other_vc,
+            hit_at,
+            hit,
+            lap_at,
+            lap,
+            s,
+            edition,
+            part,
+            slice_at,
+            slice,
+            slice_edition,
+            m,
+        );
+    }
+    if count > 16 {
         return kept_few(
             outline,
             other,
@@ -326,7 +391,25 @@ pub fn kept(
             m,
         );
     }
-    kept_many(
+    if count > 8 {
+        return kept_small(
+            outline,
+            other,
+            other_vc,
+            hit_at,
+            hit,
+            lap_at,
+            lap,
+            s,
+            edition,
+            part,
+            slice_at,
+            slice,
+            slice_edition,
+            m,
+        );
+    }
+    kept_least(
         outline,
         other,
         other_vc,

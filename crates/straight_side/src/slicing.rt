@@ -80,7 +80,42 @@ fn candidates_with(
     walked(outline, cut_at, cut, splits, s, cand_at, cand, probe)
 }
 
-// The same by lists for 16 cuts, which cost little to set up; by lists for 64; and by lists for the most.
+// The same by lists for 8 cuts, which cost little to set up; by lists for 16; by lists for 64; and by lists for the most.
+fn candidates_least(
+    outline: &[f64],
+    hit_at: &[usize],
+    hit: &[f64],
+    lap_at: &[usize],
+    lap: &[f64],
+    s: Case,
+    cand_at: &mut [usize],
+    cand: &mut [f64],
+    probe: &mut [f64],
+) -> usize
+    requires { ⌜ CandsFew 8 (given (now outline) (now «hit_at») (now hit) (now «lap_at») (now lap) s) (rooms (now «cand_at») (now cand) (now probe)) ⌝ }
+    ensures { λ r. ⌜ Written (alongStraight (given (now (outline .entry)) (now («hit_at» .entry)) (now (hit .entry)) (now («lap_at» .entry)) (now (lap .entry)) s)) (rooms (now («cand_at» .entry)) (now (cand .entry)) (now (probe .entry))) r (rooms (now («cand_at» .exit)) (now (cand .exit)) (now (probe .exit))) ⌝ }
+{
+    let mut order = [0usize; 8];
+    let mut cut_at = [0usize; 24];
+    let mut cut = [0.0f64; 16];
+    let mut splits = [0.0f64; 72];
+    candidates_with(
+        outline,
+        hit_at,
+        hit,
+        lap_at,
+        lap,
+        s,
+        &mut order,
+        &mut cut_at,
+        &mut cut,
+        &mut splits,
+        cand_at,
+        cand,
+        probe,
+    )
+}
+
 fn candidates_small(
     outline: &[f64],
     hit_at: &[usize],
@@ -186,7 +221,7 @@ fn candidates_many(
     )
 }
 
-// The candidates of one outline whose cuts are accepted.
+// The candidates of one outline whose cuts are accepted. The call with the largest lists stands twice, as in `keeping`.
 pub(crate) fn candidates(
     outline: &[f64],
     hit_at: &[usize],
@@ -201,12 +236,18 @@ pub(crate) fn candidates(
     requires { ⌜ CandsRoom (given (now outline) (now «hit_at») (now hit) (now «lap_at») (now lap) s) (rooms (now «cand_at») (now cand) (now probe)) ⌝ }
     ensures { λ r. ⌜ Written (alongStraight (given (now (outline .entry)) (now («hit_at» .entry)) (now (hit .entry)) (now («lap_at» .entry)) (now (lap .entry)) s)) (rooms (now («cand_at» .entry)) (now (cand .entry)) (now (probe .entry))) r (rooms (now («cand_at» .exit)) (now (cand .exit)) (now (probe .exit))) ⌝ }
 {
-    let count = s.hits + 2 * s.laps;
-    if count <= 16 {
-        return candidates_small(outline, hit_at, hit, lap_at, lap, s, cand_at, cand, probe);
+    if s.hits > 64 {
+        return candidates_many(outline, hit_at, hit, lap_at, lap, s, cand_at, cand, probe);
     }
-    if count <= 64 {
+    let count = s.hits + 2 * s.laps;
+    if count > 64 {
+        return candidates_many(outline, hit_at, hit, lap_at, lap, s, cand_at, cand, probe);
+    }
+    if count > 16 {
         return candidates_few(outline, hit_at, hit, lap_at, lap, s, cand_at, cand, probe);
     }
-    candidates_many(outline, hit_at, hit, lap_at, lap, s, cand_at, cand, probe)
+    if count > 8 {
+        return candidates_small(outline, hit_at, hit, lap_at, lap, s, cand_at, cand, probe);
+    }
+    candidates_least(outline, hit_at, hit, lap_at, lap, s, cand_at, cand, probe)
 }

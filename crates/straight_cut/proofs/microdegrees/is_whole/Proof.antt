@@ -4,7 +4,7 @@ use lib.Ieee.{ofBits, neg, ofInt, binary64}
 use mir.Facts.{toZ-ofZ}
 use borrow.Author.Needs.{needs}
 use Rattle.straight_entries.specs.Range.{inReach}
-use Rattle.straight_cut.specs.MicrodegreesLaws.{whole-yes, whole-no, whole-above, whole-below}
+use Rattle.straight_cut.specs.MicrodegreesLaws.{near-yes, whole-near, whole-far, whole-above, whole-below}
 use Rattle.straight_cut.proofs.microdegrees.is_whole.Statement.{statement}
 use Rattle.straight_cut.proofs.microdegrees.is_whole.Tie as tie
 
@@ -12,30 +12,29 @@ truncating-f64-to-i64-requires : tie.Need-truncating-f64-to-i64-requires
 unfolding ofBits neg
 truncating-f64-to-i64-requires c κs = (subst T (sym (c .before .if1 .taken)) tt, subst T (sym (c .if2 .taken)) tt)
 
-nearest-i64-to-f64-requires : tie.Need-nearest-i64-to-f64-requires
-nearest-i64-to-f64-requires c κs = search needs
-
 near-vertex-requires : tie.Need-near-vertex-requires
 near-vertex-requires c κs = search needs
+
+float-of-requires : tie.Need-float-of-requires
+float-of-requires c κs = near-yes _ _ (c .before .near-vertex .ensures) (c .if3 .taken)
 
 returns : tie.Need-returns
 unfolding ofBits neg
 returns c =
     let read = c .before .before .before in
     let z = read .truncating-f64-to-i64 in
-    let b = c .before .before .nearest-i64-to-f64 in
     let back = toZ-ofZ (record { sfits = z .ok }) in
-    whole-yes (read .before .before .before .args .x) (z .result) (b .result) (read .before .before .if1 .taken) (read .before .if2 .taken) (z .ensures) (b .ensures ∙ ap (ofInt binary64) back) _
-    (c .before .if3 .taken) (c .near-vertex .ensures ∙ ap (inReach 400000000) back)
+    whole-near (read .before .before .before .args .x) (z .result) (read .before .before .if1 .taken) (read .before .if2 .taken) (z .ensures) _
+    (c .before .before .near-vertex .ensures ∙ ap (inReach 400000000) back) (c .before .if3 .taken) _ (c .float-of .ensures ∙ ap (ofInt binary64) back)
 
 returns-2 : tie.Need-returns-2
 unfolding ofBits neg
 returns-2 c =
-    let z = c .before .before .truncating-f64-to-i64 in
-    let b = c .before .nearest-i64-to-f64 in
+    let read = c .before .before in
+    let z = read .truncating-f64-to-i64 in
     let back = toZ-ofZ (record { sfits = z .ok }) in
-    whole-no (c .before .before .before .before .before .args .x) (z .result) (b .result) (c .before .before .before .before .if1 .taken) (c .before .before .before .if2 .taken) (z .ensures)
-    (b .ensures ∙ ap (ofInt binary64) back) (c .if3 .left)
+    whole-far (read .before .before .before .args .x) (z .result) (read .before .before .if1 .taken) (read .before .if2 .taken) (z .ensures) _
+    (c .before .near-vertex .ensures ∙ ap (inReach 400000000) back) (c .if3 .left)
 
 returns-3 : tie.Need-returns-3
 unfolding ofBits neg
@@ -50,8 +49,8 @@ is-whole-spec =
     tie.close
     (tie.spec
     truncating-f64-to-i64-requires
-    nearest-i64-to-f64-requires
     near-vertex-requires
+    float-of-requires
     returns
     returns-2
     returns-3

@@ -1,22 +1,73 @@
-use mathlib.Core.Path.{_∙_}
+use mathlib.Core.Path.{refl, sym, ap, subst, _∙_}
+use lib.Dec.{T}
+use lib.Ieee.{ofBits, neg, ofInt, binary64}
+use mir.Facts.{toZ-ofZ}
 use borrow.Author.Needs.{needs}
-use Rattle.whole.specs.FitLaws.{got}
-use Rattle.straight_cut.specs.MicrodegreesLaws.{whole-reaches, value-yes, value-no}
+use Rattle.straight_entries.specs.Range.{inReach}
+use Rattle.straight_cut.specs.MicrodegreesLaws.{near-yes, whole-near, whole-far, whole-above, whole-below, value-yes, value-no}
 use Rattle.straight_cut.proofs.microdegrees.value_of.Statement.{statement}
 use Rattle.straight_cut.proofs.microdegrees.value_of.Tie as tie
 
-is-whole-requires : tie.Need-is-whole-requires
-is-whole-requires c κs = search needs
-
 truncating-f64-to-i64-requires : tie.Need-truncating-f64-to-i64-requires
-truncating-f64-to-i64-requires c κs = whole-reaches _ _ (c .before .is-whole .ensures) (c .if1 .taken)
+unfolding ofBits neg
+truncating-f64-to-i64-requires c κs = (subst T (sym (c .before .if1 .taken)) tt, subst T (sym (c .if2 .taken)) tt)
+
+near-vertex-requires : tie.Need-near-vertex-requires
+near-vertex-requires c κs = search needs
+
+float-of-requires : tie.Need-float-of-requires
+float-of-requires c κs = near-yes _ _ (c .before .near-vertex .ensures) (c .if3 .taken)
 
 returns : tie.Need-returns
-returns c = value-yes _ _ (c .before .before .is-whole .ensures) _ (c .before .if1 .taken) (let z = c .truncating-f64-to-i64 in got (z .result) (z .ok) ∙ z .ensures)
+unfolding ofBits neg
+returns c =
+    let read = c .before .before .before .before in
+    let z = read .truncating-f64-to-i64 in
+    let back = toZ-ofZ (record { sfits = z .ok }) in
+    value-yes (read .before .before .before .args .x) _
+    (whole-near (read .before .before .before .args .x) (z .result) (read .before .before .if1 .taken) (read .before .if2 .taken) (z .ensures) _
+    (c .before .before .before .near-vertex .ensures ∙ ap (inReach 400000000) back) (c .before .before .if3 .taken) _ (c .before .float-of .ensures ∙ ap (ofInt binary64) back))
+    _ (c .if4 .taken) (back ∙ z .ensures)
 
 returns-2 : tie.Need-returns-2
-returns-2 c = value-no _ _ (c .before .is-whole .ensures) (c .if1 .left)
+unfolding ofBits neg
+returns-2 c =
+    let read = c .before .before .before .before in
+    let z = read .truncating-f64-to-i64 in
+    let back = toZ-ofZ (record { sfits = z .ok }) in
+    value-no (read .before .before .before .args .x) _
+    (whole-near (read .before .before .before .args .x) (z .result) (read .before .before .if1 .taken) (read .before .if2 .taken) (z .ensures) _
+    (c .before .before .before .near-vertex .ensures ∙ ap (inReach 400000000) back) (c .before .before .if3 .taken) _ (c .before .float-of .ensures ∙ ap (ofInt binary64) back))
+    (c .if4 .left)
+
+returns-3 : tie.Need-returns-3
+unfolding ofBits neg
+returns-3 c =
+    let read = c .before .before in
+    let z = read .truncating-f64-to-i64 in
+    let back = toZ-ofZ (record { sfits = z .ok }) in
+    value-no _ _
+    (whole-far (read .before .before .before .args .x) (z .result) (read .before .before .if1 .taken) (read .before .if2 .taken) (z .ensures) _
+    (c .before .near-vertex .ensures ∙ ap (inReach 400000000) back) (c .if3 .left))
+    refl
+
+returns-4 : tie.Need-returns-4
+unfolding ofBits neg
+returns-4 c = value-no _ _ (whole-above (c .before .before .args .x) (c .before .if1 .taken) (c .if2 .left)) refl
+
+returns-5 : tie.Need-returns-5
+unfolding ofBits neg
+returns-5 c = value-no _ _ (whole-below (c .before .args .x) (c .if1 .left)) refl
 
 pub value-of-spec : {M : Type 1} → statement M
 value-of-spec =
-    tie.close (tie.spec is-whole-requires truncating-f64-to-i64-requires returns returns-2)
+    tie.close
+    (tie.spec
+    truncating-f64-to-i64-requires
+    near-vertex-requires
+    float-of-requires
+    returns
+    returns-2
+    returns-3
+    returns-4
+    returns-5)
