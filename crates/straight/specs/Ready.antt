@@ -5,8 +5,7 @@ use mathlib.Core.Path.{_≡_}
 use mathlib.Core.List.{List}
 use lib.Dec.{ltb}
 use lib.ListN.{length, getD}
-use lib.IntN.{ℤ, pos, negsuc, _*ℤ_}
-use lib.Signed.{leZ}
+use lib.IntN.{ℤ, pos, negsuc}
 use Rattle.outline.specs.Outline.{wrap}
 use Rattle.whole.specs.Fit.{Near}
 use Rattle.straight.specs.Plane.{Spot, left, spans, cross}
@@ -43,16 +42,6 @@ pub record Seen (l : List ℤ) (i j : ℕ) (x y : ℤ) : Type 0 where
   pub edge : Edge l i j
   pub x-ok : Near 800000000 x
   pub y-ok : Near 800000000 y
-
--- vertex i is not above y, both doubled
-abbrev pub low : List ℤ → ℕ → ℤ → Bool
-low l i y = leZ (pos 2 *ℤ getD l (2 * i + 1) (pos 0)) y
-
--- and of both ends of the edge it has been asked which are not
-pub record Asked (l : List ℤ) (i j : ℕ) (x y : ℤ) (from-low to-low : Bool) : Type 0 where
-  pub seen : Seen l i j x y
-  pub from-is : from-low ≡ low l i y
-  pub to-is : to-low ≡ low l j y
 
 -- an outline of n vertices that is accepted
 pub record Outline (l : List ℤ) (n : ℕ) : Type 0 where

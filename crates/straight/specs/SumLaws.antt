@@ -15,10 +15,7 @@ use Rattle.whole.specs.FitLaws.{as-near, mul-near, sub-near}
 use Rattle.basis.specs.Choice.{codeOf}
 use Rattle.straight.specs.Plane.{Spot, spots, crossing, spans, twice, cross, around, winding, area}
 use Rattle.straight.specs.PlaneTheorems.{left-turns, cross-turns}
-use Rattle.straight.specs.Ready.{Held, Edge, Seen, Asked, Outline, Probed, spotAt, low, next, rises, above, gain}
-use Rattle.straight.specs.EdgeLaws.{from-y}
-use Rattle.outline.specs.Outline.{wrap}
-use Rattle.outline.specs.OutlineLaws.{wrap-same}
+use Rattle.straight.specs.Ready.{Edge, Seen, Outline, Probed, spotAt, next, rises, above, gain}
 use Rattle.straight.specs.PartLaws.{Part, same-part, part-more, edge-on, edge-back}
 
 -- the probe as it is read back
@@ -48,14 +45,6 @@ pub wound : (l : List ℤ) {x y x' y' : ℤ} → x' ≡ x → y' ≡ y → aroun
 unfolding winding
 wound l e f = λ i. winding (spots l) (record { x = e i; y = f i })
 
--- ---- the first vertex
-module _ {l : List ℤ} {n : ℕ} (o : Outline l n) where
-  pub held-first : Held l (2 * 0 + 1)
-  held-first = record { inside = omega (arith, o .long, o .least); close = o .close 1 }
-
-  pub low-first : (y : ℤ) {b : Bool} → b ≡ low l 0 y → b ≡ low l (wrap n 0) y
-  low-first y f = f ∙ ap (λ (k : ℕ). low l k y) (sym (wrap-same n 0 (omega (arith, o .least))))
-
 -- ---- one turn of the loop
 module _ {l : List ℤ} {n i j : ℕ} {x y : ℤ} (q : Probed l n x y) (h : i < n) (e : j ≡ next i n) where
   pub seen-on : Seen l i j x y
@@ -63,20 +52,6 @@ module _ {l : List ℤ} {n i j : ℕ} {x y : ℤ} (q : Probed l n x y) (h : i < 
 
   pub seen-back : Seen l j i x y
   seen-back = record { edge = subst (λ (k : ℕ). Edge l k i) (sym e) (edge-back (q .outline) i h); x-ok = q .x-ok; y-ok = q .y-ok }
-
-  -- which ends of the edge are not above y
-  pub asked-on : {a b : Bool} → a ≡ low l (wrap n i) y → b ≡ low l j y → Asked l i j x y a b
-  asked-on f g = record { seen = seen-on; from-is = f ∙ ap (λ (k : ℕ). low l k y) (wrap-same n i h); to-is = g }
-
-  pub asked-back : {a b : Bool} → a ≡ low l (wrap n i) y → b ≡ low l j y → Asked l j i x y b a
-  asked-back f g = record { seen = seen-back; from-is = g; to-is = f ∙ ap (λ (k : ℕ). low l k y) (wrap-same n i h) }
-
-  pub held-next : Held l (2 * j + 1)
-  held-next = from-y (seen-back .edge)
-
-  pub low-next : {b : Bool} → b ≡ low l j y → b ≡ low l (wrap n (i + 1)) y
-  unfolding next
-  low-next g = g ∙ ap (λ (k : ℕ). low l k y) e
 
   pub wind-more : {up down u d : ℕ} → Part (winds (record { x = x; y = y })) 1 l i up down
       → u ≡ rise (record { x = x; y = y }) (spotAt l i) (spotAt l j) → d ≡ rise (record { x = x; y = y }) (spotAt l j) (spotAt l i)

@@ -1,11 +1,10 @@
 // One edge of an outline: which side a probe is on, and what it adds to the area.
 use whole::signed;
 ghost use mathlib.Core.Path.{_≡_};
-ghost use Prim.Native.Nat.{_+_, _*_};
 ghost use lib.IntN.{pos, _-ℤ_, _*ℤ_};
 ghost use lib.ListN.{getD};
-ghost use Rattle.straight.specs.Plane.{left, cross, twice};
-ghost use Rattle.straight.specs.Ready.{Four, Six, Held, Edge, Seen, Asked, spotAt, low, rises, gain};
+ghost use Rattle.straight.specs.Plane.{left, spans, cross, twice};
+ghost use Rattle.straight.specs.Ready.{Four, Six, Held, Edge, Seen, spotAt, rises, gain};
 
 // a b - c d, of numbers whose products fit.
 fn gap(a: i64, b: i64, c: i64, d: i64) -> i64
@@ -31,12 +30,16 @@ fn doubled(l: &[i64], k: usize) -> i64
     2 * l[k]
 }
 
-// Whether vertex i is not above y, both doubled.
-pub(crate) fn low_at(l: &[i64], i: usize, y: i64) -> bool
-    requires { ⌜ Held (now l) (2 * i + 1) ⌝ }
-    ensures { λ r. ⌜ r ≡ low (now (l .entry)) i y ⌝ }
+// Whether the edge from vertex i to vertex j rises past y: y1 ≤ y < y2, all doubled.
+fn spans_at(l: &[i64], i: usize, j: usize, x: i64, y: i64) -> bool
+    requires { ⌜ Seen (now l) i j x y ⌝ }
+    ensures { λ r. ⌜ r ≡ spans (twice (spotAt (now (l .entry)) i)) (twice (spotAt (now (l .entry)) j)) (record { x = x; y = y }) ⌝ }
 {
-    signed::at_most(doubled(l, 2 * i + 1), y)
+    if signed::at_most(doubled(l, 2 * i + 1), y) {
+        signed::below(y, doubled(l, 2 * j + 1))
+    } else {
+        false
+    }
 }
 
 // Whether (x, y) is strictly left of it.
@@ -51,26 +54,16 @@ fn left_at(l: &[i64], i: usize, j: usize, x: i64, y: i64) -> bool
     signed::below(0, side_of(ax, ay, bx, by, x, y))
 }
 
-// Whether the edge from vertex i to vertex j rises past y, y1 ≤ y < y2, with (x, y) strictly left of it. Which of its ends is not above y has been asked.
-pub(crate) fn rises_at(
-    l: &[i64],
-    i: usize,
-    j: usize,
-    x: i64,
-    y: i64,
-    from_low: bool,
-    to_low: bool,
-) -> bool
-    requires { ⌜ Asked (now l) i j x y «from_low» «to_low» ⌝ }
+// Whether it rises past y with (x, y) strictly left of it.
+pub(crate) fn rises_at(l: &[i64], i: usize, j: usize, x: i64, y: i64) -> bool
+    requires { ⌜ Seen (now l) i j x y ⌝ }
     ensures { λ r. ⌜ r ≡ rises (record { x = x; y = y }) (twice (spotAt (now (l .entry)) i)) (twice (spotAt (now (l .entry)) j)) ⌝ }
 {
-    if !from_low {
-        return false;
+    if spans_at(l, i, j, x, y) {
+        left_at(l, i, j, x, y)
+    } else {
+        false
     }
-    if to_low {
-        return false;
-    }
-    left_at(l, i, j, x, y)
 }
 
 // What the edge from vertex i to vertex j adds to the doubled area.

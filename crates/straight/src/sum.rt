@@ -43,14 +43,11 @@ pub fn winding_of(l: &[i64], n: usize, x: i64, y: i64) -> i64
 {
     let mut up: u64 = 0;
     let mut down: u64 = 0;
-    let mut low = edge::low_at(l, 0, y);
     let mut i: usize = 0;
     while i < n {
         let j = after(i, n);
-        let next_low = edge::low_at(l, j, y);
-        up += code_of(edge::rises_at(l, i, j, x, y, low, next_low));
-        down += code_of(edge::rises_at(l, j, i, x, y, next_low, low));
-        low = next_low;
+        up += code_of(edge::rises_at(l, i, j, x, y));
+        down += code_of(edge::rises_at(l, j, i, x, y));
         i += 1;
     }
     balance(up, down)

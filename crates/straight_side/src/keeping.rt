@@ -316,7 +316,7 @@ fn kept_many(
     )
 }
 
-// Writes the slices of one outline from number m on, and says where they end. The call with the largest lists stands twice, so that the compiler leaves it a function and a small mask does not pay for its stack.
+// Writes the slices of one outline from number m on, and says where they end.
 pub fn kept(
     outline: &[f64],
     other: &[f64],

@@ -221,7 +221,7 @@ fn candidates_many(
     )
 }
 
-// The candidates of one outline whose cuts are accepted. The call with the largest lists stands twice, as in `keeping`.
+// The candidates of one outline whose cuts are accepted.
 pub(crate) fn candidates(
     outline: &[f64],
     hit_at: &[usize],

@@ -1,31 +1,34 @@
-use mathlib.Core.Path.{_∙_}
+use mathlib.Core.Path.{_∙_, sym}
+use mathlib.Core.Bool.{_&&_}
 use mir.Facts.{toZ-ofZ}
-use Rattle.straight.specs.Plane.{left, twice}
+use Rattle.straight.specs.Plane.{left, spans, twice}
 use Rattle.straight.specs.Ready.{spotAt}
-use Rattle.straight.specs.EdgeLaws.{rises-not, rises-under, rises-past}
 use denote.Ref.{now}
-use borrow.Author.Tests.{not-true, not-false}
 use borrow.Author.Needs.{needs}
 use Rattle.straight.proofs.edge.rises_at.Statement.{statement}
 use Rattle.straight.proofs.edge.rises_at.Tie as tie
 
-returns : tie.Need-returns
-returns c = rises-not (c .before .pre) (not-true _ (c .if1 .taken))
-
-returns-2 : tie.Need-returns-2
-returns-2 c = rises-under (c .before .before .pre) (not-false _ (c .before .if1 .left)) (c .if2 .taken)
+spans-at-requires : tie.Need-spans-at-requires
+spans-at-requires c κs = search needs
 
 left-at-requires : tie.Need-left-at-requires
 left-at-requires c κs = search needs
 
-returns-3 : tie.Need-returns-3
-returns-3 c =
+returns : tie.Need-returns
+returns c =
     let s = c .before .before .before in
     let a = twice (spotAt (now (s .args .l)) (s .args .i)) in
     let b = twice (spotAt (now (s .args .l)) (s .args .j)) in
     c .left-at .ensures
     ∙ (λ i. left a b (record { x = toZ-ofZ (s .fits .x) i; y = toZ-ofZ (s .fits .y) i }))
-    ∙ rises-past (s .pre) (not-false _ (c .before .before .if1 .left)) (c .before .if2 .left)
+    ∙ (λ i. (sym (c .before .if1 .taken) ∙ c .before .before .spans-at .ensures ∙ (λ i. spans a b (record { x = toZ-ofZ (s .fits .x) i; y = toZ-ofZ (s .fits .y) i }))) i && left a b (record { x = s .args .x; y = s .args .y }))
+
+returns-2 : tie.Need-returns-2
+returns-2 c =
+    let s = c .before .before in
+    let a = twice (spotAt (now (s .args .l)) (s .args .i)) in
+    let b = twice (spotAt (now (s .args .l)) (s .args .j)) in
+    λ i. (sym (c .if1 .left) ∙ c .before .spans-at .ensures ∙ (λ i. spans a b (record { x = toZ-ofZ (s .fits .x) i; y = toZ-ofZ (s .fits .y) i }))) i && left a b (record { x = s .args .x; y = s .args .y })
 
 pub rises-at-spec : {M : Type 1} → statement M
-rises-at-spec = tie.close (tie.spec returns returns-2 left-at-requires returns-3)
+rises-at-spec = tie.close (tie.spec spans-at-requires left-at-requires returns returns-2)

@@ -1,6 +1,6 @@
 use Prim.Native.Nat.{_≤_, _-_}
 use native.Mathlib.Omega.{arith}
-use mathlib.Core.Path.{_≡_, _∙_, ap}
+use mathlib.Core.Path.{_∙_, ap}
 use mir.Syntax.{w64}
 use mir.Val.{toZ, ofZ}
 use mir.Facts.{toZ-ofZ}
@@ -9,58 +9,49 @@ use denote.Ref.{now}
 use Rattle.whole.specs.FitLaws.{got}
 use Rattle.basis.specs.Choice.{codeOf}
 use Rattle.straight.specs.PartLaws.{Part, part-none, part-end}
-use Rattle.straight.specs.Ready.{Probed, low}
-use Rattle.outline.specs.Outline.{wrap}
-use Rattle.straight.specs.SumLaws.{winds, code-most, probed-as, held-first, low-first, held-next, low-next, asked-on, asked-back, wind-more, wound}
+use Rattle.straight.specs.Ready.{Probed}
+use Rattle.straight.specs.SumLaws.{winds, code-most, probed-as, seen-on, seen-back, wind-more, wound}
 use Rattle.straight.proofs.sum.winding_of.Statement.{statement}
 use Rattle.straight.proofs.sum.winding_of.Tie as tie
 
 abbrev Inv-loop : tie.InvT-loop
-Inv-loop l n x y up₀ down₀ low₀ i₀ up down lowNow i =
-    (i ≤ n) × (Part (winds (record { x = toZ w64 x; y = toZ w64 y })) 1 l i up down × (lowNow ≡ low l (wrap n i) (toZ w64 y)))
+Inv-loop l n x y up₀ down₀ i₀ up down i = (i ≤ n) × Part (winds (record { x = toZ w64 x; y = toZ w64 y })) 1 l i up down
 
 abbrev μ-loop : tie.MeasureT-loop
-μ-loop l n x y up₀ down₀ low₀ i₀ up down lowNow i = n - i
+μ-loop l n x y up₀ down₀ i₀ up down i = n - i
 
 -- the probe as the loop reads it back
 probed : (s : tie.Start Inv-loop μ-loop) → Probed (now (s .args .l)) (s .args .n) (toZ w64 (ofZ w64 (s .args .x))) (toZ w64 (ofZ w64 (s .args .y)))
 probed s = probed-as (toZ-ofZ (s .fits .x)) (toZ-ofZ (s .fits .y)) (s .pre)
 
-low-at-requires : tie.Need-low-at-requires Inv-loop μ-loop
-low-at-requires c κs = held-first (c .pre .outline)
-
 loop-holds : tie.Need-loop-holds Inv-loop μ-loop
-loop-holds c = (search needs, (part-none (winds _) 1 (c .before .pre .outline), low-first (c .before .pre .outline) _ (c .low-at .ensures)))
+loop-holds c = (search needs, part-none (winds _) 1 (c .pre .outline))
 
 after-requires : tie.Need-after-requires Inv-loop μ-loop
 after-requires c κs = c .loop-test .taken
 
-low-at-requires-2 : tie.Need-low-at-requires-2 Inv-loop μ-loop
-low-at-requires-2 c κs = held-next (probed (c .before .before .before .before)) (c .before .loop-test .taken) (c .after .ensures)
-
 rises-at-requires : tie.Need-rises-at-requires Inv-loop μ-loop
-rises-at-requires c κs = asked-on (probed (c .before .before .before .before .before)) (c .before .before .loop-test .taken) (c .before .after .ensures) (c .before .before .before .loop .inv .1 .1) (c .low-at2 .ensures)
+rises-at-requires c κs = seen-on (probed (c .before .before .before)) (c .before .loop-test .taken) (c .after .ensures)
 
 code-of-requires : tie.Need-code-of-requires Inv-loop μ-loop
 code-of-requires c κs = search needs
 
 add-up : tie.Need-add-up Inv-loop μ-loop
 add-up c =
-    let k = c .before .before .before .before .before in
-    record { fits = omega (arith, k .loop .inv .1 .0 .up-most, k .before .before .pre .outline .most, c .code-of .ensures, code-most (c .before .rises-at .result)) }
+    let k = c .before .before .before .before in
+    record { fits = omega (arith, k .loop .inv .1 .up-most, k .before .pre .outline .most, c .code-of .ensures, code-most (c .before .rises-at .result)) }
 
 rises-at-requires-2 : tie.Need-rises-at-requires-2 Inv-loop μ-loop
 rises-at-requires-2 c κs =
-    asked-back (probed (c .before .before .before .before .before .before .before)) (c .before .before .before .before .loop-test .taken) (c .before .before .before .after .ensures) (c .before .before .before .before .before .loop .inv .1 .1)
-    (c .before .before .low-at2 .ensures)
+    seen-back (probed (c .before .before .before .before .before)) (c .before .before .before .loop-test .taken) (c .before .before .after .ensures)
 
 code-of-requires-2 : tie.Need-code-of-requires-2 Inv-loop μ-loop
 code-of-requires-2 c κs = search needs
 
 add-down : tie.Need-add-down Inv-loop μ-loop
 add-down c =
-    let k = c .before .before .before .before .before .before .before in
-    record { fits = omega (arith, k .loop .inv .1 .0 .down-most, k .before .before .pre .outline .most, c .code-of2 .ensures, code-most (c .before .rises-at2 .result)) }
+    let k = c .before .before .before .before .before .before in
+    record { fits = omega (arith, k .loop .inv .1 .down-most, k .before .pre .outline .most, c .code-of2 .ensures, code-most (c .before .rises-at2 .result)) }
 
 add-i : tie.Need-add-i Inv-loop μ-loop
 add-i c = omega arith
@@ -70,27 +61,24 @@ loop-less c = omega arith
 
 loop-again : tie.Need-loop-again Inv-loop μ-loop
 loop-again c =
-    let k = c .before .before .before .before .before .before .before .loop in
-    let q = probed (c .before .before .before .before .before .before .before .before .before) in
-    let h = c .before .before .before .before .before .before .loop-test .taken in
-    let e = c .before .before .before .before .before .after .ensures in (
+    let k = c .before .before .before .before .before .before .loop in
+    let j = c .before .before .before .before .after in (
       omega arith,
-      (
-        wind-more q h e (k .inv .1 .0) (c .before .before .code-of .ensures ∙ ap codeOf (c .before .before .before .rises-at .ensures)) (c .code-of2 .ensures ∙ ap codeOf (c .before .rises-at2 .ensures)),
-        low-next q h e (c .before .before .before .before .low-at2 .ensures),
-      ),
+      wind-more (probed (c .before .before .before .before .before .before .before)) (c .before .before .before .before .before .loop-test .taken) (j .ensures) (k .inv .1)
+          (c .before .before .code-of .ensures ∙ ap codeOf (c .before .before .before .rises-at .ensures))
+          (c .code-of2 .ensures ∙ ap codeOf (c .before .rises-at2 .ensures)),
     )
 
 balance-requires : tie.Need-balance-requires Inv-loop μ-loop
 balance-requires c κs =
     let k = c .before in
-    record { up-most = omega (arith, k .loop .inv .1 .0 .up-most, k .before .before .pre .outline .most); down-most = omega (arith, k .loop .inv .1 .0 .down-most, k .before .before .pre .outline .most) }
+    record { up-most = omega (arith, k .loop .inv .1 .up-most, k .before .pre .outline .most); down-most = omega (arith, k .loop .inv .1 .down-most, k .before .pre .outline .most) }
 
 returns : tie.Need-returns Inv-loop μ-loop
 returns c =
-    let s = c .before .before .before .before in
+    let s = c .before .before .before in
     got (c .balance .result) (c .balance .ok) ∙ c .balance .ensures
-    ∙ part-end (winds _) 1 (s .pre .outline) (c .before .before .loop .inv .1 .0) (c .before .loop-test .left)
+    ∙ part-end (winds _) 1 (s .pre .outline) (c .before .before .loop .inv .1) (c .before .loop-test .left)
     ∙ wound (now (s .args .l)) (toZ-ofZ (s .fits .x)) (toZ-ofZ (s .fits .y))
 
 pub winding-of-spec : {M : Type 1} → statement M
@@ -99,10 +87,8 @@ winding-of-spec =
     (tie.spec
     Inv-loop
     μ-loop
-    low-at-requires
     loop-holds
     after-requires
-    low-at-requires-2
     rises-at-requires
     code-of-requires
     add-up
