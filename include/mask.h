@@ -104,8 +104,9 @@ extern "C" {
  * Stack: how many bytes a call takes at most, whatever the input; with its return address,
  * without its arguments. It was read off the machine code of the archive for x86-64, along
  * every way through each function (host/stack), rounded up, and compared with what calls
- * with the largest inputs took of a painted stack (host/c/header_test.c). Not counted are
- * memset and memcpy themselves and a dynamic linker that looks for them at a first call.
+ * with the largest inputs took of a painted stack (host/c/header_test.c); such calls are also
+ * made on a thread with just that (host/storm/stack.c). Not counted are memset and memcpy
+ * themselves and a dynamic linker that looks for them at a first call.
  */
 #define MASK_STACK_VIEW_VERTEX 512
 #define MASK_STACK_VIEW_VERTICES 512

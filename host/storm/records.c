@@ -81,7 +81,7 @@ static size_t write_record(uint8_t *to, uint32_t version, const stitching *s)
 
 /* ---- The stitch's refusals with the program's mosts: 1 2 3 4 5 6 7 8 14 ---- */
 
-/* The lists' lengths are right; `counted`: 1 and 2 were looked at. */
+/* The lists' lengths are right. `differ_is_bad`: two tolerances that differ are 4, as for version 1. */
 static uint32_t content_refusal(const stitching *s, bool differ_is_bad)
 {
     if (s->slices > 28)

@@ -29,7 +29,7 @@ void begin_settings(void)
     }
 }
 
-/* The plain list is what the record's copy holds: a check of the judge and of the history. */
+/* Now and then a list of another length, which is 1. */
 static void lend_record(void)
 {
     LEN(ENTERED) = 1;

@@ -119,7 +119,7 @@ void storm_put(void)
     LEN(PUT) = 6;
     knob_list(PUT_AT, 4);
     knob_list(PUT, 6);
-    if (rarely(8))
+    if (rarely(8)) /* most histories go on; knobs that are left over touch these two lists alone */
         spoil();
     mask_handle_answer a = mask_store_put(STORED, party, READ(PUT_AT), READ(PUT), of);
     say(a.refusal);
