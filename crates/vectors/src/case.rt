@@ -1,9 +1,9 @@
 // A case: its words in every form, and the entry that it is of.
-use vectors_lists::lists;
-use vectors_views::starts;
-use vectors_views::views;
-use vectors_words::bits;
-use vectors_words::words;
+use crate::bits;
+use crate::lists;
+use crate::starts;
+use crate::views;
+use crate::words;
 
 // Replays a case of an entry over its words; the mutable lists are copies of them to be lent.
 fn replay(

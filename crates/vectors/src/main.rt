@@ -1,8 +1,11 @@
 // Replays the recorded answers of the original, data/vectors.bin, through the exported entries. oracle/RECORD.md says what stands in the file.
+mod bits;
 mod case;
+mod lists;
+mod starts;
 mod tally;
-
-use vectors_words::bits;
+mod views;
+mod words;
 
 // Reads so many bytes into a list that is as long: yes where they were all there.
 fn filled(fd: i32, buf: &mut [u8]) -> bool {

@@ -1,6 +1,6 @@
 // How many cases of each entry there were, and how many of them differ.
+use crate::bits;
 use libc::STDOUT_FILENO;
-use vectors_words::bits;
 
 // Below these places the counts of the entries stand, by their numbers in the record.
 const ALL: usize = 32;

@@ -1,14 +1,14 @@
 // The entries that write lists. Each gets copies of the case's words as the lists that it is lent: a list stands in its copy at its own place.
+use crate::words;
 use select::class::Starts;
 use stitch_entries::answer::StitchAnswer;
-use vectors_words::words;
 
 fn is_count_answer(w: &[usize], refusal: u32, count: usize) -> bool {
     words::code_at(w, 0) == refusal && words::at(w, 1) == count
 }
 
 // What the two entries over cuts have in common begins with the outline: vc and source stand behind it, then six places that lead on to the tolerance.
-pub fn cut_order(w: &[usize], x: &[f64], c1: &mut [usize], x1: &mut [f64]) -> bool {
+pub(crate) fn cut_order(w: &[usize], x: &[f64], c1: &mut [usize], x1: &mut [f64]) -> bool {
     let p = words::behind(w, 1);
     let hit_at = words::after(w, p, 2);
     let hit = words::behind(w, hit_at);
@@ -40,7 +40,7 @@ pub fn cut_order(w: &[usize], x: &[f64], c1: &mut [usize], x1: &mut [f64]) -> bo
         && words::left_numbers(w, x1, cut, words::left_behind(w, at, left))
 }
 
-pub fn candidates(
+pub(crate) fn candidates(
     w: &[usize],
     x: &[f64],
     c1: &mut [usize],
@@ -96,7 +96,7 @@ fn is_prune_answer(w: &[usize], refusal: u32, slices: usize, starts: Starts) -> 
         && words::at(w, 4) == starts.pline2_overlapping
 }
 
-pub fn prune(w: &[usize], x: &[f64], b: &[u8], c1: &mut [usize], x1: &mut [f64]) -> bool {
+pub(crate) fn prune(w: &[usize], x: &[f64], b: &[u8], c1: &mut [usize], x1: &mut [f64]) -> bool {
     let cand1 = words::behind(w, 5);
     let inside1 = words::behind(w, cand1);
     let count1 = words::behind(w, inside1);
@@ -191,7 +191,7 @@ fn slices_place(w: &[usize]) -> usize {
     words::behind(w, words::behind(w, slice_at))
 }
 
-pub fn stitch(
+pub(crate) fn stitch(
     w: &[usize],
     x: &[f64],
     x1: &mut [f64],
@@ -259,7 +259,7 @@ fn stitch_by(
         && left_chains(w, ends, words::left_behind(w, room, left), c1, c2, c3, c4)
 }
 
-pub fn area_pass(w: &[usize], x: &[f64], c1: &mut [usize]) -> bool {
+pub(crate) fn area_pass(w: &[usize], x: &[f64], c1: &mut [usize]) -> bool {
     let loops = words::behind(w, 1);
     let kept = words::after(w, loops, 2);
     let end = words::behind(w, kept);

@@ -1,21 +1,21 @@
 // The entries over views: the words of a case as their inputs, and what they answer beside what it says.
+use crate::words;
 use outline::point::Point;
 use outline::point::Vertex;
-use vectors_words::words;
 use verdict_entries::answer::VerdictAnswer;
 use view_entries::answer::VertexAnswer;
 use view_entries::answer::ViewAnswer;
 use view_entries::input::Split;
 use view_entries::input::View;
 
-pub fn point(x: &[f64]) -> Point {
+pub(crate) fn point(x: &[f64]) -> Point {
     Point {
         x: words::float_at(x, 0),
         y: words::float_at(x, 1),
     }
 }
 
-pub fn vertex(x: &[f64]) -> Vertex {
+pub(crate) fn vertex(x: &[f64]) -> Vertex {
     Vertex {
         x: words::float_at(x, 0),
         y: words::float_at(x, 1),
@@ -23,7 +23,7 @@ pub fn vertex(x: &[f64]) -> Vertex {
     }
 }
 
-pub fn split(x: &[f64]) -> Split {
+pub(crate) fn split(x: &[f64]) -> Split {
     Split {
         updated_start: vertex(x),
         split_vertex: vertex(words::floats_from(x, 3)),
@@ -66,7 +66,7 @@ fn is_vertex_answer(w: &[usize], r: VertexAnswer) -> bool {
         && is_vertex(words::from(w, 2), r.vertex)
 }
 
-pub fn is_view_answer(w: &[usize], r: ViewAnswer) -> bool {
+pub(crate) fn is_view_answer(w: &[usize], r: ViewAnswer) -> bool {
     words::code_at(w, 0) == r.refusal
         && words::code_at(w, 1) == r.found
         && is_view(words::from(w, 2), r.view)
@@ -83,7 +83,7 @@ fn is_verdict_answer(w: &[usize], r: VerdictAnswer) -> bool {
         && words::same(words::at(w, 10), r.expected)
 }
 
-pub fn view_vertex(w: &[usize], x: &[f64]) -> bool {
+pub(crate) fn view_vertex(w: &[usize], x: &[f64]) -> bool {
     let outline = words::numbers(w, x, 1);
     let p = words::behind(w, 1);
     let r = words::from(w, p);
@@ -93,7 +93,7 @@ pub fn view_vertex(w: &[usize], x: &[f64]) -> bool {
     is_vertex_answer(words::from(r, 11), answer)
 }
 
-pub fn create(w: &[usize], x: &[f64]) -> bool {
+pub(crate) fn create(w: &[usize], x: &[f64]) -> bool {
     let outline = words::numbers(w, x, 1);
     let p = words::behind(w, 1);
     let r = words::from(w, p);
@@ -114,7 +114,7 @@ pub fn create(w: &[usize], x: &[f64]) -> bool {
     is_view_answer(words::from(r, 16), answer)
 }
 
-pub fn create_on_single_segment(w: &[usize], x: &[f64]) -> bool {
+pub(crate) fn create_on_single_segment(w: &[usize], x: &[f64]) -> bool {
     let outline = words::numbers(w, x, 1);
     let p = words::behind(w, 1);
     let r = words::from(w, p);
@@ -131,7 +131,7 @@ pub fn create_on_single_segment(w: &[usize], x: &[f64]) -> bool {
     is_view_answer(words::from(r, 8), answer)
 }
 
-pub fn from_entire_pline(w: &[usize], x: &[f64]) -> bool {
+pub(crate) fn from_entire_pline(w: &[usize], x: &[f64]) -> bool {
     let outline = words::numbers(w, x, 1);
     let r = words::from(w, words::behind(w, 1));
     let answer = mask::viewing::mask_from_entire_pline(
@@ -142,7 +142,7 @@ pub fn from_entire_pline(w: &[usize], x: &[f64]) -> bool {
     is_view_answer(words::from(r, 2), answer)
 }
 
-pub fn validate_for_source(w: &[usize], x: &[f64]) -> bool {
+pub(crate) fn validate_for_source(w: &[usize], x: &[f64]) -> bool {
     let outline = words::numbers(w, x, 1);
     let p = words::behind(w, 1);
     let r = words::from(w, p);

@@ -1,7 +1,7 @@
 // The words of a case: as whole numbers, as floats, as bytes; parts of them; what they are compared with.
 
 // Word i, and 0 beyond the end.
-pub fn at(w: &[usize], i: usize) -> usize {
+pub(crate) fn at(w: &[usize], i: usize) -> usize {
     if i < w.len() {
         return w[i];
     }
@@ -9,7 +9,7 @@ pub fn at(w: &[usize], i: usize) -> usize {
 }
 
 // The same as a float.
-pub fn float_at(x: &[f64], i: usize) -> f64 {
+pub(crate) fn float_at(x: &[f64], i: usize) -> f64 {
     if i < x.len() {
         return x[i];
     }
@@ -17,7 +17,7 @@ pub fn float_at(x: &[f64], i: usize) -> f64 {
 }
 
 // Word i as a code. One that is too large for a code is turned into the largest.
-pub fn code_at(w: &[usize], i: usize) -> u32 {
+pub(crate) fn code_at(w: &[usize], i: usize) -> u32 {
     let n = at(w, i);
     if n > 4294967295 {
         return 4294967295;
@@ -26,7 +26,7 @@ pub fn code_at(w: &[usize], i: usize) -> u32 {
 }
 
 // The place k words after place p, and the end where it is beyond.
-pub fn after(w: &[usize], p: usize, k: usize) -> usize {
+pub(crate) fn after(w: &[usize], p: usize, k: usize) -> usize {
     if p > w.len() {
         return w.len();
     }
@@ -37,16 +37,16 @@ pub fn after(w: &[usize], p: usize, k: usize) -> usize {
 }
 
 // What stands there, as a code and as a float.
-pub fn code_after(w: &[usize], p: usize, k: usize) -> u32 {
+pub(crate) fn code_after(w: &[usize], p: usize, k: usize) -> u32 {
     code_at(from(w, p), k)
 }
 
-pub fn float_after(x: &[f64], p: usize, k: usize) -> f64 {
+pub(crate) fn float_after(x: &[f64], p: usize, k: usize) -> f64 {
     float_at(floats_from(x, p), k)
 }
 
 // The place behind the list at place p: its length stands first. A list that is too long ends the case.
-pub fn behind(w: &[usize], p: usize) -> usize {
+pub(crate) fn behind(w: &[usize], p: usize) -> usize {
     let n = at(w, p);
     if p >= w.len() {
         return w.len();
@@ -58,7 +58,7 @@ pub fn behind(w: &[usize], p: usize) -> usize {
 }
 
 // The list at place p, as each kind of element.
-pub fn counts<'a>(w: &[usize], c: &'a [usize], p: usize) -> &'a [usize] {
+pub(crate) fn counts<'a>(w: &[usize], c: &'a [usize], p: usize) -> &'a [usize] {
     let e = behind(w, p);
     if e > c.len() {
         return &c[..0];
@@ -69,7 +69,7 @@ pub fn counts<'a>(w: &[usize], c: &'a [usize], p: usize) -> &'a [usize] {
     &c[p + 1..e]
 }
 
-pub fn numbers<'a>(w: &[usize], x: &'a [f64], p: usize) -> &'a [f64] {
+pub(crate) fn numbers<'a>(w: &[usize], x: &'a [f64], p: usize) -> &'a [f64] {
     let e = behind(w, p);
     if e > x.len() {
         return &x[..0];
@@ -80,7 +80,7 @@ pub fn numbers<'a>(w: &[usize], x: &'a [f64], p: usize) -> &'a [f64] {
     &x[p + 1..e]
 }
 
-pub fn flags<'a>(w: &[usize], b: &'a [u8], p: usize) -> &'a [u8] {
+pub(crate) fn flags<'a>(w: &[usize], b: &'a [u8], p: usize) -> &'a [u8] {
     let e = behind(w, p);
     if e > b.len() {
         return &b[..0];
@@ -92,7 +92,7 @@ pub fn flags<'a>(w: &[usize], b: &'a [u8], p: usize) -> &'a [u8] {
 }
 
 // The same to be lent.
-pub fn lent_counts<'a>(w: &[usize], l: &'a mut [usize], p: usize) -> &'a mut [usize] {
+pub(crate) fn lent_counts<'a>(w: &[usize], l: &'a mut [usize], p: usize) -> &'a mut [usize] {
     let e = behind(w, p);
     if e > l.len() {
         return &mut l[..0];
@@ -103,7 +103,7 @@ pub fn lent_counts<'a>(w: &[usize], l: &'a mut [usize], p: usize) -> &'a mut [us
     &mut l[p + 1..e]
 }
 
-pub fn lent_numbers<'a>(w: &[usize], l: &'a mut [f64], p: usize) -> &'a mut [f64] {
+pub(crate) fn lent_numbers<'a>(w: &[usize], l: &'a mut [f64], p: usize) -> &'a mut [f64] {
     let e = behind(w, p);
     if e > l.len() {
         return &mut l[..0];
@@ -115,7 +115,7 @@ pub fn lent_numbers<'a>(w: &[usize], l: &'a mut [f64], p: usize) -> &'a mut [f64
 }
 
 // So many editions, all 0: the calls were recorded without. A count that is too large for any list has none, and is refused.
-pub fn editions(l: &[u32], n: usize) -> &[u32] {
+pub(crate) fn editions(l: &[u32], n: usize) -> &[u32] {
     if n > l.len() {
         return &l[..0];
     }
@@ -128,7 +128,7 @@ fn is_nan(word: usize) -> bool {
 }
 
 // The float of a pattern. A NaN is any NaN.
-pub fn float_of(word: usize) -> f64 {
+pub(crate) fn float_of(word: usize) -> f64 {
     if word % 9223372036854775808 <= 9218868437227405312 {
         return f64::from_bits(word as u64);
     }
@@ -136,7 +136,7 @@ pub fn float_of(word: usize) -> f64 {
 }
 
 // The float has the pattern of the word: equal, and of two zeros the same sign. A NaN is any NaN.
-pub fn same(word: usize, x: f64) -> bool {
+pub(crate) fn same(word: usize, x: f64) -> bool {
     if is_nan(word) {
         return x != x;
     }
@@ -151,14 +151,14 @@ pub fn same(word: usize, x: f64) -> bool {
 }
 
 // The words from place q on, as whole numbers and as floats.
-pub fn from(w: &[usize], q: usize) -> &[usize] {
+pub(crate) fn from(w: &[usize], q: usize) -> &[usize] {
     if q > w.len() {
         return &w[..0];
     }
     &w[q..]
 }
 
-pub fn floats_from(x: &[f64], q: usize) -> &[f64] {
+pub(crate) fn floats_from(x: &[f64], q: usize) -> &[f64] {
     if q > x.len() {
         return &x[..0];
     }
@@ -197,16 +197,16 @@ fn same_numbers(l: &[f64], want: &[usize]) -> bool {
 }
 
 // The list at place p, which was lent, holds at exit what the case has from place q on.
-pub fn left_counts(w: &[usize], l: &[usize], p: usize, q: usize) -> bool {
+pub(crate) fn left_counts(w: &[usize], l: &[usize], p: usize, q: usize) -> bool {
     same_counts(counts(w, l, p), from(w, q))
 }
 
-pub fn left_numbers(w: &[usize], l: &[f64], p: usize, q: usize) -> bool {
+pub(crate) fn left_numbers(w: &[usize], l: &[f64], p: usize, q: usize) -> bool {
     same_numbers(numbers(w, l, p), from(w, q))
 }
 
 // The place behind what the case has for the list at place p, which begins at place q.
-pub fn left_behind(w: &[usize], p: usize, q: usize) -> usize {
+pub(crate) fn left_behind(w: &[usize], p: usize, q: usize) -> usize {
     let n = counts(w, w, p).len();
     if q > w.len() {
         return w.len();

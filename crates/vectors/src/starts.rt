@@ -1,6 +1,6 @@
 // The entries for views that start anywhere: the words of a case as their inputs, and what they answer beside what it says.
 use crate::views;
-use vectors_words::words;
+use crate::words;
 use view_start_entries::answer::SpanAnswer;
 
 fn is_span_answer(w: &[usize], r: SpanAnswer) -> bool {
@@ -70,7 +70,7 @@ fn from_new_start(w: &[usize], x: &[f64]) -> bool {
 }
 
 // Replays a case of such an entry. An entry that is not known differs.
-pub fn replay(entry: usize, w: &[usize], x: &[f64]) -> bool {
+pub(crate) fn replay(entry: usize, w: &[usize], x: &[f64]) -> bool {
     match entry {
         10 => slice_span(w, x),
         11 => from_slice_points(w, x),

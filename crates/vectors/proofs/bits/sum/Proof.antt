@@ -1,8 +1,8 @@
 use Prim.Native.Nat.{_≤_, _-_, _/_}
 use lib.ListN.{length}
 use borrow.Author.Needs.{needs}
-use Rattle.vectors_words.proofs.bits.sum.Statement.{statement}
-use Rattle.vectors_words.proofs.bits.sum.Tie as tie
+use Rattle.vectors.proofs.bits.sum.Statement.{statement}
+use Rattle.vectors.proofs.bits.sum.Tie as tie
 
 abbrev Inv-loop : tie.InvT-loop
 Inv-loop s so-far total₀ i₀ total i = i ≤ length s / 8

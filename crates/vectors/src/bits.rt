@@ -2,7 +2,7 @@
 use fields::field;
 
 // The first word, and 0 where there is none.
-pub fn word(s: &[u8]) -> usize {
+pub(crate) fn word(s: &[u8]) -> usize {
     if s.len() < 8 {
         return 0;
     }
@@ -10,7 +10,7 @@ pub fn word(s: &[u8]) -> usize {
 }
 
 // Word i, and 0 beyond the end.
-pub fn word_at(s: &[u8], i: usize) -> usize {
+pub(crate) fn word_at(s: &[u8], i: usize) -> usize {
     if i >= s.len() / 8 {
         return 0;
     }
@@ -18,7 +18,7 @@ pub fn word_at(s: &[u8], i: usize) -> usize {
 }
 
 // Its lowest byte.
-pub fn flag_at(s: &[u8], i: usize) -> u8 {
+pub(crate) fn flag_at(s: &[u8], i: usize) -> u8 {
     if i >= s.len() / 8 {
         return 0;
     }
@@ -26,7 +26,7 @@ pub fn flag_at(s: &[u8], i: usize) -> u8 {
 }
 
 // A sum so far, and every word added to it, modulo 2^64: one changed bit changes it.
-pub fn sum(s: &[u8], so_far: usize) -> usize {
+pub(crate) fn sum(s: &[u8], so_far: usize) -> usize {
     let mut total = so_far;
     let mut i: usize = 0;
     while i < s.len() / 8 {

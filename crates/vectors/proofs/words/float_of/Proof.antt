@@ -5,8 +5,8 @@ use lib.Ieee.{binary64, nanBits}
 use lib.Ieee.Bits.{nanBits-above}
 use borrow.Author.Needs.{needs}
 use borrow.Author.Tests.{le-ltb}
-use Rattle.vectors_words.proofs.words.float_of.Statement.{statement}
-use Rattle.vectors_words.proofs.words.float_of.Tie as tie
+use Rattle.vectors.proofs.words.float_of.Statement.{statement}
+use Rattle.vectors.proofs.words.float_of.Tie as tie
 
 no-nan : (w : ℕ) → w % 9223372036854775808 ≤ 9218868437227405312 → nanBits binary64 w ≡ false
 no-nan w h = nanBits-above binary64 w ∙ le-ltb _ _ h

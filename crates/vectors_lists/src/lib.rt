@@ -1,2 +1,0 @@
-// Recorded calls of the entries that write lists, replayed.
-pub mod lists;
