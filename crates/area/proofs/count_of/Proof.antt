@@ -3,9 +3,6 @@ use borrow.Author.Needs.{needs}
 use Rattle.area.proofs.count_of.Statement.{statement}
 use Rattle.area.proofs.count_of.Tie as tie
 
-is-kept-requires : tie.Need-is-kept-requires
-is-kept-requires c κs = search needs
-
 returns : tie.Need-returns
 returns c = search (needs, cases)
 
@@ -13,4 +10,7 @@ returns-2 : tie.Need-returns-2
 returns-2 c = search (needs, cases)
 
 pub count-of-spec : {M : Type 1} → statement M
-count-of-spec = tie.close (tie.spec is-kept-requires returns returns-2)
+count-of-spec = tie.close (tie.spec
+    (λ c κs. search needs)
+    returns
+    returns-2)

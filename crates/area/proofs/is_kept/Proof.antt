@@ -3,11 +3,10 @@ use Rattle.area.proofs.Listing.{kept-by}
 use Rattle.area.proofs.is_kept.Statement.{statement}
 use Rattle.area.proofs.is_kept.Tie as tie
 
-magnitude-requires : tie.Need-magnitude-requires
-magnitude-requires c κs = search needs
-
 returns : tie.Need-returns
 returns c = kept-by _ _ _ (c .magnitude .ensures)
 
 pub is-kept-spec : {M : Type 1} → statement M
-is-kept-spec = tie.close (tie.spec magnitude-requires returns)
+is-kept-spec = tie.close (tie.spec
+    (λ c κs. search needs)
+    returns)

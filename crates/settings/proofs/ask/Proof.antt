@@ -3,12 +3,6 @@ use borrow.Author.Needs.{needs}
 use Rattle.settings.proofs.ask.Statement.{statement}
 use Rattle.settings.proofs.ask.Tie as tie
 
-is-known-requires : tie.Need-is-known-requires
-is-known-requires c κs = search needs
-
-no-setting-requires : tie.Need-no-setting-requires
-no-setting-requires c κs = search needs
-
 returns : tie.Need-returns
 returns c = search (needs, asking)
 
@@ -25,8 +19,8 @@ pub ask-spec : {M : Type 1} → statement M
 ask-spec =
     tie.close
     (tie.spec
-    is-known-requires
-    no-setting-requires
+    (λ c κs. search needs)
+    (λ c κs. search needs)
     returns
     sub-setting-at
     setting-at-requires

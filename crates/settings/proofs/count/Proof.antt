@@ -8,9 +8,6 @@ returns : tie.Need-returns
 unfolding countOf
 returns c = count-none (c .before .args .entered .now) (c .if1 .taken)
 
-shared-slice-read-n : tie.Need-shared-slice-read-n
-shared-slice-read-n c = search needs
-
 returns-2 : tie.Need-returns-2
 unfolding countOf
 returns-2 c = search needs
@@ -20,4 +17,8 @@ unfolding countOf
 returns-3 c = search needs
 
 pub count-spec : {M : Type 1} → statement M
-count-spec = tie.close (tie.spec returns shared-slice-read-n returns-2 returns-3)
+count-spec = tie.close (tie.spec
+    returns
+    (λ c. search needs)
+    returns-2
+    returns-3)

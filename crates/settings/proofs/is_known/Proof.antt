@@ -5,9 +5,6 @@ use borrow.Author.Needs.{needs}
 use Rattle.settings.proofs.is_known.Statement.{statement}
 use Rattle.settings.proofs.is_known.Tie as tie
 
-count-requires : tie.Need-count-requires
-count-requires c κs = search needs
-
 returns : tie.Need-returns
 returns c = search (needs, asking)
 
@@ -16,4 +13,7 @@ unfolding known
 returns-2 c = search (needs, cases)
 
 pub is-known-spec : {M : Type 1} → statement M
-is-known-spec = tie.close (tie.spec count-requires returns returns-2)
+is-known-spec = tie.close (tie.spec
+    (λ c κs. search needs)
+    returns
+    returns-2)

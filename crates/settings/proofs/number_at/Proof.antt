@@ -3,12 +3,6 @@ use borrow.Author.Needs.{needs}
 use Rattle.settings.proofs.number_at.Statement.{statement}
 use Rattle.settings.proofs.number_at.Tie as tie
 
-mul-result : tie.Need-mul-result
-mul-result c = search needs
-
-shared-slice-read-result : tie.Need-shared-slice-read-result
-shared-slice-read-result c = search needs
-
 returns : tie.Need-returns
 returns c = search (needs, reads)
 
@@ -16,4 +10,8 @@ returns-2 : tie.Need-returns-2
 returns-2 c = search (needs, reads)
 
 pub number-at-spec : {M : Type 1} → statement M
-number-at-spec = tie.close (tie.spec mul-result shared-slice-read-result returns returns-2)
+number-at-spec = tie.close (tie.spec
+    (λ c. search needs)
+    (λ c. search needs)
+    returns
+    returns-2)

@@ -3,20 +3,8 @@ use borrow.Author.Needs.{needs}
 use Rattle.store_gather.proofs.lay_codes.Statement.{statement}
 use Rattle.store_gather.proofs.lay_codes.Tie as tie
 
-slice-aggregate-gather-codes : tie.Need-slice-aggregate-gather-codes
-slice-aggregate-gather-codes c = search needs
-
 gather-codes-requires : tie.Need-gather-codes-requires
 gather-codes-requires c κs = search (needs, lay-gather)
-
-slice-aggregate-copy-words : tie.Need-slice-aggregate-copy-words
-slice-aggregate-copy-words c = search needs
-
-copy-words-requires : tie.Need-copy-words-requires
-copy-words-requires c κs = search needs
-
-same-length : tie.Need-same-length
-same-length c = search needs
 
 returns : tie.Need-returns
 returns c = search (needs, lay-done)
@@ -25,9 +13,9 @@ pub lay-codes-spec : {M : Type 1} → statement M
 lay-codes-spec =
     tie.close
     (tie.spec
-    slice-aggregate-gather-codes
+    (λ c. search needs)
     gather-codes-requires
-    slice-aggregate-copy-words
-    copy-words-requires
-    same-length
+    (λ c. search needs)
+    (λ c κs. search needs)
+    (λ c. search needs)
     returns)

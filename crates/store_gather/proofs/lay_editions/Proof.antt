@@ -3,20 +3,8 @@ use borrow.Author.Needs.{needs}
 use Rattle.store_gather.proofs.lay_editions.Statement.{statement}
 use Rattle.store_gather.proofs.lay_editions.Tie as tie
 
-slice-aggregate-gather-editions : tie.Need-slice-aggregate-gather-editions
-slice-aggregate-gather-editions c = search needs
-
 gather-editions-requires : tie.Need-gather-editions-requires
 gather-editions-requires c κs = search (needs, lay-gather)
-
-slice-aggregate-copy-editions : tie.Need-slice-aggregate-copy-editions
-slice-aggregate-copy-editions c = search needs
-
-copy-editions-requires : tie.Need-copy-editions-requires
-copy-editions-requires c κs = search needs
-
-same-length : tie.Need-same-length
-same-length c = search needs
 
 returns : tie.Need-returns
 returns c = search (needs, lay-editions-done)
@@ -25,9 +13,9 @@ pub lay-editions-spec : {M : Type 1} → statement M
 lay-editions-spec =
     tie.close
     (tie.spec
-    slice-aggregate-gather-editions
+    (λ c. search needs)
     gather-editions-requires
-    slice-aggregate-copy-editions
-    copy-editions-requires
-    same-length
+    (λ c. search needs)
+    (λ c κs. search needs)
+    (λ c. search needs)
     returns)

@@ -35,35 +35,20 @@ small k n h l = omega arith
 fewer : (k n : ℕ) → k < n → n - (k + 1) < n - k
 fewer k n h = omega arith
 
-word-requires : tie.Need-word-requires Inv-loop μ-loop
-word-requires c κs = search needs
-
 loop-holds : tie.Need-loop-holds Inv-loop μ-loop
 loop-holds c =
     let s = c .before .before in
     (subst (λ (n : ℕ). Going (now (s .args .points)) (now (s .args .ends)) 0 0 0 n) (sym (nothing (c .word .result) (c .word .ensures .0) (c .word .ensures .1))) (going-none (s .pre)), search needs)
-
-mul-end : tie.Need-mul-end Inv-loop μ-loop
-mul-end c = search needs
-
-shared-slice-read-end : tie.Need-shared-slice-read-end Inv-loop μ-loop
-shared-slice-read-end c = search needs
 
 area-between-requires : tie.Need-area-between-requires Inv-loop μ-loop
 area-between-requires c κs =
     let k = c .before .before in
     going-cut (k .before .before .before .pre) (k .loop .inv .0) (c .before .loop-test .taken)
 
-zero-of-requires : tie.Need-zero-of-requires Inv-loop μ-loop
-zero-of-requires c κs = search needs
-
 add-zero : tie.Need-add-zero Inv-loop μ-loop
 add-zero c =
     let k = c .before .before .before .before in
     record { fits = omega (arith, k .loop .inv .0 .at, k .loop .inv .0 .none-most, k .before .before .before .pre .few, c .zero-of .ensures, code-most (eqb (c .before .area-between .result .high * 2 ^ 64 + c .before .area-between .result .low) 0)) }
-
-size-of-requires : tie.Need-size-of-requires Inv-loop μ-loop
-size-of-requires c κs = search needs
 
 add-requires : tie.Need-add-requires Inv-loop μ-loop
 add-requires c κs =
@@ -110,14 +95,14 @@ report-of-spec =
     (tie.spec
     Inv-loop
     μ-loop
-    word-requires
+    (λ c κs. search needs)
     loop-holds
-    mul-end
-    shared-slice-read-end
+    (λ c. search needs)
+    (λ c. search needs)
     area-between-requires
-    zero-of-requires
+    (λ c κs. search needs)
     add-zero
-    size-of-requires
+    (λ c κs. search needs)
     add-requires
     add-k
     loop-less

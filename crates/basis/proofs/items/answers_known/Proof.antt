@@ -19,15 +19,6 @@ loop-holds : tie.Need-loop-holds Inv-loop μ-loop
 unfolding eachTo
 loop-holds c = (search needs, refl)
 
-shared-slice-read-ok : tie.Need-shared-slice-read-ok Inv-loop μ-loop
-shared-slice-read-ok c = search needs
-
-add-i : tie.Need-add-i Inv-loop μ-loop
-add-i c = search needs
-
-loop-less : tie.Need-loop-less Inv-loop μ-loop
-loop-less c = search needs
-
 loop-again : tie.Need-loop-again Inv-loop μ-loop
 loop-again c =
     let place = c .before .before in
@@ -40,4 +31,12 @@ returns c = each-end _ _ _ _ (omega arith) (omega arith) (c .before .loop .inv .
 pub answers-known-spec : {M : Type 1} → statement M
 answers-known-spec =
     tie.close
-    (tie.spec Inv-loop μ-loop loop-holds shared-slice-read-ok add-i loop-less loop-again returns)
+    (tie.spec
+    Inv-loop
+    μ-loop
+    loop-holds
+    (λ c. search needs)
+    (λ c. search needs)
+    (λ c. search needs)
+    loop-again
+    returns)

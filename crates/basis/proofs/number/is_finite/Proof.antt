@@ -6,12 +6,11 @@ use borrow.Author.Needs.{needs}
 use Rattle.basis.proofs.number.is_finite.Statement.{statement}
 use Rattle.basis.proofs.number.is_finite.Tie as tie
 
-magnitude-requires : tie.Need-magnitude-requires
-magnitude-requires c κs = search needs
-
 returns : tie.Need-returns
 unfolding finite
 returns c = ap (λ (x : Float). le x largest) (c .magnitude .ensures) ∙ abs-le _ _
 
 pub is-finite-spec : {M : Type 1} → statement M
-is-finite-spec = tie.close (tie.spec magnitude-requires returns)
+is-finite-spec = tie.close (tie.spec
+    (λ c κs. search needs)
+    returns)

@@ -4,9 +4,6 @@ use borrow.Author.Needs.{needs}
 use Rattle.candidate_entries.proofs.slicing.refusal.Statement.{statement}
 use Rattle.candidate_entries.proofs.slicing.refusal.Tie as tie
 
-list-refusal-requires : tie.Need-list-refusal-requires
-list-refusal-requires c κs = search needs
-
 returns : tie.Need-returns
 returns c = search (needs, parts)
 
@@ -17,4 +14,8 @@ returns-2 : tie.Need-returns-2
 returns-2 c = search (needs, parts)
 
 pub refusal-spec : {M : Type 1} → statement M
-refusal-spec = tie.close (tie.spec list-refusal-requires returns later-refusal-requires returns-2)
+refusal-spec = tie.close (tie.spec
+    (λ c κs. search needs)
+    returns
+    later-refusal-requires
+    returns-2)

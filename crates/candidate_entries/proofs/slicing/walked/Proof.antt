@@ -3,59 +3,26 @@ use borrow.Author.Needs.{needs}
 use Rattle.candidate_entries.proofs.slicing.walked.Statement.{statement}
 use Rattle.candidate_entries.proofs.slicing.walked.Tie as tie
 
-mul-numbers : tie.Need-mul-numbers
-mul-numbers c = search needs
-
-add-numbers : tie.Need-add-numbers
-add-numbers c = search needs
-
-mul-numbers-2 : tie.Need-mul-numbers-2
-mul-numbers-2 c = search needs
-
-mul-points : tie.Need-mul-points
-mul-points c = search needs
-
-add-points : tie.Need-add-points
-add-points c = search needs
-
-mul-points-2 : tie.Need-mul-points-2
-mul-points-2 c = search needs
-
 slice-aggregate-write-candidates : tie.Need-slice-aggregate-write-candidates
 slice-aggregate-write-candidates c = search (needs, front-length)
 
 slice-aggregate-write-candidates-2 : tie.Need-slice-aggregate-write-candidates-2
 slice-aggregate-write-candidates-2 c = search (needs, front-length)
 
-write-candidates-requires : tie.Need-write-candidates-requires
-write-candidates-requires c κs = search needs
-
-same-length : tie.Need-same-length
-same-length c = search needs
-
-same-length-2 : tie.Need-same-length-2
-same-length-2 c = search needs
-
-same-length-3 : tie.Need-same-length-3
-same-length-3 c = search needs
-
-returns : tie.Need-returns
-returns c = search needs
-
 pub walked-spec : {M : Type 1} → statement M
 walked-spec =
     tie.close
     (tie.spec
-    mul-numbers
-    add-numbers
-    mul-numbers-2
-    mul-points
-    add-points
-    mul-points-2
+    (λ c. search needs)
+    (λ c. search needs)
+    (λ c. search needs)
+    (λ c. search needs)
+    (λ c. search needs)
+    (λ c. search needs)
     slice-aggregate-write-candidates
     slice-aggregate-write-candidates-2
-    write-candidates-requires
-    same-length
-    same-length-2
-    same-length-3
-    returns)
+    (λ c κs. search needs)
+    (λ c. search needs)
+    (λ c. search needs)
+    (λ c. search needs)
+    (λ c. search needs))

@@ -3,17 +3,15 @@ use borrow.Author.Needs.{needs}
 use Rattle.candidate_write.proofs.write.write_editions.Statement.{statement}
 use Rattle.candidate_write.proofs.write.write_editions.Tie as tie
 
-fill-requires : tie.Need-fill-requires
-fill-requires c κs = search needs
-
 fill-requires-2 : tie.Need-fill-requires-2
 fill-requires-2 c κs = search (needs, editions-front)
-
-same-length : tie.Need-same-length
-same-length c = search needs
 
 returns : tie.Need-returns
 returns c = search (needs, editions-written)
 
 pub write-editions-spec : {M : Type 1} → statement M
-write-editions-spec = tie.close (tie.spec fill-requires fill-requires-2 same-length returns)
+write-editions-spec = tie.close (tie.spec
+    (λ c κs. search needs)
+    fill-requires-2
+    (λ c. search needs)
+    returns)

@@ -5,9 +5,6 @@ use borrow.Author.Needs.{needs}
 use Rattle.cut.proofs.arrival.cut_of.Statement.{statement}
 use Rattle.cut.proofs.arrival.cut_of.Tie as tie
 
-hit-cut-requires : tie.Need-hit-cut-requires
-hit-cut-requires c κs = search needs
-
 returns : tie.Need-returns
 unfolding cutOf
 returns c = search (needs, cases)
@@ -20,4 +17,8 @@ unfolding cutOf
 returns-2 c = search (needs, cases)
 
 pub cut-of-spec : {M : Type 1} → statement M
-cut-of-spec = tie.close (tie.spec hit-cut-requires returns lap-cut-requires returns-2)
+cut-of-spec = tie.close (tie.spec
+    (λ c κs. search needs)
+    returns
+    lap-cut-requires
+    returns-2)

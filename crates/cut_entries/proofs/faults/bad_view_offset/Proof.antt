@@ -5,9 +5,6 @@ use borrow.Author.Needs.{needs}
 use Rattle.cut_entries.proofs.faults.bad_view_offset.Statement.{statement}
 use Rattle.cut_entries.proofs.faults.bad_view_offset.Tie as tie
 
-all-at-most-requires : tie.Need-all-at-most-requires
-all-at-most-requires c κs = search needs
-
 returns : tie.Need-returns
 unfolding viewOffsetFault
 returns c = search (needs, cases, not-row)
@@ -17,4 +14,7 @@ unfolding viewOffsetFault
 returns-2 c = search (needs, cases)
 
 pub bad-view-offset-spec : {M : Type 1} → statement M
-bad-view-offset-spec = tie.close (tie.spec all-at-most-requires returns returns-2)
+bad-view-offset-spec = tie.close (tie.spec
+    (λ c κs. search needs)
+    returns
+    returns-2)

@@ -5,9 +5,6 @@ use borrow.Author.Needs.{needs}
 use Rattle.cut_entries.proofs.faults.bad_view_start.Statement.{statement}
 use Rattle.cut_entries.proofs.faults.bad_view_start.Tie as tie
 
-all-below-requires : tie.Need-all-below-requires
-all-below-requires c κs = search needs
-
 returns : tie.Need-returns
 unfolding viewStartFault
 returns c = search (needs, cases, not-row)
@@ -17,4 +14,7 @@ unfolding viewStartFault
 returns-2 c = search (needs, cases)
 
 pub bad-view-start-spec : {M : Type 1} → statement M
-bad-view-start-spec = tie.close (tie.spec all-below-requires returns returns-2)
+bad-view-start-spec = tie.close (tie.spec
+    (λ c κs. search needs)
+    returns
+    returns-2)

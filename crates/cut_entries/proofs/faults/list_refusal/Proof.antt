@@ -5,42 +5,6 @@ use borrow.Author.Needs.{needs}
 use Rattle.cut_entries.proofs.faults.list_refusal.Statement.{statement}
 use Rattle.cut_entries.proofs.faults.list_refusal.Tie as tie
 
-bad-length-requires : tie.Need-bad-length-requires
-bad-length-requires c κs = search needs
-
-or-else-requires : tie.Need-or-else-requires
-or-else-requires c κs = search needs
-
-bad-length-requires-2 : tie.Need-bad-length-requires-2
-bad-length-requires-2 c κs = search needs
-
-or-else-requires-2 : tie.Need-or-else-requires-2
-or-else-requires-2 c κs = search needs
-
-bad-length-requires-3 : tie.Need-bad-length-requires-3
-bad-length-requires-3 c κs = search needs
-
-or-else-requires-3 : tie.Need-or-else-requires-3
-or-else-requires-3 c κs = search needs
-
-bad-length-requires-4 : tie.Need-bad-length-requires-4
-bad-length-requires-4 c κs = search needs
-
-or-else-requires-4 : tie.Need-or-else-requires-4
-or-else-requires-4 c κs = search needs
-
-bad-length-requires-5 : tie.Need-bad-length-requires-5
-bad-length-requires-5 c κs = search needs
-
-or-else-requires-5 : tie.Need-or-else-requires-5
-or-else-requires-5 c κs = search needs
-
-or-else-requires-6 : tie.Need-or-else-requires-6
-or-else-requires-6 c κs = search needs
-
-or-else-requires-7 : tie.Need-or-else-requires-7
-or-else-requires-7 c κs = search needs
-
 returns : tie.Need-returns
 unfolding firstFrom listRows
 returns c = search rows depth 24
@@ -49,16 +13,16 @@ pub list-refusal-spec : {M : Type 1} → statement M
 list-refusal-spec =
     tie.close
     (tie.spec
-    bad-length-requires
-    or-else-requires
-    bad-length-requires-2
-    or-else-requires-2
-    bad-length-requires-3
-    or-else-requires-3
-    bad-length-requires-4
-    or-else-requires-4
-    bad-length-requires-5
-    or-else-requires-5
-    or-else-requires-6
-    or-else-requires-7
+    (λ c κs. search needs)
+    (λ c κs. search needs)
+    (λ c κs. search needs)
+    (λ c κs. search needs)
+    (λ c κs. search needs)
+    (λ c κs. search needs)
+    (λ c κs. search needs)
+    (λ c κs. search needs)
+    (λ c κs. search needs)
+    (λ c κs. search needs)
+    (λ c κs. search needs)
+    (λ c κs. search needs)
     returns)

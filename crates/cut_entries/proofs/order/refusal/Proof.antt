@@ -4,9 +4,6 @@ use borrow.Author.Needs.{needs}
 use Rattle.cut_entries.proofs.order.refusal.Statement.{statement}
 use Rattle.cut_entries.proofs.order.refusal.Tie as tie
 
-input-refusal-requires : tie.Need-input-refusal-requires
-input-refusal-requires c κs = search needs
-
 returns : tie.Need-returns
 returns c = search (needs, parts)
 
@@ -30,7 +27,7 @@ pub refusal-spec : {M : Type 1} → statement M
 refusal-spec =
     tie.close
     (tie.spec
-    input-refusal-requires
+    (λ c κs. search needs)
     returns
     mul-room-refusal
     add-room-refusal

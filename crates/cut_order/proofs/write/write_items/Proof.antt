@@ -11,20 +11,8 @@ Inv-loop outline hit-at hit lap-at lap s order cut-at₀ cut₀ count i₀ cut-a
 abbrev μ-loop : tie.MeasureT-loop
 μ-loop outline hit-at hit lap-at lap s order cut-at₀ cut₀ count i₀ cut-at cut i = count - i
 
-mul-count : tie.Need-mul-count Inv-loop μ-loop
-mul-count c = search needs
-
-add-count : tie.Need-add-count Inv-loop μ-loop
-add-count c = search needs
-
 loop-holds : tie.Need-loop-holds Inv-loop μ-loop
 loop-holds c = search (needs, writing)
-
-mul-n : tie.Need-mul-n Inv-loop μ-loop
-mul-n c = search needs
-
-shared-slice-read-n : tie.Need-shared-slice-read-n Inv-loop μ-loop
-shared-slice-read-n c = search needs
 
 cut-of-requires : tie.Need-cut-of-requires Inv-loop μ-loop
 cut-of-requires c κs = search (needs, writing)
@@ -44,17 +32,8 @@ put-point-requires c κs = search (needs, writing)
 add-i : tie.Need-add-i Inv-loop μ-loop
 add-i c = search (needs, writing)
 
-loop-less : tie.Need-loop-less Inv-loop μ-loop
-loop-less c = search needs
-
 loop-again : tie.Need-loop-again Inv-loop μ-loop
 loop-again c = search (needs, writing)
-
-same-length : tie.Need-same-length Inv-loop μ-loop
-same-length c = search needs
-
-same-length-2 : tie.Need-same-length-2 Inv-loop μ-loop
-same-length-2 c = search needs
 
 returns : tie.Need-returns Inv-loop μ-loop
 returns c = search (needs, writing)
@@ -65,19 +44,19 @@ write-items-spec =
     (tie.spec
     Inv-loop
     μ-loop
-    mul-count
-    add-count
+    (λ c. search needs)
+    (λ c. search needs)
     loop-holds
-    mul-n
-    shared-slice-read-n
+    (λ c. search needs)
+    (λ c. search needs)
     cut-of-requires
     mul-put-numbers
     put-numbers-requires
     mul-put-point
     put-point-requires
     add-i
-    loop-less
+    (λ c. search needs)
     loop-again
-    same-length
-    same-length-2
+    (λ c. search needs)
+    (λ c. search needs)
     returns)

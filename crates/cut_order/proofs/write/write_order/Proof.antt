@@ -14,15 +14,6 @@ write-items-requires c κs =
     let start = begun .before .before .before .before .before .before .before .before in
     room-known _ _ _ _ _ _ (sorted .order-cuts .ensures) (start .pre .roomy) (search needs) (search needs)
 
-same-length : tie.Need-same-length
-same-length c = search needs
-
-same-length-2 : tie.Need-same-length-2
-same-length-2 c = search needs
-
-same-length-3 : tie.Need-same-length-3
-same-length-3 c = search needs
-
 returns : tie.Need-returns
 returns c = search (needs, overwriting)
 
@@ -32,7 +23,7 @@ write-order-spec =
     (tie.spec
     order-cuts-requires
     write-items-requires
-    same-length
-    same-length-2
-    same-length-3
+    (λ c. search needs)
+    (λ c. search needs)
+    (λ c. search needs)
     returns)

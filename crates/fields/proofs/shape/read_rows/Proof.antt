@@ -19,20 +19,8 @@ read-shape-requires c κs = search (needs, reading-shape)
 add-p : tie.Need-add-p Inv-loop μ-loop
 add-p c = omega (arith, reading-row (c .before .before .before .before .before .loop .inv) (c .before .before .before .before .loop-test .taken))
 
-add-q : tie.Need-add-q Inv-loop μ-loop
-add-q c = search needs
-
-sub-left : tie.Need-sub-left Inv-loop μ-loop
-sub-left c = search needs
-
-loop-less : tie.Need-loop-less Inv-loop μ-loop
-loop-less c = search needs
-
 loop-again : tie.Need-loop-again Inv-loop μ-loop
 loop-again c = search (needs, reading-rows-more)
-
-same-length : tie.Need-same-length Inv-loop μ-loop
-same-length c = search needs
 
 returns : tie.Need-returns Inv-loop μ-loop
 returns c = search (needs, reading-rows-end)
@@ -46,9 +34,9 @@ read-rows-spec =
     loop-holds
     read-shape-requires
     add-p
-    add-q
-    sub-left
-    loop-less
+    (λ c. search needs)
+    (λ c. search needs)
+    (λ c. search needs)
     loop-again
-    same-length
+    (λ c. search needs)
     returns)

@@ -15,38 +15,14 @@ abbrev μ-loop : tie.MeasureT-loop
 loop-holds : tie.Need-loop-holds Inv-loop μ-loop
 loop-holds c = search (needs, reading-none)
 
-mul-width : tie.Need-mul-width Inv-loop μ-loop
-mul-width c = search needs
-
-shared-slice-read-width : tie.Need-shared-slice-read-width Inv-loop μ-loop
-shared-slice-read-width c = search needs
-
-add-q : tie.Need-add-q Inv-loop μ-loop
-add-q c = search needs
-
 get-requires : tie.Need-get-requires Inv-loop μ-loop
 get-requires c κs = search (needs, reading-field)
-
-mul-values : tie.Need-mul-values Inv-loop μ-loop
-mul-values c = search needs
-
-slice-write-values : tie.Need-slice-write-values Inv-loop μ-loop
-slice-write-values c = search needs
 
 add-p : tie.Need-add-p Inv-loop μ-loop
 add-p c = let f = reading-field (c .before .before .before .loop .inv) (c .before .before .loop-test .taken) in omega (arith, f .inside)
 
-add-i : tie.Need-add-i Inv-loop μ-loop
-add-i c = search needs
-
-loop-less : tie.Need-loop-less Inv-loop μ-loop
-loop-less c = search needs
-
 loop-again : tie.Need-loop-again Inv-loop μ-loop
 loop-again c = search (needs, reading-more)
-
-same-length : tie.Need-same-length Inv-loop μ-loop
-same-length c = search needs
 
 returns : tie.Need-returns Inv-loop μ-loop
 returns c = search (needs, reading-end)
@@ -58,15 +34,15 @@ read-shape-spec =
     Inv-loop
     μ-loop
     loop-holds
-    mul-width
-    shared-slice-read-width
-    add-q
+    (λ c. search needs)
+    (λ c. search needs)
+    (λ c. search needs)
     get-requires
-    mul-values
-    slice-write-values
+    (λ c. search needs)
+    (λ c. search needs)
     add-p
-    add-i
-    loop-less
+    (λ c. search needs)
+    (λ c. search needs)
     loop-again
-    same-length
+    (λ c. search needs)
     returns)

@@ -6,12 +6,11 @@ use borrow.Author.Needs.{needs}
 use Rattle.mask.proofs.measuring.mask_straight_winding.Statement.{statement}
 use Rattle.mask.proofs.measuring.mask_straight_winding.Tie as tie
 
-entry-requires : tie.Need-entry-requires
-entry-requires c κs = search needs
-
 -- the probe as it is handed on is the probe
 returns : tie.Need-returns
 returns c = let s = c .before in c .entry .ensures ∙ (λ i. windingAnswer (now (s .args .outline)) (s .args .vc) (toZ-ofZ (s .fits .x) i) (toZ-ofZ (s .fits .y) i))
 
 pub mask-straight-winding-spec : {M : Type 1} → statement M
-mask-straight-winding-spec = tie.close (tie.spec entry-requires returns)
+mask-straight-winding-spec = tie.close (tie.spec
+    (λ c κs. search needs)
+    returns)

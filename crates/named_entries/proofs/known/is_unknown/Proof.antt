@@ -5,9 +5,6 @@ use Rattle.named_entries.specs.Named.{unknownFault}
 use Rattle.named_entries.proofs.known.is_unknown.Statement.{statement}
 use Rattle.named_entries.proofs.known.is_unknown.Tie as tie
 
-is-known-requires : tie.Need-is-known-requires
-is-known-requires c κs = search needs
-
 returns : tie.Need-returns
 unfolding unknownFault
 returns c = search (needs, cases, not-row)
@@ -17,4 +14,7 @@ unfolding unknownFault
 returns-2 c = search (needs, cases)
 
 pub is-unknown-spec : {M : Type 1} → statement M
-is-unknown-spec = tie.close (tie.spec is-known-requires returns returns-2)
+is-unknown-spec = tie.close (tie.spec
+    (λ c κs. search needs)
+    returns
+    returns-2)

@@ -4,12 +4,6 @@ use borrow.Author.Needs.{needs}
 use Rattle.outline.proofs.point.in_box.Statement.{statement}
 use Rattle.outline.proofs.point.in_box.Tie as tie
 
-in-span-requires : tie.Need-in-span-requires
-in-span-requires c κs = search needs
-
-in-span-requires-2 : tie.Need-in-span-requires-2
-in-span-requires-2 c κs = search needs
-
 returns : tie.Need-returns
 unfolding inBox
 returns c = search (needs, cases)
@@ -19,4 +13,8 @@ unfolding inBox
 returns-2 c = search (needs, cases)
 
 pub in-box-spec : {M : Type 1} → statement M
-in-box-spec = tie.close (tie.spec in-span-requires in-span-requires-2 returns returns-2)
+in-box-spec = tie.close (tie.spec
+    (λ c κs. search needs)
+    (λ c κs. search needs)
+    returns
+    returns-2)

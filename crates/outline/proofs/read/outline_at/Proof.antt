@@ -3,9 +3,6 @@ use borrow.Author.Needs.{needs}
 use Rattle.outline.proofs.read.outline_at.Statement.{statement}
 use Rattle.outline.proofs.read.outline_at.Tie as tie
 
-wrapped-requires : tie.Need-wrapped-requires
-wrapped-requires c κs = search needs
-
 vertex-at-requires : tie.Need-vertex-at-requires
 vertex-at-requires c κs = search (needs, reading)
 
@@ -13,4 +10,7 @@ returns : tie.Need-returns
 returns c = search (needs, reading)
 
 pub outline-at-spec : {M : Type 1} → statement M
-outline-at-spec = tie.close (tie.spec wrapped-requires vertex-at-requires returns)
+outline-at-spec = tie.close (tie.spec
+    (λ c κs. search needs)
+    vertex-at-requires
+    returns)

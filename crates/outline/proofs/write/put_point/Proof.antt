@@ -5,23 +5,8 @@ use borrow.Author.Needs.{needs}
 use Rattle.outline.proofs.write.put_point.Statement.{statement}
 use Rattle.outline.proofs.write.put_point.Tie as tie
 
-mul-room : tie.Need-mul-room
-mul-room c = search needs
-
-slice-write-room : tie.Need-slice-write-room
-slice-write-room c = search needs
-
-add-room : tie.Need-add-room
-add-room c = search needs
-
-mul-room-2 : tie.Need-mul-room-2
-mul-room-2 c = search needs
-
 slice-write-room-2 : tie.Need-slice-write-room-2
 slice-write-room-2 c = simp length-set (omega arith)
-
-same-length : tie.Need-same-length
-same-length c = search needs
 
 returns : tie.Need-returns
 returns c = simp towards-suc
@@ -29,4 +14,11 @@ returns c = simp towards-suc
 pub put-point-spec : {M : Type 1} → statement M
 put-point-spec =
     tie.close
-    (tie.spec mul-room slice-write-room add-room mul-room-2 slice-write-room-2 same-length returns)
+    (tie.spec
+    (λ c. search needs)
+    (λ c. search needs)
+    (λ c. search needs)
+    (λ c. search needs)
+    slice-write-room-2
+    (λ c. search needs)
+    returns)

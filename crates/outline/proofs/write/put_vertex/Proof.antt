@@ -5,32 +5,11 @@ use borrow.Author.Needs.{needs}
 use Rattle.outline.proofs.write.put_vertex.Statement.{statement}
 use Rattle.outline.proofs.write.put_vertex.Tie as tie
 
-mul-room : tie.Need-mul-room
-mul-room c = search needs
-
-slice-write-room : tie.Need-slice-write-room
-slice-write-room c = search needs
-
-add-room : tie.Need-add-room
-add-room c = search needs
-
-mul-room-2 : tie.Need-mul-room-2
-mul-room-2 c = search needs
-
 slice-write-room-2 : tie.Need-slice-write-room-2
 slice-write-room-2 c = simp length-set (omega arith)
 
-add-room-2 : tie.Need-add-room-2
-add-room-2 c = search needs
-
-mul-room-3 : tie.Need-mul-room-3
-mul-room-3 c = search needs
-
 slice-write-room-3 : tie.Need-slice-write-room-3
 slice-write-room-3 c = simp length-set (omega arith)
-
-same-length : tie.Need-same-length
-same-length c = search needs
 
 returns : tie.Need-returns
 returns c = simp towards-suc
@@ -39,13 +18,13 @@ pub put-vertex-spec : {M : Type 1} → statement M
 put-vertex-spec =
     tie.close
     (tie.spec
-    mul-room
-    slice-write-room
-    add-room
-    mul-room-2
+    (λ c. search needs)
+    (λ c. search needs)
+    (λ c. search needs)
+    (λ c. search needs)
     slice-write-room-2
-    add-room-2
-    mul-room-3
+    (λ c. search needs)
+    (λ c. search needs)
     slice-write-room-3
-    same-length
+    (λ c. search needs)
     returns)

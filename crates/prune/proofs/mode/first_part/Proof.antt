@@ -3,12 +3,11 @@ use borrow.Author.Needs.{needs}
 use Rattle.prune.proofs.mode.first_part.Statement.{statement}
 use Rattle.prune.proofs.mode.first_part.Tie as tie
 
-turned-requires : tie.Need-turned-requires
-turned-requires c κs = search needs
-
 returns : tie.Need-returns
 unfolding firstPart
 returns c = cc
 
 pub first-part-spec : {M : Type 1} → statement M
-first-part-spec = tie.close (tie.spec turned-requires returns)
+first-part-spec = tie.close (tie.spec
+    (λ c κs. search needs)
+    returns)

@@ -4,24 +4,6 @@ use borrow.Author.Needs.{needs}
 use Rattle.prune_entries.proofs.faults.number_refusal.Statement.{statement}
 use Rattle.prune_entries.proofs.faults.number_refusal.Tie as tie
 
-all-in-range-requires : tie.Need-all-in-range-requires
-all-in-range-requires c κs = search needs
-
-or-else-requires : tie.Need-or-else-requires
-or-else-requires c κs = search needs
-
-all-in-range-requires-2 : tie.Need-all-in-range-requires-2
-all-in-range-requires-2 c κs = search needs
-
-or-else-requires-2 : tie.Need-or-else-requires-2
-or-else-requires-2 c κs = search needs
-
-all-in-range-requires-3 : tie.Need-all-in-range-requires-3
-all-in-range-requires-3 c κs = search needs
-
-or-else-requires-3 : tie.Need-or-else-requires-3
-or-else-requires-3 c κs = search needs
-
 returns : tie.Need-returns
 unfolding firstFrom
 returns c = search rows depth 24
@@ -30,10 +12,10 @@ pub number-refusal-spec : {M : Type 1} → statement M
 number-refusal-spec =
     tie.close
     (tie.spec
-    all-in-range-requires
-    or-else-requires
-    all-in-range-requires-2
-    or-else-requires-2
-    all-in-range-requires-3
-    or-else-requires-3
+    (λ c κs. search needs)
+    (λ c κs. search needs)
+    (λ c κs. search needs)
+    (λ c κs. search needs)
+    (λ c κs. search needs)
+    (λ c κs. search needs)
     returns)

@@ -4,12 +4,6 @@ use Rattle.prune_entries.specs.PruneEntryLaws.{pruning, input-few, accep
 use Rattle.prune_entries.proofs.pruning.entry.Statement.{statement}
 use Rattle.prune_entries.proofs.pruning.entry.Tie as tie
 
-input-refusal-requires : tie.Need-input-refusal-requires
-input-refusal-requires c κs = search needs
-
-prune-refused-requires : tie.Need-prune-refused-requires
-prune-refused-requires c κs = search needs
-
 returns : tie.Need-returns
 returns c = search (needs, pruning)
 
@@ -18,9 +12,6 @@ need-of-requires c κs = input-few _ _ (c .before .input-refusal .ensures) (c .i
 
 lent-refusal-requires : tie.Need-lent-refusal-requires
 lent-refusal-requires c κs = search (needs, pruning)
-
-prune-refused-requires-2 : tie.Need-prune-refused-requires-2
-prune-refused-requires-2 c κs = search needs
 
 returns-2 : tie.Need-returns-2
 returns-2 c = search (needs, pruning)
@@ -44,18 +35,6 @@ finish-requires c κs =
     let input = first .before in
     fit-finish _ _ _ _ _ _ _ (accepted-ready _ _ _ _ _ (input .input-refusal .ensures) (first .if1 .left) (need .need-of .ensures) (lent .lent-refusal .ensures) (second .if2 .left)) (kept .write-both .ensures)
 
-prune-given-requires : tie.Need-prune-given-requires
-prune-given-requires c κs = search needs
-
-same-length : tie.Need-same-length
-same-length c = search needs
-
-same-length-2 : tie.Need-same-length-2
-same-length-2 c = search needs
-
-same-length-3 : tie.Need-same-length-3
-same-length-3 c = search needs
-
 returns-3 : tie.Need-returns-3
 returns-3 c =
     let done = c .before .before .before .before .before .before .before in
@@ -72,17 +51,17 @@ pub entry-spec : {M : Type 1} → statement M
 entry-spec =
     tie.close
     (tie.spec
-    input-refusal-requires
-    prune-refused-requires
+    (λ c κs. search needs)
+    (λ c κs. search needs)
     returns
     need-of-requires
     lent-refusal-requires
-    prune-refused-requires-2
+    (λ c κs. search needs)
     returns-2
     write-both-requires
     finish-requires
-    prune-given-requires
-    same-length
-    same-length-2
-    same-length-3
+    (λ c κs. search needs)
+    (λ c. search needs)
+    (λ c. search needs)
+    (λ c. search needs)
     returns-3)

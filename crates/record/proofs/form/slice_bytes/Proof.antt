@@ -4,12 +4,11 @@ use Rattle.fields.specs.Fields.{size}
 use Rattle.record.proofs.form.slice_bytes.Statement.{statement}
 use Rattle.record.proofs.form.slice_bytes.Tie as tie
 
-add-result : tie.Need-add-result
-add-result c = search needs
-
 returns : tie.Need-returns
 unfolding size
 returns c = omega arith
 
 pub slice-bytes-spec : {M : Type 1} → statement M
-slice-bytes-spec = tie.close (tie.spec add-result returns)
+slice-bytes-spec = tie.close (tie.spec
+    (λ c. search needs)
+    returns)

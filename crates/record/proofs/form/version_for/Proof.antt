@@ -4,12 +4,6 @@ use Rattle.record.specs.Form.{formFor}
 use Rattle.record.proofs.form.version_for.Statement.{statement}
 use Rattle.record.proofs.form.version_for.Tie as tie
 
-version2-requires : tie.Need-version2-requires
-version2-requires c κs = search needs
-
-version1-requires : tie.Need-version1-requires
-version1-requires c κs = search needs
-
 returns : tie.Need-returns
 unfolding formFor
 returns c = search (needs, cases)
@@ -19,4 +13,8 @@ unfolding formFor
 returns-2 c = search (needs, cases)
 
 pub version-for-spec : {M : Type 1} → statement M
-version-for-spec = tie.close (tie.spec version2-requires version1-requires returns returns-2)
+version-for-spec = tie.close (tie.spec
+    (λ c κs. search needs)
+    (λ c κs. search needs)
+    returns
+    returns-2)

@@ -8,15 +8,6 @@ returns : tie.Need-returns
 unfolding markOk
 returns c = search (needs, cases)
 
-shared-slice-read-if2 : tie.Need-shared-slice-read-if2
-shared-slice-read-if2 c = search needs
-
-shared-slice-read-if3 : tie.Need-shared-slice-read-if3
-shared-slice-read-if3 c = search needs
-
-shared-slice-read-result : tie.Need-shared-slice-read-result
-shared-slice-read-result c = search needs
-
 returns-2 : tie.Need-returns-2
 unfolding markOk
 returns-2 c = search (needs, cases)
@@ -34,9 +25,9 @@ is-marked-spec =
     tie.close
     (tie.spec
     returns
-    shared-slice-read-if2
-    shared-slice-read-if3
-    shared-slice-read-result
+    (λ c. search needs)
+    (λ c. search needs)
+    (λ c. search needs)
     returns-2
     returns-3
     returns-4)

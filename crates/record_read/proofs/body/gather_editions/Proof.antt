@@ -25,29 +25,14 @@ shared-slice-read-edition c = search (needs, dating-place)
 edition-requires : tie.Need-edition-requires Inv-loop μ-loop
 edition-requires c κs = search (needs, dating-short)
 
-mul-out : tie.Need-mul-out Inv-loop μ-loop
-mul-out c = search needs
-
 slice-write-out : tie.Need-slice-write-out Inv-loop μ-loop
 slice-write-out c = search (needs, dating-room)
 
 add-p : tie.Need-add-p Inv-loop μ-loop
 add-p c = omega (arith, dating-row (c .before .before .before .loop .inv) (c .before .before .loop-test .taken))
 
-add-q : tie.Need-add-q Inv-loop μ-loop
-add-q c = search needs
-
-sub-left : tie.Need-sub-left Inv-loop μ-loop
-sub-left c = search needs
-
-loop-less : tie.Need-loop-less Inv-loop μ-loop
-loop-less c = search needs
-
 loop-again : tie.Need-loop-again Inv-loop μ-loop
 loop-again c = search (needs, dating-more)
-
-same-length : tie.Need-same-length Inv-loop μ-loop
-same-length c = search needs
 
 returns : tie.Need-returns Inv-loop μ-loop
 returns c = search (needs, dating-end)
@@ -63,12 +48,12 @@ gather-editions-spec =
     mul-edition
     shared-slice-read-edition
     edition-requires
-    mul-out
+    (λ c. search needs)
     slice-write-out
     add-p
-    add-q
-    sub-left
-    loop-less
+    (λ c. search needs)
+    (λ c. search needs)
+    (λ c. search needs)
     loop-again
-    same-length
+    (λ c. search needs)
     returns)

@@ -3,12 +3,6 @@ use Rattle.record_read.proofs.Reading.{frame-fault, head-there, whole-f
 use Rattle.record_read.proofs.read.read_form.Statement.{statement}
 use Rattle.record_read.proofs.read.read_form.Tie as tie
 
-frame-refusal-requires : tie.Need-frame-refusal-requires
-frame-refusal-requires c κs = search needs
-
-seen-refused-requires : tie.Need-seen-refused-requires
-seen-refused-requires c κs = search needs
-
 returns : tie.Need-returns
 returns c =
     let refused = c in
@@ -23,15 +17,6 @@ head-in-requires c κs =
     let framed = test .before in
     let entry = framed .before .before .before .before .before .before .before in
     head-there (entry .pre) _ (framed .frame-refusal .ensures) (test .if1 .left)
-
-count-refusal-requires : tie.Need-count-refusal-requires
-count-refusal-requires c κs = search needs
-
-room-refusal-requires : tie.Need-room-refusal-requires
-room-refusal-requires c κs = search needs
-
-seen-refused-requires-2 : tie.Need-seen-refused-requires-2
-seen-refused-requires-2 c κs = search needs
 
 returns-2 : tie.Need-returns-2
 returns-2 c =
@@ -56,24 +41,6 @@ read-body-requires c κs =
     let entry = framed .before .before .before .before .before .before .before in
     body-fit (entry .pre) _ (framed .frame-refusal .ensures) (test .if1 .left) (read .head-in .ensures) (counted .count-refusal .ensures) _ (room .room-refusal .ensures) (second .if2 .left)
 
-seen-given-requires : tie.Need-seen-given-requires
-seen-given-requires c κs = search needs
-
-same-length : tie.Need-same-length
-same-length c = search needs
-
-same-length-2 : tie.Need-same-length-2
-same-length-2 c = search needs
-
-same-length-3 : tie.Need-same-length-3
-same-length-3 c = search needs
-
-same-length-4 : tie.Need-same-length-4
-same-length-4 c = search needs
-
-same-length-5 : tie.Need-same-length-5
-same-length-5 c = search needs
-
 returns-3 : tie.Need-returns-3
 returns-3 c =
     let given = c in
@@ -91,19 +58,19 @@ pub read-form-spec : {M : Type 1} → statement M
 read-form-spec =
     tie.close
     (tie.spec
-    frame-refusal-requires
-    seen-refused-requires
+    (λ c κs. search needs)
+    (λ c κs. search needs)
     returns
     head-in-requires
-    count-refusal-requires
-    room-refusal-requires
-    seen-refused-requires-2
+    (λ c κs. search needs)
+    (λ c κs. search needs)
+    (λ c κs. search needs)
     returns-2
     read-body-requires
-    seen-given-requires
-    same-length
-    same-length-2
-    same-length-3
-    same-length-4
-    same-length-5
+    (λ c κs. search needs)
+    (λ c. search needs)
+    (λ c. search needs)
+    (λ c. search needs)
+    (λ c. search needs)
+    (λ c. search needs)
     returns-3)

@@ -4,9 +4,6 @@ use Rattle.record_replay.specs.Replayed.{replayOf}
 use Rattle.record_replay.proofs.replay.replay_of.Statement.{statement}
 use Rattle.record_replay.proofs.replay.replay_of.Tie as tie
 
-replay-refused-requires : tie.Need-replay-refused-requires
-replay-refused-requires c κs = search needs
-
 returns : tie.Need-returns
 unfolding replayOf
 returns c = search (needs, answers)
@@ -16,4 +13,7 @@ unfolding replayOf
 returns-2 c = search (needs, answers)
 
 pub replay-of-spec : {M : Type 1} → statement M
-replay-of-spec = tie.close (tie.spec replay-refused-requires returns returns-2)
+replay-of-spec = tie.close (tie.spec
+    (λ c κs. search needs)
+    returns
+    returns-2)

@@ -13,24 +13,15 @@ told : (n : ℕ) (h : Head) (x y : ℕ) → x ≡ bitsOf (h .plan .tolerance .x)
     ∷ h .edition1 ∷ h .edition2 ∷ h .plan .starts .pline2 ∷ h .plan .starts .«pline1_overlapping» ∷ h .plan .starts .«pline2_overlapping» ∷ h .plan .slices ∷ []) ≡ headValues n h
 told n h x y e f = rw (e, f)
 
-bits-requires : tie.Need-bits-requires
-bits-requires c κs = search needs
-
-bits-requires-2 : tie.Need-bits-requires-2
-bits-requires-2 c κs = search needs
-
-cast-t8 : tie.Need-cast-t8
-cast-t8 c = search needs
-
-cast-t9 : tie.Need-cast-t9
-cast-t9 c = search needs
-
-cast-t10 : tie.Need-cast-t10
-cast-t10 c = search needs
-
 returns : tie.Need-returns
 returns c = search (needs, told)
 
 pub head-values-spec : {M : Type 1} → statement M
 head-values-spec =
-    tie.close (tie.spec bits-requires bits-requires-2 cast-t8 cast-t9 cast-t10 returns)
+    tie.close (tie.spec
+    (λ c κs. search needs)
+    (λ c κs. search needs)
+    (λ c. search needs)
+    (λ c. search needs)
+    (λ c. search needs)
+    returns)

@@ -16,44 +16,14 @@ loop-holds c = search (needs, mixing-none)
 copy-requires : tie.Need-copy-requires Inv-loop μ-loop
 copy-requires c κs = search (needs, mixing-codes)
 
-add-copy-bits : tie.Need-add-copy-bits Inv-loop μ-loop
-add-copy-bits c = search needs
-
 copy-bits-requires : tie.Need-copy-bits-requires Inv-loop μ-loop
 copy-bits-requires c κs = search (needs, mixing-numbers)
-
-add-at : tie.Need-add-at Inv-loop μ-loop
-add-at c = search needs
-
-mul-wide : tie.Need-mul-wide Inv-loop μ-loop
-mul-wide c = search needs
 
 shared-slice-read-wide : tie.Need-shared-slice-read-wide Inv-loop μ-loop
 shared-slice-read-wide c = search (needs, mixing-date)
 
-wide-requires : tie.Need-wide-requires Inv-loop μ-loop
-wide-requires c κs = search needs
-
-mul-values : tie.Need-mul-values Inv-loop μ-loop
-mul-values c = search needs
-
 slice-write-values : tie.Need-slice-write-values Inv-loop μ-loop
 slice-write-values c = search (needs, mixing-place)
-
-add-q : tie.Need-add-q Inv-loop μ-loop
-add-q c = search needs
-
-add-i : tie.Need-add-i Inv-loop μ-loop
-add-i c = search needs
-
-add-j : tie.Need-add-j Inv-loop μ-loop
-add-j c = search needs
-
-add-k : tie.Need-add-k Inv-loop μ-loop
-add-k c = search needs
-
-loop-less : tie.Need-loop-less Inv-loop μ-loop
-loop-less c = search needs
 
 loop-again : tie.Need-loop-again Inv-loop μ-loop
 loop-again c =
@@ -62,9 +32,6 @@ loop-again c =
     let test = codes .before .before in
     let turn = test .before in
     mixing-more (turn .loop .inv) (test .loop-test .taken) (codes .copy .ensures) (numbers .copy-bits .ensures) _ (c .wide .ensures)
-
-same-length : tie.Need-same-length Inv-loop μ-loop
-same-length c = search needs
 
 returns : tie.Need-returns Inv-loop μ-loop
 returns c = search (needs, mixing-end)
@@ -77,19 +44,19 @@ mix-slices-spec =
     μ-loop
     loop-holds
     copy-requires
-    add-copy-bits
+    (λ c. search needs)
     copy-bits-requires
-    add-at
-    mul-wide
+    (λ c. search needs)
+    (λ c. search needs)
     shared-slice-read-wide
-    wide-requires
-    mul-values
+    (λ c κs. search needs)
+    (λ c. search needs)
     slice-write-values
-    add-q
-    add-i
-    add-j
-    add-k
-    loop-less
+    (λ c. search needs)
+    (λ c. search needs)
+    (λ c. search needs)
+    (λ c. search needs)
+    (λ c. search needs)
     loop-again
-    same-length
+    (λ c. search needs)
     returns)

@@ -7,9 +7,6 @@ use Rattle.record_write.proofs.write.axes_differ.Tie as tie
 returns : tie.Need-returns
 returns c = search (needs, axes, cases)
 
-in-tolerance-requires : tie.Need-in-tolerance-requires
-in-tolerance-requires c κs = search needs
-
 returns-2 : tie.Need-returns-2
 returns-2 c = search (needs, axes, cases)
 
@@ -23,4 +20,10 @@ returns-3 : tie.Need-returns-3
 returns-3 c = search (needs, axes, cases)
 
 pub axes-differ-spec : {M : Type 1} → statement M
-axes-differ-spec = tie.close (tie.spec returns in-tolerance-requires returns-2 bits-requires bits-requires-2 returns-3)
+axes-differ-spec = tie.close (tie.spec
+    returns
+    (λ c κs. search needs)
+    returns-2
+    bits-requires
+    bits-requires-2
+    returns-3)

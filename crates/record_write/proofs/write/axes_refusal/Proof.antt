@@ -4,15 +4,12 @@ use Rattle.basis.specs.RefuseLaws.{rows}
 use Rattle.record_write.proofs.write.axes_refusal.Statement.{statement}
 use Rattle.record_write.proofs.write.axes_refusal.Tie as tie
 
-axes-differ-requires : tie.Need-axes-differ-requires
-axes-differ-requires c κs = search needs
-
-or-else-requires : tie.Need-or-else-requires
-or-else-requires c κs = search needs
-
 returns : tie.Need-returns
 unfolding firstFrom
 returns c = search rows depth 8
 
 pub axes-refusal-spec : {M : Type 1} → statement M
-axes-refusal-spec = tie.close (tie.spec axes-differ-requires or-else-requires returns)
+axes-refusal-spec = tie.close (tie.spec
+    (λ c κs. search needs)
+    (λ c κs. search needs)
+    returns)

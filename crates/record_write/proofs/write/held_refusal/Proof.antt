@@ -3,9 +3,6 @@ use Rattle.record_write.proofs.Keeping.{holding}
 use Rattle.record_write.proofs.write.held_refusal.Statement.{statement}
 use Rattle.record_write.proofs.write.held_refusal.Tie as tie
 
-handed-refusal-requires : tie.Need-handed-refusal-requires
-handed-refusal-requires c κs = search needs
-
 returns : tie.Need-returns
 returns c = search (needs, holding)
 
@@ -16,4 +13,8 @@ returns-2 : tie.Need-returns-2
 returns-2 c = search (needs, holding)
 
 pub held-refusal-spec : {M : Type 1} → statement M
-held-refusal-spec = tie.close (tie.spec handed-refusal-requires returns edition-refusal-requires returns-2)
+held-refusal-spec = tie.close (tie.spec
+    (λ c κs. search needs)
+    returns
+    edition-refusal-requires
+    returns-2)

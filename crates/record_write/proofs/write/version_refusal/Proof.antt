@@ -4,12 +4,11 @@ use Rattle.basis.specs.RefuseLaws.{rows}
 use Rattle.record_write.proofs.write.version_refusal.Statement.{statement}
 use Rattle.record_write.proofs.write.version_refusal.Tie as tie
 
-or-else-requires : tie.Need-or-else-requires
-or-else-requires c κs = search needs
-
 returns : tie.Need-returns
 unfolding firstFrom
 returns c = search rows depth 8
 
 pub version-refusal-spec : {M : Type 1} → statement M
-version-refusal-spec = tie.close (tie.spec or-else-requires returns)
+version-refusal-spec = tie.close (tie.spec
+    (λ c κs. search needs)
+    returns)

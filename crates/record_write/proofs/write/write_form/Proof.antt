@@ -4,12 +4,6 @@ use Rattle.record_write.proofs.Keeping.{keep-fault, kept-sized, room-fa
 use Rattle.record_write.proofs.write.write_form.Statement.{statement}
 use Rattle.record_write.proofs.write.write_form.Tie as tie
 
-held-refusal-requires : tie.Need-held-refusal-requires
-held-refusal-requires c κs = search needs
-
-count-refused-requires : tie.Need-count-refused-requires
-count-refused-requires c κs = search needs
-
 returns : tie.Need-returns
 returns c =
     let test = c .before in
@@ -21,9 +15,6 @@ length-of-requires c κs =
     let kept = c .before in
     let entry = kept .before .before .before .before .before .before .before in
     kept-sized _ _ _ _ 0 (kept .held-refusal .ensures) (c .if1 .left) (entry .pre)
-
-count-refused-requires-2 : tie.Need-count-refused-requires-2
-count-refused-requires-2 c κs = search needs
 
 returns-2 : tie.Need-returns-2
 returns-2 c =
@@ -42,12 +33,6 @@ write-kept-requires c κs =
     let entry = kept .before .before .before .before .before .before .before in
     kept-all _ _ _ _ _ (kept .held-refusal .ensures) (test .if1 .left) (long .length-of .ensures) (entry .pre) (second .if2 .left)
 
-counted-as-requires : tie.Need-counted-as-requires
-counted-as-requires c κs = search needs
-
-same-length : tie.Need-same-length
-same-length c = search needs
-
 returns-3 : tie.Need-returns-3
 returns-3 c =
     let written = c .before .before .before in
@@ -64,13 +49,13 @@ pub write-form-spec : {M : Type 1} → statement M
 write-form-spec =
     tie.close
     (tie.spec
-    held-refusal-requires
-    count-refused-requires
+    (λ c κs. search needs)
+    (λ c κs. search needs)
     returns
     length-of-requires
-    count-refused-requires-2
+    (λ c κs. search needs)
     returns-2
     write-kept-requires
-    counted-as-requires
-    same-length
+    (λ c κs. search needs)
+    (λ c. search needs)
     returns-3)

@@ -5,18 +5,6 @@ use borrow.Author.Needs.{needs}
 use Rattle.settings_entries.proofs.ask.refusal.Statement.{statement}
 use Rattle.settings_entries.proofs.ask.refusal.Tie as tie
 
-bad-lengths-requires : tie.Need-bad-lengths-requires
-bad-lengths-requires c κs = search needs
-
-or-else-requires : tie.Need-or-else-requires
-or-else-requires c κs = search needs
-
-is-known-requires : tie.Need-is-known-requires
-is-known-requires c κs = search needs
-
-or-else-requires-2 : tie.Need-or-else-requires-2
-or-else-requires-2 c κs = search needs
-
 returns : tie.Need-returns
 unfolding askRefusal firstFrom
 returns c = search rows depth 24
@@ -24,4 +12,9 @@ returns c = search rows depth 24
 pub refusal-spec : {M : Type 1} → statement M
 refusal-spec =
     tie.close
-    (tie.spec bad-lengths-requires or-else-requires is-known-requires or-else-requires-2 returns)
+    (tie.spec
+    (λ c κs. search needs)
+    (λ c κs. search needs)
+    (λ c κs. search needs)
+    (λ c κs. search needs)
+    returns)

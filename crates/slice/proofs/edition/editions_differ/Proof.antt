@@ -21,21 +21,6 @@ loop-holds c = compare-none _ _
 codes-at-requires : tie.Need-codes-at-requires Inv-loop μ-loop
 codes-at-requires c κs = codes-there _ _ (c .loop-test .taken)
 
-mul-same : tie.Need-mul-same Inv-loop μ-loop
-mul-same c = search needs
-
-shared-slice-read-same : tie.Need-shared-slice-read-same Inv-loop μ-loop
-shared-slice-read-same c = search needs
-
-edition-of-requires : tie.Need-edition-of-requires Inv-loop μ-loop
-edition-of-requires c κs = search needs
-
-add-i : tie.Need-add-i Inv-loop μ-loop
-add-i c = search needs
-
-loop-less : tie.Need-loop-less Inv-loop μ-loop
-loop-less c = search needs
-
 loop-again : tie.Need-loop-again Inv-loop μ-loop
 loop-again c = search (needs, compare-more)
 
@@ -50,10 +35,10 @@ editions-differ-spec =
     μ-loop
     loop-holds
     codes-at-requires
-    mul-same
-    shared-slice-read-same
-    edition-of-requires
-    add-i
-    loop-less
+    (λ c. search needs)
+    (λ c. search needs)
+    (λ c κs. search needs)
+    (λ c. search needs)
+    (λ c. search needs)
     loop-again
     returns)

@@ -4,18 +4,6 @@ use borrow.Author.Needs.{needs}
 use Rattle.slice.proofs.faults.code_refusal.Statement.{statement}
 use Rattle.slice.proofs.faults.code_refusal.Tie as tie
 
-sources-known-requires : tie.Need-sources-known-requires
-sources-known-requires c κs = search needs
-
-or-else-requires : tie.Need-or-else-requires
-or-else-requires c κs = search needs
-
-choices-known-requires : tie.Need-choices-known-requires
-choices-known-requires c κs = search needs
-
-or-else-requires-2 : tie.Need-or-else-requires-2
-or-else-requires-2 c κs = search needs
-
 returns : tie.Need-returns
 unfolding firstFrom
 returns c = search rows depth 24
@@ -24,8 +12,8 @@ pub code-refusal-spec : {M : Type 1} → statement M
 code-refusal-spec =
     tie.close
     (tie.spec
-    sources-known-requires
-    or-else-requires
-    choices-known-requires
-    or-else-requires-2
+    (λ c κs. search needs)
+    (λ c κs. search needs)
+    (λ c κs. search needs)
+    (λ c κs. search needs)
     returns)

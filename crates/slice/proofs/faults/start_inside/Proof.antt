@@ -12,11 +12,10 @@ counted : (vc1 vc2 : ℕ) (c : Codes) (n : ℕ) → n ≡ countFor vc1 vc2 (c .s
 unfolding startInside
 counted vc1 vc2 c n e = ap (ltb (c .start)) e
 
-count-for-requires : tie.Need-count-for-requires
-count-for-requires c κs = search needs
-
 returns : tie.Need-returns
 returns c = search (needs, counted)
 
 pub start-inside-spec : {M : Type 1} → statement M
-start-inside-spec = tie.close (tie.spec count-for-requires returns)
+start-inside-spec = tie.close (tie.spec
+    (λ c κs. search needs)
+    returns)

@@ -10,15 +10,6 @@ use borrow.Author.Needs.{needs}
 use Rattle.slice.proofs.read.view_at.Statement.{statement}
 use Rattle.slice.proofs.read.view_at.Tie as tie
 
-codes-at-requires : tie.Need-codes-at-requires
-codes-at-requires c κs = search needs
-
-shape-at-requires : tie.Need-shape-at-requires
-shape-at-requires c κs = search needs
-
-view-of-requires : tie.Need-view-of-requires
-view-of-requires c κs = search needs
-
 told : (at : List ℕ) (shape : List Float) (i : ℕ) (c : Codes) (s : Shape) (v : ViewData) → c ≡ codesAt at i → s ≡ shapeAt shape i → v ≡ viewOf c s → v ≡ sliceView at shape i
 unfolding sliceView
 told at shape i c s v e f g = rw (e, f) at g
@@ -27,4 +18,8 @@ returns : tie.Need-returns
 returns c = search (needs, told)
 
 pub view-at-spec : {M : Type 1} → statement M
-view-at-spec = tie.close (tie.spec codes-at-requires shape-at-requires view-of-requires returns)
+view-at-spec = tie.close (tie.spec
+    (λ c κs. search needs)
+    (λ c κs. search needs)
+    (λ c κs. search needs)
+    returns)

@@ -4,9 +4,6 @@ use borrow.Author.Needs.{needs}
 use Rattle.stitch.proofs.turn.take_turn.Statement.{statement}
 use Rattle.stitch.proofs.turn.take_turn.Tie as tie
 
-slice-read-if1 : tie.Need-slice-read-if1
-slice-read-if1 c = search needs
-
 returns : tie.Need-returns
 returns c =
     let lent = c .before .before .before .before .before .before in
@@ -45,9 +42,6 @@ part-walk-chain-start c =
     let h = turn-behind (entry .pre) (fresh .if1 .left) in
     search needs
 
-part-walk-chain-end : tie.Need-part-walk-chain-end
-part-walk-chain-end c = search needs
-
 walk-chain-requires : tie.Need-walk-chain-requires
 walk-chain-requires c κs =
     let fresh = c .before .before .before .before .before in
@@ -72,27 +66,6 @@ list-loop-requires c κs =
     let entry = lent .before .before .before .before .before .before .before .before in
     turn-looped (entry .pre) (fresh .if1 .left) (walked .walk-chain .ensures)
 
-same-length : tie.Need-same-length
-same-length c = search needs
-
-same-length-2 : tie.Need-same-length-2
-same-length-2 c = search needs
-
-same-length-3 : tie.Need-same-length-3
-same-length-3 c = search needs
-
-same-length-4 : tie.Need-same-length-4
-same-length-4 c = search needs
-
-same-length-5 : tie.Need-same-length-5
-same-length-5 c = search needs
-
-same-length-6 : tie.Need-same-length-6
-same-length-6 c = search needs
-
-same-length-7 : tie.Need-same-length-7
-same-length-7 c = search needs
-
 returns-2 : tie.Need-returns-2
 returns-2 c =
     let looped = c .before .before in
@@ -107,21 +80,21 @@ pub take-turn-spec : {M : Type 1} → statement M
 take-turn-spec =
     tie.close
     (tie.spec
-    slice-read-if1
+    (λ c. search needs)
     returns
     mul-a
     mul-walk-chain
     sub-walk-chain
     part-walk-chain-start
-    part-walk-chain-end
+    (λ c. search needs)
     walk-chain-requires
     list-chain-requires
     list-loop-requires
-    same-length
-    same-length-2
-    same-length-3
-    same-length-4
-    same-length-5
-    same-length-6
-    same-length-7
+    (λ c. search needs)
+    (λ c. search needs)
+    (λ c. search needs)
+    (λ c. search needs)
+    (λ c. search needs)
+    (λ c. search needs)
+    (λ c. search needs)
     returns-2)

@@ -3,12 +3,6 @@ use borrow.Author.Needs.{needs}
 use Rattle.stitch.proofs.write.write_with.Statement.{statement}
 use Rattle.stitch.proofs.write.write_with.Tie as tie
 
-fill-points-requires : tie.Need-fill-points-requires
-fill-points-requires c κs = search needs
-
-hang-requires : tie.Need-hang-requires
-hang-requires c κs = search needs
-
 take-turns-requires : tie.Need-take-turns-requires
 take-turns-requires c κs =
     let hung = c .before .before .before .before .before .before .before .before .before .before in
@@ -37,29 +31,11 @@ same-length c =
     let filled = turned .before .before .before .before .before .before .before .before .before .before .before .before .before .before .before in
     search (needs, filled .points)
 
-same-length-2 : tie.Need-same-length-2
-same-length-2 c = search needs
-
 same-length-3 : tie.Need-same-length-3
 same-length-3 c =
     let marked = c .before .before .before .before .before .before .before .before .before .before .before .before .before .before .before .before .before .before .before .before .before .before .before .before .before .before .before .before in
     let hung = marked .before .before .before .before .before .before .before .before .before .before .before .before .before in
     search (needs, marked .link2, hung .link)
-
-same-length-4 : tie.Need-same-length-4
-same-length-4 c = search needs
-
-same-length-5 : tie.Need-same-length-5
-same-length-5 c = search needs
-
-same-length-6 : tie.Need-same-length-6
-same-length-6 c = search needs
-
-same-length-7 : tie.Need-same-length-7
-same-length-7 c = search needs
-
-same-length-8 : tie.Need-same-length-8
-same-length-8 c = search needs
 
 returns : tie.Need-returns
 returns c =
@@ -72,17 +48,17 @@ pub write-with-spec : {M : Type 1} → statement M
 write-with-spec =
     tie.close
     (tie.spec
-    fill-points-requires
-    hang-requires
+    (λ c κs. search needs)
+    (λ c κs. search needs)
     take-turns-requires
     room-need-requires
     clear-rest-requires
     same-length
-    same-length-2
+    (λ c. search needs)
     same-length-3
-    same-length-4
-    same-length-5
-    same-length-6
-    same-length-7
-    same-length-8
+    (λ c. search needs)
+    (λ c. search needs)
+    (λ c. search needs)
+    (λ c. search needs)
+    (λ c. search needs)
     returns)

@@ -3,14 +3,8 @@ use borrow.Author.Needs.{needs}
 use Rattle.stitch_answer.proofs.answer.answer_of.Statement.{statement}
 use Rattle.stitch_answer.proofs.answer.answer_of.Tie as tie
 
-around-requires : tie.Need-around-requires
-around-requires c κs = search needs
-
 by-groups-requires : tie.Need-by-groups-requires
 by-groups-requires c κs = asking-ready _ _ _ _ _ _ (c .before .before .before .before .before .pre) _ _ (c .before .around .ensures)
-
-same-length : tie.Need-same-length
-same-length c = search needs
 
 returns : tie.Need-returns
 returns c =
@@ -19,4 +13,8 @@ returns c =
     asking-answered _ _ _ _ _ _ (entry .pre) _ _ (asked .before .before .around .ensures) _ _ _ (asked .by-groups .ensures)
 
 pub answer-of-spec : {M : Type 1} → statement M
-answer-of-spec = tie.close (tie.spec around-requires by-groups-requires same-length returns)
+answer-of-spec = tie.close (tie.spec
+    (λ c κs. search needs)
+    by-groups-requires
+    (λ c. search needs)
+    returns)

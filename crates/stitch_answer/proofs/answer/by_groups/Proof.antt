@@ -4,23 +4,8 @@ use borrow.Author.Needs.{needs}
 use Rattle.stitch_answer.proofs.answer.by_groups.Statement.{statement}
 use Rattle.stitch_answer.proofs.answer.by_groups.Tie as tie
 
-cells-of-requires : tie.Need-cells-of-requires
-cells-of-requires c κs = search needs
-
-class-of-requires : tie.Need-class-of-requires
-class-of-requires c κs = search needs
-
-group-first-requires : tie.Need-group-first-requires
-group-first-requires c κs = search needs
-
-of-group-requires : tie.Need-of-group-requires
-of-group-requires c κs = search needs
-
 lowest-requires : tie.Need-lowest-requires
 lowest-requires c κs = asked-first _ _ _ _ _ _ _ _ _ _ (c .before .before .before .before .before .before .before .before .pre) (c .of-group .ensures) (c .before .before .before .before .cells-of .ensures)
-
-same-length : tie.Need-same-length
-same-length c = search needs
 
 returns : tie.Need-returns
 returns c = chosen-first _ _ _ _ _ _ _ _ _ _ (c .before .before .before .before .before .before .before .before .before .before .before .before .pre) (c .before .before .before .before .before .before .before .class-of .ensures) (c .before .before .before .before .before .before .group-first .ensures) _ _ _ (c .before .before .before .before .of-group .ensures) (c .before .before .before .lowest .ensures) (c .if1 .taken)
@@ -28,41 +13,20 @@ returns c = chosen-first _ _ _ _ _ _ _ _ _ _ (c .before .before .before .before 
 sub-of-group : tie.Need-sub-of-group
 sub-of-group c = omega (arith, first-few (c .before .before .before .before .before .before .before .before .class-of .result) _ (c .before .before .before .before .before .before .before .group-first .ensures))
 
-of-group-requires-2 : tie.Need-of-group-requires-2
-of-group-requires-2 c κs = search needs
-
 lowest-requires-2 : tie.Need-lowest-requires-2
 lowest-requires-2 c κs = asked-again _ _ _ _ _ _ _ _ _ _ _ _ _ _ (c .before .before .before .before .before .before .before .before .before .before .before .before .before .before .pre) (c .before .before .before .before .before .before .of-group .ensures) (c .before .before .before .before .before .lowest .ensures) (c .of-group2 .ensures) (c .before .before .before .before .before .before .before .before .before .before .cells-of .ensures)
-
-same-length-2 : tie.Need-same-length-2
-same-length-2 c = search needs
 
 returns-2 : tie.Need-returns-2
 returns-2 c = chosen-second _ _ _ _ _ _ _ _ _ _ (c .before .before .before .before .before .before .before .before .before .before .before .before .before .before .before .before .before .before .pre) (c .before .before .before .before .before .before .before .before .before .before .before .before .before .class-of .ensures) (c .before .before .before .before .before .before .before .before .before .before .before .before .group-first .ensures) _ _ _ (c .before .before .before .before .before .before .before .before .before .before .of-group .ensures) (c .before .before .before .before .before .before .before .before .before .lowest .ensures) (c .before .before .before .before .before .before .if1 .left) _ _ _ (c .before .before .before .before .of-group2 .ensures) (c .before .before .before .lowest2 .ensures) (c .if2 .taken)
 
-of-group-requires-3 : tie.Need-of-group-requires-3
-of-group-requires-3 c κs = search needs
-
 lowest-requires-3 : tie.Need-lowest-requires-3
 lowest-requires-3 c κs = asked-again _ _ _ _ _ _ _ _ _ _ _ _ _ _ (c .before .before .before .before .before .before .before .before .before .before .before .before .before .before .before .before .before .before .before .before .pre) (c .before .before .before .before .before .before .of-group2 .ensures) (c .before .before .before .before .before .lowest2 .ensures) (c .of-group3 .ensures) (c .before .before .before .before .before .before .before .before .before .before .before .before .before .before .before .before .cells-of .ensures)
-
-same-length-3 : tie.Need-same-length-3
-same-length-3 c = search needs
 
 returns-3 : tie.Need-returns-3
 returns-3 c = none-chosen _ _ _ _ _ _ _ _ _ _ (c .before .before .before .before .before .before .before .before .before .before .before .before .before .before .before .before .before .before .before .before .before .before .before .before .pre) (c .before .before .before .before .before .before .before .before .before .before .before .before .before .before .before .before .before .before .before .class-of .ensures) (c .before .before .before .before .before .before .before .before .before .before .before .before .before .before .before .before .before .before .group-first .ensures) _ _ _ (c .before .before .before .before .before .before .before .before .before .before .before .before .before .before .before .before .of-group .ensures) (c .before .before .before .before .before .before .before .before .before .before .before .before .before .before .before .lowest .ensures) (c .before .before .before .before .before .before .before .before .before .before .before .before .if1 .left) _ _ _ (c .before .before .before .before .before .before .before .before .before .before .of-group2 .ensures) (c .before .before .before .before .before .before .before .before .before .lowest2 .ensures) (c .before .before .before .before .before .before .if2 .left) _ _ _ (c .before .before .before .before .of-group3 .ensures) (c .before .before .before .lowest3 .ensures) (c .if3 .taken)
 
-is-refused-requires : tie.Need-is-refused-requires
-is-refused-requires c κs = search needs
-
-same-length-4 : tie.Need-same-length-4
-same-length-4 c = search needs
-
 returns-4 : tie.Need-returns-4
 returns-4 c = overlap-refused _ _ _ _ _ _ _ _ _ _ (c .before .before .before .before .before .before .before .before .before .before .before .before .before .before .before .before .before .before .before .before .before .before .before .before .before .before .pre) (c .before .before .before .before .before .before .before .before .before .before .before .before .before .before .before .before .before .before .before .before .before .class-of .ensures) (c .before .before .before .before .before .before .before .before .before .before .before .before .before .before .before .before .before .before .before .before .group-first .ensures) _ _ _ (c .before .before .before .before .before .before .before .before .before .before .before .before .before .before .before .before .before .before .of-group .ensures) (c .before .before .before .before .before .before .before .before .before .before .before .before .before .before .before .before .before .lowest .ensures) (c .before .before .before .before .before .before .before .before .before .before .before .before .before .before .if1 .left) _ _ _ (c .before .before .before .before .before .before .before .before .before .before .before .before .of-group2 .ensures) (c .before .before .before .before .before .before .before .before .before .before .before .lowest2 .ensures) (c .before .before .before .before .before .before .before .before .if2 .left) _ _ _ (c .before .before .before .before .before .before .of-group3 .ensures) (c .before .before .before .before .before .lowest3 .ensures) _ (c .before .before .if3 .left) (c .before .is-refused .ensures) (c .if4 .taken)
-
-same-length-5 : tie.Need-same-length-5
-same-length-5 c = search needs
 
 returns-5 : tie.Need-returns-5
 returns-5 c = overlap-chosen _ _ _ _ _ _ _ _ _ _ (c .before .before .before .before .before .before .before .before .before .before .before .before .before .before .before .before .before .before .before .before .before .before .before .before .before .before .pre) (c .before .before .before .before .before .before .before .before .before .before .before .before .before .before .before .before .before .before .before .before .before .class-of .ensures) (c .before .before .before .before .before .before .before .before .before .before .before .before .before .before .before .before .before .before .before .before .group-first .ensures) _ _ _ (c .before .before .before .before .before .before .before .before .before .before .before .before .before .before .before .before .before .before .of-group .ensures) (c .before .before .before .before .before .before .before .before .before .before .before .before .before .before .before .before .before .lowest .ensures) (c .before .before .before .before .before .before .before .before .before .before .before .before .before .before .if1 .left) _ _ _ (c .before .before .before .before .before .before .before .before .before .before .before .before .of-group2 .ensures) (c .before .before .before .before .before .before .before .before .before .before .before .lowest2 .ensures) (c .before .before .before .before .before .before .before .before .if2 .left) _ _ _ (c .before .before .before .before .before .before .of-group3 .ensures) (c .before .before .before .before .before .lowest3 .ensures) _ (c .before .before .if3 .left) (c .before .is-refused .ensures) (c .if4 .left)
@@ -71,24 +35,24 @@ pub by-groups-spec : {M : Type 1} → statement M
 by-groups-spec =
     tie.close
     (tie.spec
-    cells-of-requires
-    class-of-requires
-    group-first-requires
-    of-group-requires
+    (λ c κs. search needs)
+    (λ c κs. search needs)
+    (λ c κs. search needs)
+    (λ c κs. search needs)
     lowest-requires
-    same-length
+    (λ c. search needs)
     returns
     sub-of-group
-    of-group-requires-2
+    (λ c κs. search needs)
     lowest-requires-2
-    same-length-2
+    (λ c. search needs)
     returns-2
-    of-group-requires-3
+    (λ c κs. search needs)
     lowest-requires-3
-    same-length-3
+    (λ c. search needs)
     returns-3
-    is-refused-requires
-    same-length-4
+    (λ c κs. search needs)
+    (λ c. search needs)
     returns-4
-    same-length-5
+    (λ c. search needs)
     returns-5)

@@ -6,9 +6,6 @@ use Rattle.stitch_cell.specs.CellLaws.{bits-of}
 use Rattle.stitch_cell.proofs.cell.cell.Statement.{statement}
 use Rattle.stitch_cell.proofs.cell.cell.Tie as tie
 
-kept-off-requires : tie.Need-kept-off-requires
-kept-off-requires c κs = search needs
-
 float-to-bits-result : tie.Need-float-to-bits-result
 float-to-bits-result c = bits-of _ _ _ (c .before .before .pre) (c .kept-off .ensures)
 
@@ -17,4 +14,7 @@ unfolding cellOf
 returns c = ap (λ (z : Float). toBits binary64 z) (c .kept-off .ensures)
 
 pub cell-spec : {M : Type 1} → statement M
-cell-spec = tie.close (tie.spec kept-off-requires float-to-bits-result returns)
+cell-spec = tie.close (tie.spec
+    (λ c κs. search needs)
+    float-to-bits-result
+    returns)

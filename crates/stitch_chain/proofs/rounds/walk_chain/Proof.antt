@@ -17,23 +17,8 @@ place-requires c κs = search (needs, walking)
 loop-holds : tie.Need-loop-holds Inv-loop μ-loop
 loop-holds c = search (needs, walking)
 
-mul-chain : tie.Need-mul-chain Inv-loop μ-loop
-mul-chain c = search needs
-
-slice-write-chain : tie.Need-slice-write-chain Inv-loop μ-loop
-slice-write-chain c = search needs
-
-add-rounds : tie.Need-add-rounds Inv-loop μ-loop
-add-rounds c = search needs
-
 next-of-requires : tie.Need-next-of-requires Inv-loop μ-loop
 next-of-requires c κs = walk-look _ _ _ _ _ _ _ _ (c .before .before .before .loop .inv)
-
-enum-known-j : tie.Need-enum-known-j Inv-loop μ-loop
-enum-known-j c = search needs
-
-sub-place : tie.Need-sub-place Inv-loop μ-loop
-sub-place c = search needs
 
 place-requires-2 : tie.Need-place-requires-2 Inv-loop μ-loop
 place-requires-2 c κs =
@@ -42,14 +27,8 @@ place-requires-2 c κs =
     let turn = asked .before .before .before .before in
     walk-place _ _ _ _ _ _ _ _ (turn .loop .inv) (asked .next-of .ensures) (chosen .j .given .1)
 
-loop-less : tie.Need-loop-less Inv-loop μ-loop
-loop-less c = search needs
-
 loop-again : tie.Need-loop-again Inv-loop μ-loop
 loop-again c = search (needs, walking)
-
-enum-known-how : tie.Need-enum-known-how Inv-loop μ-loop
-enum-known-how c = search needs
 
 same-length : tie.Need-same-length Inv-loop μ-loop
 same-length c = search (needs, walking)
@@ -81,16 +60,16 @@ walk-chain-spec =
     μ-loop
     place-requires
     loop-holds
-    mul-chain
-    slice-write-chain
-    add-rounds
+    (λ c. search needs)
+    (λ c. search needs)
+    (λ c. search needs)
     next-of-requires
-    enum-known-j
-    sub-place
+    (λ c. search needs)
+    (λ c. search needs)
     place-requires-2
-    loop-less
+    (λ c. search needs)
     loop-again
-    enum-known-how
+    (λ c. search needs)
     same-length
     same-length-2
     same-length-3

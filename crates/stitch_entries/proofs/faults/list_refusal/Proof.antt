@@ -18,24 +18,6 @@ then-slices n q p r len1 vc1 len2 vc2 at numbers count e f g =
     then-rows n p r (row (lengthFault 3 len1 vc1) 1 ∷ row (lengthFault 3 len2 vc2) 1 ∷ []) (slices.listRows at numbers count ++ (row (ltb mostSlices count) 1 ∷ []))
     (then-rows n q p (slices.listRows at numbers count) (row (ltb mostSlices count) 1 ∷ []) (unfold firstFrom in e) f) (unfold firstFrom in g)
 
-bad-length-requires : tie.Need-bad-length-requires
-bad-length-requires c κs = search needs
-
-or-else-requires : tie.Need-or-else-requires
-or-else-requires c κs = search needs
-
-bad-length-requires-2 : tie.Need-bad-length-requires-2
-bad-length-requires-2 c κs = search needs
-
-or-else-requires-2 : tie.Need-or-else-requires-2
-or-else-requires-2 c κs = search needs
-
-list-refusal-requires : tie.Need-list-refusal-requires
-list-refusal-requires c κs = search needs
-
-or-else-requires-3 : tie.Need-or-else-requires-3
-or-else-requires-3 c κs = search needs
-
 returns : tie.Need-returns
 returns c = search (then-slices, rows) depth 24
 
@@ -43,10 +25,10 @@ pub list-refusal-spec : {M : Type 1} → statement M
 list-refusal-spec =
     tie.close
     (tie.spec
-    bad-length-requires
-    or-else-requires
-    bad-length-requires-2
-    or-else-requires-2
-    list-refusal-requires
-    or-else-requires-3
+    (λ c κs. search needs)
+    (λ c κs. search needs)
+    (λ c κs. search needs)
+    (λ c κs. search needs)
+    (λ c κs. search needs)
+    (λ c κs. search needs)
     returns)

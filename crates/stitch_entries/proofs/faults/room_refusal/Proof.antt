@@ -5,24 +5,6 @@ use borrow.Author.Needs.{needs}
 use Rattle.stitch_entries.proofs.faults.room_refusal.Statement.{statement}
 use Rattle.stitch_entries.proofs.faults.room_refusal.Tie as tie
 
-room-need-requires : tie.Need-room-need-requires
-room-need-requires c κs = search needs
-
-or-else-requires : tie.Need-or-else-requires
-or-else-requires c κs = search needs
-
-or-else-requires-2 : tie.Need-or-else-requires-2
-or-else-requires-2 c κs = search needs
-
-or-else-requires-3 : tie.Need-or-else-requires-3
-or-else-requires-3 c κs = search needs
-
-or-else-requires-4 : tie.Need-or-else-requires-4
-or-else-requires-4 c κs = search needs
-
-or-else-requires-5 : tie.Need-or-else-requires-5
-or-else-requires-5 c κs = search needs
-
 returns : tie.Need-returns
 unfolding firstFrom
 returns c = search (rows, third) depth 24
@@ -31,10 +13,10 @@ pub room-refusal-spec : {M : Type 1} → statement M
 room-refusal-spec =
     tie.close
     (tie.spec
-    room-need-requires
-    or-else-requires
-    or-else-requires-2
-    or-else-requires-3
-    or-else-requires-4
-    or-else-requires-5
+    (λ c κs. search needs)
+    (λ c κs. search needs)
+    (λ c κs. search needs)
+    (λ c κs. search needs)
+    (λ c κs. search needs)
+    (λ c κs. search needs)
     returns)

@@ -3,9 +3,6 @@ use borrow.Author.Needs.{needs}
 use Rattle.stitch_entries.proofs.stitching.refusal.Statement.{statement}
 use Rattle.stitch_entries.proofs.stitching.refusal.Tie as tie
 
-input-refusal-requires : tie.Need-input-refusal-requires
-input-refusal-requires c κs = search needs
-
 returns : tie.Need-returns
 returns c = search (needs, finding)
 
@@ -19,4 +16,9 @@ returns-2 : tie.Need-returns-2
 returns-2 c = search (needs, finding)
 
 pub refusal-spec : {M : Type 1} → statement M
-refusal-spec = tie.close (tie.spec input-refusal-requires returns edition-refusal-requires room-refusal-requires returns-2)
+refusal-spec = tie.close (tie.spec
+    (λ c κs. search needs)
+    returns
+    edition-refusal-requires
+    room-refusal-requires
+    returns-2)

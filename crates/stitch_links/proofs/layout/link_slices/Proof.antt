@@ -14,14 +14,8 @@ abbrev μ-loop : tie.MeasureT-loop
 loop-holds : tie.Need-loop-holds Inv-loop μ-loop
 loop-holds c = putting-none _ _ _ (c .before .before .pre)
 
-sub-i : tie.Need-sub-i Inv-loop μ-loop
-sub-i c = search needs
-
 home-of-requires : tie.Need-home-of-requires Inv-loop μ-loop
 home-of-requires c κs = home-there _ _ _ (c .before .loop .inv .fit) (omega (arith, c .before .loop .inv .left, c .loop-test .taken))
-
-add-at : tie.Need-add-at Inv-loop μ-loop
-add-at c = search needs
 
 mul-next : tie.Need-mul-next Inv-loop μ-loop
 mul-next c = omega (arith, putting-inside _ _ _ _ _ _ _ (c .before .before .before .loop .inv) (c .before .home-of .ensures))
@@ -29,26 +23,14 @@ mul-next c = omega (arith, putting-inside _ _ _ _ _ _ _ (c .before .before .befo
 slice-read-next : tie.Need-slice-read-next Inv-loop μ-loop
 slice-read-next c = omega (arith, putting-inside _ _ _ _ _ _ _ (c .before .before .before .before .loop .inv) (c .before .before .home-of .ensures))
 
-mul-link : tie.Need-mul-link Inv-loop μ-loop
-mul-link c = search needs
-
-slice-write-link : tie.Need-slice-write-link Inv-loop μ-loop
-slice-write-link c = search needs
-
 mul-link-2 : tie.Need-mul-link-2 Inv-loop μ-loop
 mul-link-2 c = omega (arith, putting-inside _ _ _ _ _ _ _ (c .before .before .before .before .loop .inv) (c .before .before .home-of .ensures))
 
 slice-write-link-2 : tie.Need-slice-write-link-2 Inv-loop μ-loop
 slice-write-link-2 c = simp length-set (putting-inside _ _ _ _ _ _ _ (c .before .before .before .before .loop .inv) (c .before .before .home-of .ensures))
 
-loop-less : tie.Need-loop-less Inv-loop μ-loop
-loop-less c = search needs
-
 loop-again : tie.Need-loop-again Inv-loop μ-loop
 loop-again c = putting-more _ _ _ _ _ _ (c .before .before .before .before .loop .inv) (c .before .before .before .loop-test .taken) (c .before .before .home-of .ensures)
-
-same-length : tie.Need-same-length Inv-loop μ-loop
-same-length c = search needs
 
 returns : tie.Need-returns Inv-loop μ-loop
 returns c = putting-end _ _ _ _ _ (c .before .loop .inv) (c .loop-test .left)
@@ -60,16 +42,16 @@ link-slices-spec =
     Inv-loop
     μ-loop
     loop-holds
-    sub-i
+    (λ c. search needs)
     home-of-requires
-    add-at
+    (λ c. search needs)
     mul-next
     slice-read-next
-    mul-link
-    slice-write-link
+    (λ c. search needs)
+    (λ c. search needs)
     mul-link-2
     slice-write-link-2
-    loop-less
+    (λ c. search needs)
     loop-again
-    same-length
+    (λ c. search needs)
     returns)

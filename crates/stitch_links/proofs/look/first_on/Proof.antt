@@ -12,15 +12,6 @@ Inv-loop points visited link₀ w q h lists end at₀ next₀ link at next = See
 abbrev μ-loop : tie.MeasureT-loop
 μ-loop points visited link₀ w q h lists end at₀ next₀ link at next = end - next
 
-add-end : tie.Need-add-end Inv-loop μ-loop
-add-end c = search needs
-
-mul-next : tie.Need-mul-next Inv-loop μ-loop
-mul-next c = search needs
-
-slice-read-next : tie.Need-slice-read-next Inv-loop μ-loop
-slice-read-next c = search needs
-
 loop-holds : tie.Need-loop-holds Inv-loop μ-loop
 loop-holds c = seeking-none _ _ _ _ _ _ (c .before .before .before .before .before .pre)
 
@@ -29,18 +20,6 @@ sub-j c = omega (arith, (onward _ _ _ _ _ _ _ _ _ _ _ (c .before .loop .inv) (c 
 
 is-free-requires : tie.Need-is-free-requires Inv-loop μ-loop
 is-free-requires c κs = record { inside = omega (arith, (onward _ _ _ _ _ _ _ _ _ _ _ (c .before .loop .inv) (c .loop-test .taken)) .slice, (c .before .loop .inv) .marks) }
-
-mul-past : tie.Need-mul-past Inv-loop μ-loop
-mul-past c = search needs
-
-slice-read-past : tie.Need-slice-read-past Inv-loop μ-loop
-slice-read-past c = search needs
-
-mul-link : tie.Need-mul-link Inv-loop μ-loop
-mul-link c = search needs
-
-slice-write-link : tie.Need-slice-write-link Inv-loop μ-loop
-slice-write-link c = search needs
 
 loop-less : tie.Need-loop-less Inv-loop μ-loop
 loop-less c = omega (arith, (onward _ _ _ _ _ _ _ _ _ _ _ (c .before .before .before .before .loop .inv) (c .before .before .before .loop-test .taken)) .higher)
@@ -51,26 +30,14 @@ loop-again c = seeking-skip _ _ _ _ _ _ _ _ _ _ _ (c .before .before .before .be
 meets-requires : tie.Need-meets-requires Inv-loop μ-loop
 meets-requires c κs = there _ _ _ (c .before .before .before .loop .inv .fit) ((onward _ _ _ _ _ _ _ _ _ _ _ (c .before .before .before .loop .inv) (c .before .before .loop-test .taken)) .slice)
 
-same-length : tie.Need-same-length Inv-loop μ-loop
-same-length c = search needs
-
 returns : tie.Need-returns Inv-loop μ-loop
 returns c = seeking-found _ _ _ _ _ _ _ _ _ _ _ (c .before .before .before .before .before .loop .inv) (c .before .before .before .before .loop-test .taken) (told-not-no _ _ (c .before .before .before .is-free .ensures) (c .before .before .if1 .left)) (told-yes _ _ (c .before .meets .ensures) (c .if2 .taken))
-
-mul-next-2 : tie.Need-mul-next-2 Inv-loop μ-loop
-mul-next-2 c = search needs
-
-slice-read-next-2 : tie.Need-slice-read-next-2 Inv-loop μ-loop
-slice-read-next-2 c = search needs
 
 loop-less-2 : tie.Need-loop-less-2 Inv-loop μ-loop
 loop-less-2 c = omega (arith, (onward _ _ _ _ _ _ _ _ _ _ _ (c .before .before .before .before .before .before .loop .inv) (c .before .before .before .before .before .loop-test .taken)) .higher)
 
 loop-again-2 : tie.Need-loop-again-2 Inv-loop μ-loop
 loop-again-2 c = seeking-on _ _ _ _ _ _ _ _ _ _ _ (c .before .before .before .before .before .before .loop .inv) (c .before .before .before .before .before .loop-test .taken) (told-no _ _ (c .before .before .meets .ensures) (c .before .if2 .left))
-
-same-length-2 : tie.Need-same-length-2 Inv-loop μ-loop
-same-length-2 c = search needs
 
 returns-2 : tie.Need-returns-2 Inv-loop μ-loop
 returns-2 c = seeking-end _ _ _ _ _ _ _ _ _ _ _ (c .before .loop .inv) (c .loop-test .left)
@@ -81,24 +48,24 @@ first-on-spec =
     (tie.spec
     Inv-loop
     μ-loop
-    add-end
-    mul-next
-    slice-read-next
+    (λ c. search needs)
+    (λ c. search needs)
+    (λ c. search needs)
     loop-holds
     sub-j
     is-free-requires
-    mul-past
-    slice-read-past
-    mul-link
-    slice-write-link
+    (λ c. search needs)
+    (λ c. search needs)
+    (λ c. search needs)
+    (λ c. search needs)
     loop-less
     loop-again
     meets-requires
-    same-length
+    (λ c. search needs)
     returns
-    mul-next-2
-    slice-read-next-2
+    (λ c. search needs)
+    (λ c. search needs)
     loop-less-2
     loop-again-2
-    same-length-2
+    (λ c. search needs)
     returns-2)

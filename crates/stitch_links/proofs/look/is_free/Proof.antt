@@ -4,9 +4,6 @@ use borrow.Author.Needs.{needs}
 use Rattle.stitch_links.proofs.look.is_free.Statement.{statement}
 use Rattle.stitch_links.proofs.look.is_free.Tie as tie
 
-shared-slice-read-if1 : tie.Need-shared-slice-read-if1
-shared-slice-read-if1 c = search needs
-
 returns : tie.Need-returns
 unfolding free
 returns c = search (needs, cases)
@@ -16,4 +13,7 @@ unfolding free
 returns-2 c = search (needs, cases)
 
 pub is-free-spec : {M : Type 1} → statement M
-is-free-spec = tie.close (tie.spec shared-slice-read-if1 returns returns-2)
+is-free-spec = tie.close (tie.spec
+    (λ c. search needs)
+    returns
+    returns-2)

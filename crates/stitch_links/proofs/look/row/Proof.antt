@@ -20,9 +20,6 @@ list-of-requires c κs = (c .before .loop .inv) .ready .fit .lists
 first-on-requires : tie.Need-first-on-requires Inv-loop μ-loop
 first-on-requires c κs = swept-list _ _ _ _ _ _ _ _ _ _ _ (c .before .before .before .loop .inv) _ _ _ (c .before .list-of .ensures)
 
-lesser-requires : tie.Need-lesser-requires Inv-loop μ-loop
-lesser-requires c κs = search needs
-
 add-cy : tie.Need-add-cy Inv-loop μ-loop
 add-cy c = omega (arith, c .before .before .before .before .before .before .before .before .before .before .before .pre .low, c .before .before .before .before .before .before .loop-test .taken)
 
@@ -47,7 +44,7 @@ row-spec =
     loop-holds
     list-of-requires
     first-on-requires
-    lesser-requires
+    (λ c κs. search needs)
     add-cy
     loop-less
     loop-again

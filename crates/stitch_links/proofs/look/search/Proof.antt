@@ -18,9 +18,6 @@ loop-holds c = (refl, swept-rows _ _ _ _ _ _ (c .before .before .before .pre))
 row-requires : tie.Need-row-requires Inv-loop μ-loop
 row-requires c κs = record { ready = (c .before .before .loop .inv .1) .ready; low = c .before .before .before .before .before .before .pre .low }
 
-lesser-requires : tie.Need-lesser-requires Inv-loop μ-loop
-lesser-requires c κs = search needs
-
 add-cx : tie.Need-add-cx Inv-loop μ-loop
 add-cx c = omega (arith, c .before .before .before .before .before .before .before .before .before .before .pre .lowX, c .before .before .before .before .before .loop-test .taken, c .before .before .before .before .before .before .loop .inv .0)
 
@@ -44,7 +41,7 @@ search-spec =
     μ-loop
     loop-holds
     row-requires
-    lesser-requires
+    (λ c κs. search needs)
     add-cx
     loop-less
     loop-again

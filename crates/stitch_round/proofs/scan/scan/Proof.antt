@@ -11,35 +11,11 @@ Inv-loop points visited first end t starts choices count any₀ best₀ j₀ any
 abbrev μ-loop : tie.MeasureT-loop
 μ-loop points visited first end t starts choices count any₀ best₀ j₀ any best j = count - j
 
-none-yet-requires : tie.Need-none-yet-requires Inv-loop μ-loop
-none-yet-requires c κs = search needs
-
 loop-holds : tie.Need-loop-holds Inv-loop μ-loop
 loop-holds c = search (needs, meeting)
 
-is-candidate-requires : tie.Need-is-candidate-requires Inv-loop μ-loop
-is-candidate-requires c κs = search needs
-
-add-j : tie.Need-add-j Inv-loop μ-loop
-add-j c = search needs
-
-loop-less : tie.Need-loop-less Inv-loop μ-loop
-loop-less c = search needs
-
 loop-again : tie.Need-loop-again Inv-loop μ-loop
 loop-again c = search (needs, meeting)
-
-class-of-requires : tie.Need-class-of-requires Inv-loop μ-loop
-class-of-requires c κs = search needs
-
-offer-requires : tie.Need-offer-requires Inv-loop μ-loop
-offer-requires c κs = search needs
-
-add-j-2 : tie.Need-add-j-2 Inv-loop μ-loop
-add-j-2 c = search needs
-
-loop-less-2 : tie.Need-loop-less-2 Inv-loop μ-loop
-loop-less-2 c = search needs
 
 loop-again-2 : tie.Need-loop-again-2 Inv-loop μ-loop
 loop-again-2 c = search (needs, meeting)
@@ -53,15 +29,15 @@ scan-spec =
     (tie.spec
     Inv-loop
     μ-loop
-    none-yet-requires
+    (λ c κs. search needs)
     loop-holds
-    is-candidate-requires
-    add-j
-    loop-less
+    (λ c κs. search needs)
+    (λ c. search needs)
+    (λ c. search needs)
     loop-again
-    class-of-requires
-    offer-requires
-    add-j-2
-    loop-less-2
+    (λ c κs. search needs)
+    (λ c κs. search needs)
+    (λ c. search needs)
+    (λ c. search needs)
     loop-again-2
     returns)

@@ -15,26 +15,8 @@ abbrev μ-loop : tie.MeasureT-loop
 loop-holds : tie.Need-loop-holds Inv-loop μ-loop
 loop-holds c = search (needs, pointing)
 
-start-point-requires : tie.Need-start-point-requires Inv-loop μ-loop
-start-point-requires c κs = search needs
-
-mul-put-point : tie.Need-mul-put-point Inv-loop μ-loop
-mul-put-point c = search needs
-
-put-point-requires : tie.Need-put-point-requires Inv-loop μ-loop
-put-point-requires c κs = search needs
-
-add-i : tie.Need-add-i Inv-loop μ-loop
-add-i c = search needs
-
-loop-less : tie.Need-loop-less Inv-loop μ-loop
-loop-less c = search needs
-
 loop-again : tie.Need-loop-again Inv-loop μ-loop
 loop-again c = search (needs, pointing)
-
-same-length : tie.Need-same-length Inv-loop μ-loop
-same-length c = search needs
 
 returns : tie.Need-returns Inv-loop μ-loop
 returns c = search (needs, pointing)
@@ -46,11 +28,11 @@ fill-points-spec =
     Inv-loop
     μ-loop
     loop-holds
-    start-point-requires
-    mul-put-point
-    put-point-requires
-    add-i
-    loop-less
+    (λ c κs. search needs)
+    (λ c. search needs)
+    (λ c κs. search needs)
+    (λ c. search needs)
+    (λ c. search needs)
     loop-again
-    same-length
+    (λ c. search needs)
     returns)

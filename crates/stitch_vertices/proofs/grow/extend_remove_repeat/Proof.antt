@@ -11,29 +11,14 @@ Inv-loop room₀ n outline vc view t count m₀ k₀ room m k = Adding t (vertex
 abbrev μ-loop : tie.MeasureT-loop
 μ-loop room₀ n outline vc view t count m₀ k₀ room m k = count - k
 
-add-count : tie.Need-add-count Inv-loop μ-loop
-add-count c = search needs
-
 loop-holds : tie.Need-loop-holds Inv-loop μ-loop
 loop-holds c = search (needs, extending)
-
-vertex-of-requires : tie.Need-vertex-of-requires Inv-loop μ-loop
-vertex-of-requires c κs = search needs
 
 add-or-replace-vertex-requires : tie.Need-add-or-replace-vertex-requires Inv-loop μ-loop
 add-or-replace-vertex-requires c κs = search (needs, extending)
 
-add-k : tie.Need-add-k Inv-loop μ-loop
-add-k c = search needs
-
-loop-less : tie.Need-loop-less Inv-loop μ-loop
-loop-less c = search needs
-
 loop-again : tie.Need-loop-again Inv-loop μ-loop
 loop-again c = search (needs, extending)
-
-same-length : tie.Need-same-length Inv-loop μ-loop
-same-length c = search needs
 
 returns : tie.Need-returns Inv-loop μ-loop
 returns c = search (needs, extending)
@@ -44,12 +29,12 @@ extend-remove-repeat-spec =
     (tie.spec
     Inv-loop
     μ-loop
-    add-count
+    (λ c. search needs)
     loop-holds
-    vertex-of-requires
+    (λ c κs. search needs)
     add-or-replace-vertex-requires
-    add-k
-    loop-less
+    (λ c. search needs)
+    (λ c. search needs)
     loop-again
-    same-length
+    (λ c. search needs)
     returns)

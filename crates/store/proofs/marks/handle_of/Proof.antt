@@ -4,9 +4,6 @@ use borrow.Author.Needs.{needs}
 use Rattle.store.proofs.marks.handle_of.Statement.{statement}
 use Rattle.store.proofs.marks.handle_of.Tie as tie
 
-sub-result : tie.Need-sub-result
-sub-result c = search needs
-
 returns : tie.Need-returns
 unfolding handleOf
 returns c = omega arith
@@ -16,4 +13,7 @@ unfolding handleOf
 returns-2 c = omega arith
 
 pub handle-of-spec : {M : Type 1} → statement M
-handle-of-spec = tie.close (tie.spec sub-result returns returns-2)
+handle-of-spec = tie.close (tie.spec
+    (λ c. search needs)
+    returns
+    returns-2)

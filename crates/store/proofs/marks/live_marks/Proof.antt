@@ -18,12 +18,6 @@ loop-holds c = (search needs, looked-none _ _ _ _ (search needs))
 look-requires : tie.Need-look-requires Inv-loop μ-loop
 look-requires c κs = record { below = search needs; looked = search needs }
 
-add-p : tie.Need-add-p Inv-loop μ-loop
-add-p c = search needs
-
-loop-less : tie.Need-loop-less Inv-loop μ-loop
-loop-less c = search needs
-
 loop-again : tie.Need-loop-again Inv-loop μ-loop
 loop-again c = (search needs, search needs)
 
@@ -33,4 +27,12 @@ returns c = search (needs, looked-end)
 pub live-marks-spec : {M : Type 1} → statement M
 live-marks-spec =
     tie.close
-    (tie.spec Inv-loop μ-loop loop-holds look-requires add-p loop-less loop-again returns)
+    (tie.spec
+    Inv-loop
+    μ-loop
+    loop-holds
+    look-requires
+    (λ c. search needs)
+    (λ c. search needs)
+    loop-again
+    returns)

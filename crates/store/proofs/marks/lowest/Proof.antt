@@ -16,20 +16,8 @@ abbrev μ-loop : tie.MeasureT-loop
 loop-holds : tie.Need-loop-holds Inv-loop μ-loop
 loop-holds c = (search needs, lowest-start _ _)
 
-sub-k : tie.Need-sub-k Inv-loop μ-loop
-sub-k c = search needs
-
-element-copy-out-if1 : tie.Need-element-copy-out-if1 Inv-loop μ-loop
-element-copy-out-if1 c = search needs
-
 returns : tie.Need-returns Inv-loop μ-loop
 returns c = lowest-here _ _ _ (search needs) (told-none _ (search needs)) (search needs)
-
-sub-left : tie.Need-sub-left Inv-loop μ-loop
-sub-left c = search needs
-
-loop-less : tie.Need-loop-less Inv-loop μ-loop
-loop-less c = search needs
 
 loop-again : tie.Need-loop-again Inv-loop μ-loop
 loop-again c = (search needs, lowest-more _ _ _ (search needs) (search needs) (told-some _ (search needs)) (search needs))
@@ -44,10 +32,10 @@ lowest-spec =
     Inv-loop
     μ-loop
     loop-holds
-    sub-k
-    element-copy-out-if1
+    (λ c. search needs)
+    (λ c. search needs)
     returns
-    sub-left
-    loop-less
+    (λ c. search needs)
+    (λ c. search needs)
     loop-again
     returns-2)

@@ -13,29 +13,11 @@ abbrev μ-loop : tie.MeasureT-loop
 loop-holds : tie.Need-loop-holds Inv-loop μ-loop
 loop-holds c = others-none _ _ _ _ (search needs)
 
-mul-m : tie.Need-mul-m Inv-loop μ-loop
-mul-m c = search needs
-
-element-copy-out-m : tie.Need-element-copy-out-m Inv-loop μ-loop
-element-copy-out-m c = search needs
-
 put-other-requires : tie.Need-put-other-requires Inv-loop μ-loop
 put-other-requires c κs = record { below = search (needs, others-fit) }
 
-add-i : tie.Need-add-i Inv-loop μ-loop
-add-i c = search needs
-
-loop-less : tie.Need-loop-less Inv-loop μ-loop
-loop-less c = search needs
-
 loop-again : tie.Need-loop-again Inv-loop μ-loop
 loop-again c = search (needs, others-more)
-
-clear-counts-requires : tie.Need-clear-counts-requires Inv-loop μ-loop
-clear-counts-requires c κs = search needs
-
-same-length : tie.Need-same-length Inv-loop μ-loop
-same-length c = search needs
 
 returns : tie.Need-returns Inv-loop μ-loop
 returns c = search (needs, others-end)
@@ -47,12 +29,12 @@ set-others-spec =
     Inv-loop
     μ-loop
     loop-holds
-    mul-m
-    element-copy-out-m
+    (λ c. search needs)
+    (λ c. search needs)
     put-other-requires
-    add-i
-    loop-less
+    (λ c. search needs)
+    (λ c. search needs)
     loop-again
-    clear-counts-requires
-    same-length
+    (λ c κs. search needs)
+    (λ c. search needs)
     returns)

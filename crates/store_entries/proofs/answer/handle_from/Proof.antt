@@ -3,12 +3,6 @@ use borrow.Author.Needs.{needs}
 use Rattle.store_entries.proofs.answer.handle_from.Statement.{statement}
 use Rattle.store_entries.proofs.answer.handle_from.Tie as tie
 
-enum-known-put : tie.Need-enum-known-put
-enum-known-put c = search needs
-
-enum-told : tie.Need-enum-told
-enum-told c = search needs
-
 returns : tie.Need-returns
 returns c = search (needs, handle-given)
 
@@ -16,4 +10,8 @@ returns-2 : tie.Need-returns-2
 returns-2 c = search (needs, handle-full)
 
 pub handle-from-spec : {M : Type 1} → statement M
-handle-from-spec = tie.close (tie.spec enum-known-put enum-told returns returns-2)
+handle-from-spec = tie.close (tie.spec
+    (λ c. search needs)
+    (λ c. search needs)
+    returns
+    returns-2)

@@ -4,12 +4,11 @@ use borrow.Author.Needs.{needs}
 use Rattle.store_entries.proofs.faults.party_refusal.Statement.{statement}
 use Rattle.store_entries.proofs.faults.party_refusal.Tie as tie
 
-or-else-requires : tie.Need-or-else-requires
-or-else-requires c κs = search needs
-
 returns : tie.Need-returns
 unfolding firstFrom
 returns c = search rows depth 24
 
 pub party-refusal-spec : {M : Type 1} → statement M
-party-refusal-spec = tie.close (tie.spec or-else-requires returns)
+party-refusal-spec = tie.close (tie.spec
+    (λ c κs. search needs)
+    returns)

@@ -4,18 +4,6 @@ use borrow.Author.Needs.{needs}
 use Rattle.store_entries.proofs.faults.room_refusal.Statement.{statement}
 use Rattle.store_entries.proofs.faults.room_refusal.Tie as tie
 
-or-else-requires : tie.Need-or-else-requires
-or-else-requires c κs = search needs
-
-or-else-requires-2 : tie.Need-or-else-requires-2
-or-else-requires-2 c κs = search needs
-
-or-else-requires-3 : tie.Need-or-else-requires-3
-or-else-requires-3 c κs = search needs
-
-or-else-requires-4 : tie.Need-or-else-requires-4
-or-else-requires-4 c κs = search needs
-
 returns : tie.Need-returns
 unfolding firstFrom
 returns c = search rows depth 24
@@ -24,8 +12,8 @@ pub room-refusal-spec : {M : Type 1} → statement M
 room-refusal-spec =
     tie.close
     (tie.spec
-    or-else-requires
-    or-else-requires-2
-    or-else-requires-3
-    or-else-requires-4
+    (λ c κs. search needs)
+    (λ c κs. search needs)
+    (λ c κs. search needs)
+    (λ c κs. search needs)
     returns)

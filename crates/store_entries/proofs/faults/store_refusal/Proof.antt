@@ -4,30 +4,6 @@ use borrow.Author.Needs.{needs}
 use Rattle.store_entries.proofs.faults.store_refusal.Statement.{statement}
 use Rattle.store_entries.proofs.faults.store_refusal.Tie as tie
 
-bad-length-requires : tie.Need-bad-length-requires
-bad-length-requires c κs = search needs
-
-or-else-requires : tie.Need-or-else-requires
-or-else-requires c κs = search needs
-
-bad-length-requires-2 : tie.Need-bad-length-requires-2
-bad-length-requires-2 c κs = search needs
-
-or-else-requires-2 : tie.Need-or-else-requires-2
-or-else-requires-2 c κs = search needs
-
-bad-length-requires-3 : tie.Need-bad-length-requires-3
-bad-length-requires-3 c κs = search needs
-
-or-else-requires-3 : tie.Need-or-else-requires-3
-or-else-requires-3 c κs = search needs
-
-bad-length-requires-4 : tie.Need-bad-length-requires-4
-bad-length-requires-4 c κs = search needs
-
-or-else-requires-4 : tie.Need-or-else-requires-4
-or-else-requires-4 c κs = search needs
-
 returns : tie.Need-returns
 unfolding firstFrom
 returns c = search rows depth 24
@@ -36,12 +12,12 @@ pub store-refusal-spec : {M : Type 1} → statement M
 store-refusal-spec =
     tie.close
     (tie.spec
-    bad-length-requires
-    or-else-requires
-    bad-length-requires-2
-    or-else-requires-2
-    bad-length-requires-3
-    or-else-requires-3
-    bad-length-requires-4
-    or-else-requires-4
+    (λ c κs. search needs)
+    (λ c κs. search needs)
+    (λ c κs. search needs)
+    (λ c κs. search needs)
+    (λ c κs. search needs)
+    (λ c κs. search needs)
+    (λ c κs. search needs)
+    (λ c κs. search needs)
     returns)

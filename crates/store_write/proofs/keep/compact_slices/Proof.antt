@@ -18,18 +18,6 @@ lay-editions-requires c κs = search lay-editions
 number-marks-requires : tie.Need-number-marks-requires
 number-marks-requires c κs = search release-marks
 
-same-length : tie.Need-same-length
-same-length c = search needs
-
-same-length-2 : tie.Need-same-length-2
-same-length-2 c = search needs
-
-same-length-3 : tie.Need-same-length-3
-same-length-3 c = search needs
-
-same-length-4 : tie.Need-same-length-4
-same-length-4 c = search needs
-
 returns : tie.Need-returns
 returns c = search compact-done
 
@@ -42,8 +30,8 @@ compact-slices-spec =
     lay-numbers-requires
     lay-editions-requires
     number-marks-requires
-    same-length
-    same-length-2
-    same-length-3
-    same-length-4
+    (λ c. search needs)
+    (λ c. search needs)
+    (λ c. search needs)
+    (λ c. search needs)
     returns)

@@ -18,18 +18,6 @@ show-numbers-requires c κs = search show-numbers
 show-editions-requires : tie.Need-show-editions-requires
 show-editions-requires c κs = search show-editions
 
-same-length : tie.Need-same-length
-same-length c = search needs
-
-same-length-2 : tie.Need-same-length-2
-same-length-2 c = search needs
-
-same-length-3 : tie.Need-same-length-3
-same-length-3 c = search needs
-
-same-length-4 : tie.Need-same-length-4
-same-length-4 c = search needs
-
 returns : tie.Need-returns
 returns c =
     let editions = c .before .before in
@@ -50,8 +38,8 @@ list-slices-spec =
     show-codes-requires
     show-numbers-requires
     show-editions-requires
-    same-length
-    same-length-2
-    same-length-3
-    same-length-4
+    (λ c. search needs)
+    (λ c. search needs)
+    (λ c. search needs)
+    (λ c. search needs)
     returns)

@@ -6,26 +6,14 @@ use Rattle.store_write.proofs.keep.release_slice.Tie as tie
 live-marks-requires : tie.Need-live-marks-requires
 live-marks-requires c κs = blank-start _ (search needs)
 
-same-length : tie.Need-same-length
-same-length c = search needs
-
 returns : tie.Need-returns
 returns c = search released-far
-
-array-read-if2 : tie.Need-array-read-if2
-array-read-if2 c = search needs
-
-same-length-2 : tie.Need-same-length-2
-same-length-2 c = search needs
 
 returns-2 : tie.Need-returns-2
 returns-2 c = search (needs, released-none)
 
 set-others-requires : tie.Need-set-others-requires
 set-others-requires c κs = search release-marks
-
-same-length-3 : tie.Need-same-length-3
-same-length-3 c = search needs
 
 returns-3 : tie.Need-returns-3
 returns-3 c = search (needs, released-one)
@@ -35,11 +23,11 @@ release-slice-spec =
     tie.close
     (tie.spec
     live-marks-requires
-    same-length
+    (λ c. search needs)
     returns
-    array-read-if2
-    same-length-2
+    (λ c. search needs)
+    (λ c. search needs)
     returns-2
     set-others-requires
-    same-length-3
+    (λ c. search needs)
     returns-3)

@@ -14,48 +14,6 @@ use Rattle.straight.proofs.edge.cross_at.Tie as tie
 held : {z : ℤ} → Near 400000000 z → Near 1600000000 (toZ w64 (ofZ w64 z))
 held h = as-near (read h tt) (wider 1600000000 tt h)
 
-mul-gap : tie.Need-mul-gap
-mul-gap c = search needs
-
-mul-gap-2 : tie.Need-mul-gap-2
-mul-gap-2 c = search needs
-
-shared-slice-copy-out-gap : tie.Need-shared-slice-copy-out-gap
-shared-slice-copy-out-gap c = search needs
-
-mul-gap-3 : tie.Need-mul-gap-3
-mul-gap-3 c = search needs
-
-add-gap : tie.Need-add-gap
-add-gap c = search needs
-
-mul-gap-4 : tie.Need-mul-gap-4
-mul-gap-4 c = search needs
-
-shared-slice-copy-out-gap-2 : tie.Need-shared-slice-copy-out-gap-2
-shared-slice-copy-out-gap-2 c = search needs
-
-mul-gap-5 : tie.Need-mul-gap-5
-mul-gap-5 c = search needs
-
-mul-gap-6 : tie.Need-mul-gap-6
-mul-gap-6 c = search needs
-
-shared-slice-copy-out-gap-3 : tie.Need-shared-slice-copy-out-gap-3
-shared-slice-copy-out-gap-3 c = search needs
-
-mul-gap-7 : tie.Need-mul-gap-7
-mul-gap-7 c = search needs
-
-add-gap-2 : tie.Need-add-gap-2
-add-gap-2 c = search needs
-
-mul-gap-8 : tie.Need-mul-gap-8
-mul-gap-8 c = search needs
-
-shared-slice-copy-out-gap-4 : tie.Need-shared-slice-copy-out-gap-4
-shared-slice-copy-out-gap-4 c = search needs
-
 gap-requires : tie.Need-gap-requires
 gap-requires c κs =
     let s = c .before .before .before .before in
@@ -81,19 +39,19 @@ pub cross-at-spec : {M : Type 1} → statement M
 cross-at-spec =
     tie.close
     (tie.spec
-    mul-gap
-    mul-gap-2
-    shared-slice-copy-out-gap
-    mul-gap-3
-    add-gap
-    mul-gap-4
-    shared-slice-copy-out-gap-2
-    mul-gap-5
-    mul-gap-6
-    shared-slice-copy-out-gap-3
-    mul-gap-7
-    add-gap-2
-    mul-gap-8
-    shared-slice-copy-out-gap-4
+    (λ c. search needs)
+    (λ c. search needs)
+    (λ c. search needs)
+    (λ c. search needs)
+    (λ c. search needs)
+    (λ c. search needs)
+    (λ c. search needs)
+    (λ c. search needs)
+    (λ c. search needs)
+    (λ c. search needs)
+    (λ c. search needs)
+    (λ c. search needs)
+    (λ c. search needs)
+    (λ c. search needs)
     gap-requires
     returns)

@@ -15,12 +15,6 @@ use Rattle.straight.proofs.edge.doubled.Tie as tie
 doubles : {l : List ℤ} {k : ℕ} → Held l k → SFits w64 (pos 2 *ℤ getD l k (pos 0))
 doubles {l} {k} h = fit (mul-near {a = pos 2} (record { near = le-refl 2 }) (h .close)) tt
 
-mul-result : tie.Need-mul-result
-mul-result c = search needs
-
-shared-slice-copy-out-result : tie.Need-shared-slice-copy-out-result
-shared-slice-copy-out-result c = search needs
-
 mul-result-2 : tie.Need-mul-result-2
 mul-result-2 c = mul-fit {r = pos 2} refl (read (c .before .pre .close) tt) (doubles (c .before .pre))
 
@@ -28,4 +22,8 @@ returns : tie.Need-returns
 returns c = mul-read {r = pos 2} refl (read (c .before .pre .close) tt) (doubles (c .before .pre))
 
 pub doubled-spec : {M : Type 1} → statement M
-doubled-spec = tie.close (tie.spec mul-result shared-slice-copy-out-result mul-result-2 returns)
+doubled-spec = tie.close (tie.spec
+    (λ c. search needs)
+    (λ c. search needs)
+    mul-result-2
+    returns)

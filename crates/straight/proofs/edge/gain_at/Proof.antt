@@ -12,12 +12,6 @@ use Rattle.straight.proofs.edge.gain_at.Tie as tie
 abbrev seen : ℤ → ℤ
 seen z = toZ w64 (ofZ w64 z)
 
-cross-at-requires : tie.Need-cross-at-requires
-cross-at-requires c κs = search needs
-
-below-requires : tie.Need-below-requires
-below-requires c κs = search needs
-
 unsigned-requires : tie.Need-unsigned-requires
 unsigned-requires c κs = above-yes (seen (c .before .before .cross-at .result)) (sym (c .before .below .ensures) ∙ c .if1 .taken) .0
 
@@ -33,4 +27,9 @@ returns-2 c =
 
 pub gain-at-spec : {M : Type 1} → statement M
 gain-at-spec =
-    tie.close (tie.spec cross-at-requires below-requires unsigned-requires returns returns-2)
+    tie.close (tie.spec
+    (λ c κs. search needs)
+    (λ c κs. search needs)
+    unsigned-requires
+    returns
+    returns-2)

@@ -13,32 +13,14 @@ line : {a b d e x y a' b' d' e' x' y' : ℤ} → a ≡ a' → b ≡ b' → d ≡
     → (d -ℤ a) *ℤ (y -ℤ b) -ℤ (x -ℤ a) *ℤ (e -ℤ b) ≡ (d' -ℤ a') *ℤ (y' -ℤ b') -ℤ (x' -ℤ a') *ℤ (e' -ℤ b')
 line p q r t u v = λ i. (r i -ℤ p i) *ℤ (v i -ℤ q i) -ℤ (u i -ℤ p i) *ℤ (t i -ℤ q i)
 
-mul-doubled : tie.Need-mul-doubled
-mul-doubled c = search needs
-
 doubled-requires : tie.Need-doubled-requires
 doubled-requires c κs = from-x (c .pre .edge)
-
-mul-doubled-2 : tie.Need-mul-doubled-2
-mul-doubled-2 c = search needs
-
-add-doubled : tie.Need-add-doubled
-add-doubled c = search needs
 
 doubled-requires-2 : tie.Need-doubled-requires-2
 doubled-requires-2 c κs = from-y (c .before .pre .edge)
 
-mul-doubled-3 : tie.Need-mul-doubled-3
-mul-doubled-3 c = search needs
-
 doubled-requires-3 : tie.Need-doubled-requires-3
 doubled-requires-3 c κs = to-x (c .before .before .pre .edge)
-
-mul-doubled-4 : tie.Need-mul-doubled-4
-mul-doubled-4 c = search needs
-
-add-doubled-2 : tie.Need-add-doubled-2
-add-doubled-2 c = search needs
 
 doubled-requires-4 : tie.Need-doubled-requires-4
 doubled-requires-4 c κs = to-y (c .before .before .before .pre .edge)
@@ -59,9 +41,6 @@ side-of-requires c κs =
       y-ok = as-near (toZ-ofZ (s .fits .y)) (s .pre .y-ok);
     }
 
-below-requires : tie.Need-below-requires
-below-requires c κs = search needs
-
 returns : tie.Need-returns
 unfolding left side twice
 returns c =
@@ -81,16 +60,16 @@ pub left-at-spec : {M : Type 1} → statement M
 left-at-spec =
     tie.close
     (tie.spec
-    mul-doubled
+    (λ c. search needs)
     doubled-requires
-    mul-doubled-2
-    add-doubled
+    (λ c. search needs)
+    (λ c. search needs)
     doubled-requires-2
-    mul-doubled-3
+    (λ c. search needs)
     doubled-requires-3
-    mul-doubled-4
-    add-doubled-2
+    (λ c. search needs)
+    (λ c. search needs)
     doubled-requires-4
     side-of-requires
-    below-requires
+    (λ c κs. search needs)
     returns)

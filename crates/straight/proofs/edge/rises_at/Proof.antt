@@ -8,12 +8,6 @@ use borrow.Author.Needs.{needs}
 use Rattle.straight.proofs.edge.rises_at.Statement.{statement}
 use Rattle.straight.proofs.edge.rises_at.Tie as tie
 
-spans-at-requires : tie.Need-spans-at-requires
-spans-at-requires c κs = search needs
-
-left-at-requires : tie.Need-left-at-requires
-left-at-requires c κs = search needs
-
 returns : tie.Need-returns
 returns c =
     let s = c .before .before .before in
@@ -31,4 +25,8 @@ returns-2 c =
     λ i. (sym (c .if1 .left) ∙ c .before .spans-at .ensures ∙ (λ i. spans a b (record { x = toZ-ofZ (s .fits .x) i; y = toZ-ofZ (s .fits .y) i }))) i && left a b (record { x = s .args .x; y = s .args .y })
 
 pub rises-at-spec : {M : Type 1} → statement M
-rises-at-spec = tie.close (tie.spec spans-at-requires left-at-requires returns returns-2)
+rises-at-spec = tie.close (tie.spec
+    (λ c κs. search needs)
+    (λ c κs. search needs)
+    returns
+    returns-2)

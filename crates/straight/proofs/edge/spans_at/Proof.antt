@@ -13,29 +13,11 @@ use borrow.Author.Needs.{needs}
 use Rattle.straight.proofs.edge.spans_at.Statement.{statement}
 use Rattle.straight.proofs.edge.spans_at.Tie as tie
 
-mul-doubled : tie.Need-mul-doubled
-mul-doubled c = search needs
-
-add-doubled : tie.Need-add-doubled
-add-doubled c = search needs
-
 doubled-requires : tie.Need-doubled-requires
 doubled-requires c κs = from-y (c .pre .edge)
 
-at-most-requires : tie.Need-at-most-requires
-at-most-requires c κs = search needs
-
-mul-doubled-2 : tie.Need-mul-doubled-2
-mul-doubled-2 c = search needs
-
-add-doubled-2 : tie.Need-add-doubled-2
-add-doubled-2 c = search needs
-
 doubled-requires-2 : tie.Need-doubled-requires-2
 doubled-requires-2 c κs = to-y (c .before .before .before .pre .edge)
-
-below-requires : tie.Need-below-requires
-below-requires c κs = search needs
 
 returns : tie.Need-returns
 unfolding spans twice
@@ -58,13 +40,13 @@ pub spans-at-spec : {M : Type 1} → statement M
 spans-at-spec =
     tie.close
     (tie.spec
-    mul-doubled
-    add-doubled
+    (λ c. search needs)
+    (λ c. search needs)
     doubled-requires
-    at-most-requires
-    mul-doubled-2
-    add-doubled-2
+    (λ c κs. search needs)
+    (λ c. search needs)
+    (λ c. search needs)
     doubled-requires-2
-    below-requires
+    (λ c κs. search needs)
     returns
     returns-2)

@@ -3,15 +3,12 @@ use Rattle.straight.specs.Ready.{next}
 use Rattle.straight.proofs.sum.after.Statement.{statement}
 use Rattle.straight.proofs.sum.after.Tie as tie
 
-add-wrapped : tie.Need-add-wrapped
-add-wrapped c = search needs
-
-wrapped-requires : tie.Need-wrapped-requires
-wrapped-requires c κs = search needs
-
 returns : tie.Need-returns
 unfolding next
 returns c = c .wrapped .ensures
 
 pub after-spec : {M : Type 1} → statement M
-after-spec = tie.close (tie.spec add-wrapped wrapped-requires returns)
+after-spec = tie.close (tie.spec
+    (λ c. search needs)
+    (λ c κs. search needs)
+    returns)

@@ -3,9 +3,6 @@ use borrow.Author.Needs.{needs}
 use Rattle.straight.proofs.sum.apart.Statement.{statement}
 use Rattle.straight.proofs.sum.apart.Tie as tie
 
-less-requires : tie.Need-less-requires
-less-requires c κs = search needs
-
 take-requires : tie.Need-take-requires
 take-requires c κs = search (needs, differences)
 
@@ -19,4 +16,9 @@ returns-2 : tie.Need-returns-2
 returns-2 c = search (needs, differences)
 
 pub apart-spec : {M : Type 1} → statement M
-apart-spec = tie.close (tie.spec less-requires take-requires take-requires-2 returns returns-2)
+apart-spec = tie.close (tie.spec
+    (λ c κs. search needs)
+    take-requires
+    take-requires-2
+    returns
+    returns-2)

@@ -24,12 +24,6 @@ abbrev μ-loop : tie.MeasureT-loop
 none : (t : Two) → t .high ≡ 0 → t .low ≡ 0 → value t ≡ 0
 none t h k = omega arith
 
-word-requires : tie.Need-word-requires Inv-loop μ-loop
-word-requires c κs = search needs
-
-word-requires-2 : tie.Need-word-requires-2 Inv-loop μ-loop
-word-requires-2 c κs = search needs
-
 loop-holds : tie.Need-loop-holds Inv-loop μ-loop
 loop-holds c =
     let a = c .before .word in
@@ -42,17 +36,11 @@ after-requires c κs = c .loop-test .taken
 gain-at-requires : tie.Need-gain-at-requires Inv-loop μ-loop
 gain-at-requires c κs = on (c .before .before .before .before .before .pre) (c .before .loop-test .taken) (c .after .ensures)
 
-word-requires-3 : tie.Need-word-requires-3 Inv-loop μ-loop
-word-requires-3 c κs = search needs
-
 add-requires : tie.Need-add-requires Inv-loop μ-loop
 add-requires c κs = high-small (c .before .before .before .before .loop .up) (c .word3 .result) (c .before .before .before .before .loop .i) (c .before .before .before .before .loop .inv .1 .up-most) (omega (arith, c .before .before .before .before .before .before .before .pre .most)) (c .word3 .ensures .0)
 
 gain-at-requires-2 : tie.Need-gain-at-requires-2 Inv-loop μ-loop
 gain-at-requires-2 c κs = back (c .before .before .before .before .before .before .before .before .pre) (c .before .before .before .before .loop-test .taken) (c .before .before .before .after .ensures)
-
-word-requires-4 : tie.Need-word-requires-4 Inv-loop μ-loop
-word-requires-4 c κs = search needs
 
 add-requires-2 : tie.Need-add-requires-2 Inv-loop μ-loop
 add-requires-2 c κs = high-small (c .before .before .before .before .before .before .before .loop .down) (c .word4 .result) (c .before .before .before .before .before .before .before .loop .i) (c .before .before .before .before .before .before .before .loop .inv .1 .down-most) (omega (arith, c .before .before .before .before .before .before .before .before .before .before .pre .most)) (c .word4 .ensures .0)
@@ -77,9 +65,6 @@ loop-again c =
           (c .before .before .before .before .before .gain-at .ensures) (c .before .before .gain-at2 .ensures)),
     )
 
-apart-requires : tie.Need-apart-requires Inv-loop μ-loop
-apart-requires c κs = search needs
-
 returns : tie.Need-returns Inv-loop μ-loop
 returns c =
     let s = c .before .before .before .before .before in
@@ -91,18 +76,18 @@ area-of-spec =
     (tie.spec
     Inv-loop
     μ-loop
-    word-requires
-    word-requires-2
+    (λ c κs. search needs)
+    (λ c κs. search needs)
     loop-holds
     after-requires
     gain-at-requires
-    word-requires-3
+    (λ c κs. search needs)
     add-requires
     gain-at-requires-2
-    word-requires-4
+    (λ c κs. search needs)
     add-requires-2
     add-i
     loop-less
     loop-again
-    apart-requires
+    (λ c κs. search needs)
     returns)

@@ -5,12 +5,6 @@ use borrow.Author.Needs.{needs}
 use Rattle.straight.proofs.sum.balance.Statement.{statement}
 use Rattle.straight.proofs.sum.balance.Tie as tie
 
-signed-requires : tie.Need-signed-requires
-signed-requires c κs = search needs
-
-signed-requires-2 : tie.Need-signed-requires-2
-signed-requires-2 c κs = search needs
-
 minus-requires : tie.Need-minus-requires
 minus-requires c κs =
     let s = c .before .before in
@@ -28,4 +22,8 @@ returns c =
     got (c .minus .result) (c .minus .ok) ∙ c .minus .ensures ∙ (λ i. (got (a .result) (a .ok) ∙ a .ensures) i -ℤ (got (b .result) (b .ok) ∙ b .ensures) i)
 
 pub balance-spec : {M : Type 1} → statement M
-balance-spec = tie.close (tie.spec signed-requires signed-requires-2 minus-requires returns)
+balance-spec = tie.close (tie.spec
+    (λ c κs. search needs)
+    (λ c κs. search needs)
+    minus-requires
+    returns)

@@ -33,9 +33,6 @@ after-requires c κs = c .loop-test .taken
 rises-at-requires : tie.Need-rises-at-requires Inv-loop μ-loop
 rises-at-requires c κs = seen-on (probed (c .before .before .before)) (c .before .loop-test .taken) (c .after .ensures)
 
-code-of-requires : tie.Need-code-of-requires Inv-loop μ-loop
-code-of-requires c κs = search needs
-
 add-up : tie.Need-add-up Inv-loop μ-loop
 add-up c =
     let k = c .before .before .before .before in
@@ -44,9 +41,6 @@ add-up c =
 rises-at-requires-2 : tie.Need-rises-at-requires-2 Inv-loop μ-loop
 rises-at-requires-2 c κs =
     seen-back (probed (c .before .before .before .before .before)) (c .before .before .before .loop-test .taken) (c .before .before .after .ensures)
-
-code-of-requires-2 : tie.Need-code-of-requires-2 Inv-loop μ-loop
-code-of-requires-2 c κs = search needs
 
 add-down : tie.Need-add-down Inv-loop μ-loop
 add-down c =
@@ -90,10 +84,10 @@ winding-of-spec =
     loop-holds
     after-requires
     rises-at-requires
-    code-of-requires
+    (λ c κs. search needs)
     add-up
     rises-at-requires-2
-    code-of-requires-2
+    (λ c κs. search needs)
     add-down
     add-i
     loop-less

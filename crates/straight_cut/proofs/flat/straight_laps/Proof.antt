@@ -23,14 +23,8 @@ loop-holds c = (search needs, refl)
 shape-at-requires : tie.Need-shape-at-requires Inv-loop μ-loop
 shape-at-requires c κs = record { inside = item-in 6 5 _ _ (omega arith) (c .loop-test .taken) }
 
-straight-shape-requires : tie.Need-straight-shape-requires Inv-loop μ-loop
-straight-shape-requires c κs = search needs
-
 add-i : tie.Need-add-i Inv-loop μ-loop
 add-i c = record { fits = omega (arith, item-few 6 _ _ (c .before .before .loop-test .taken)) }
-
-loop-less : tie.Need-loop-less Inv-loop μ-loop
-loop-less c = search needs
 
 loop-again : tie.Need-loop-again Inv-loop μ-loop
 loop-again c = (search needs, each-more _ _ _ _ (c .before .before .before .loop .inv .1) (c .straight-shape .ensures ∙ ap straightShape (c .before .shape-at .ensures)))
@@ -40,4 +34,13 @@ unfolding straightLaps
 returns c = each-end _ _ _ _ (search needs) (c .loop-test .left) (c .before .loop .inv .1)
 
 pub straight-laps-spec : {M : Type 1} → statement M
-straight-laps-spec = tie.close (tie.spec Inv-loop μ-loop loop-holds shape-at-requires straight-shape-requires add-i loop-less loop-again returns)
+straight-laps-spec = tie.close (tie.spec
+    Inv-loop
+    μ-loop
+    loop-holds
+    shape-at-requires
+    (λ c κs. search needs)
+    add-i
+    (λ c. search needs)
+    loop-again
+    returns)

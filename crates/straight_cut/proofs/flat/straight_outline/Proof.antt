@@ -23,14 +23,8 @@ loop-holds c = (search needs, refl)
 vertex-at-requires : tie.Need-vertex-at-requires Inv-loop μ-loop
 vertex-at-requires c κs = record { inside = item-in 3 2 _ _ (omega arith) (c .loop-test .taken) }
 
-straight-vertex-requires : tie.Need-straight-vertex-requires Inv-loop μ-loop
-straight-vertex-requires c κs = search needs
-
 add-i : tie.Need-add-i Inv-loop μ-loop
 add-i c = record { fits = omega (arith, item-few 3 _ _ (c .before .before .loop-test .taken)) }
-
-loop-less : tie.Need-loop-less Inv-loop μ-loop
-loop-less c = search needs
 
 loop-again : tie.Need-loop-again Inv-loop μ-loop
 loop-again c = (search needs, each-more _ _ _ _ (c .before .before .before .loop .inv .1) (c .straight-vertex .ensures ∙ ap straightVertex (c .before .vertex-at .ensures)))
@@ -40,4 +34,13 @@ unfolding straightOutline
 returns c = each-end _ _ _ _ (search needs) (c .loop-test .left) (c .before .loop .inv .1)
 
 pub straight-outline-spec : {M : Type 1} → statement M
-straight-outline-spec = tie.close (tie.spec Inv-loop μ-loop loop-holds vertex-at-requires straight-vertex-requires add-i loop-less loop-again returns)
+straight-outline-spec = tie.close (tie.spec
+    Inv-loop
+    μ-loop
+    loop-holds
+    vertex-at-requires
+    (λ c κs. search needs)
+    add-i
+    (λ c. search needs)
+    loop-again
+    returns)

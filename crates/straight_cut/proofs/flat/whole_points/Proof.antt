@@ -17,21 +17,6 @@ loop-holds : tie.Need-loop-holds Inv-loop μ-loop
 unfolding allOf
 loop-holds c = (search needs, refl)
 
-mul-is-whole : tie.Need-mul-is-whole Inv-loop μ-loop
-mul-is-whole c = search needs
-
-shared-slice-read-is-whole : tie.Need-shared-slice-read-is-whole Inv-loop μ-loop
-shared-slice-read-is-whole c = search needs
-
-is-whole-requires : tie.Need-is-whole-requires Inv-loop μ-loop
-is-whole-requires c κs = search needs
-
-add-i : tie.Need-add-i Inv-loop μ-loop
-add-i c = search needs
-
-loop-less : tie.Need-loop-less Inv-loop μ-loop
-loop-less c = search needs
-
 loop-again : tie.Need-loop-again Inv-loop μ-loop
 loop-again c = search (needs, scan)
 
@@ -39,4 +24,14 @@ returns : tie.Need-returns Inv-loop μ-loop
 returns c = search (needs, scan)
 
 pub whole-points-spec : {M : Type 1} → statement M
-whole-points-spec = tie.close (tie.spec Inv-loop μ-loop loop-holds mul-is-whole shared-slice-read-is-whole is-whole-requires add-i loop-less loop-again returns)
+whole-points-spec = tie.close (tie.spec
+    Inv-loop
+    μ-loop
+    loop-holds
+    (λ c. search needs)
+    (λ c. search needs)
+    (λ c κs. search needs)
+    (λ c. search needs)
+    (λ c. search needs)
+    loop-again
+    returns)

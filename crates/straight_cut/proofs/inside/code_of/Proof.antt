@@ -4,14 +4,8 @@ use borrow.Author.Needs.{needs}
 use Rattle.straight_cut.proofs.inside.code_of.Statement.{statement}
 use Rattle.straight_cut.proofs.inside.code_of.Tie as tie
 
-below-requires : tie.Need-below-requires
-below-requires c κs = search needs
-
 returns : tie.Need-returns
 returns c = code-above _ _ (toZ-ofZ (c .before .before .fits .w)) _ (c .before .below .ensures) (c .if1 .taken)
-
-below-requires-2 : tie.Need-below-requires-2
-below-requires-2 c κs = search needs
 
 returns-2 : tie.Need-returns-2
 returns-2 c = let first = c .before .before in
@@ -22,4 +16,9 @@ returns-3 c = let first = c .before .before in
     code-none _ _ (toZ-ofZ (first .before .before .fits .w)) _ (first .before .below .ensures) _ (c .before .below2 .ensures) (first .if1 .left) (c .if2 .left)
 
 pub code-of-spec : {M : Type 1} → statement M
-code-of-spec = tie.close (tie.spec below-requires returns below-requires-2 returns-2 returns-3)
+code-of-spec = tie.close (tie.spec
+    (λ c κs. search needs)
+    returns
+    (λ c κs. search needs)
+    returns-2
+    returns-3)

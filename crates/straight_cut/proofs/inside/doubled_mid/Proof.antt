@@ -5,12 +5,6 @@ use borrow.Author.Needs.{needs}
 use Rattle.straight_cut.proofs.inside.doubled_mid.Statement.{statement}
 use Rattle.straight_cut.proofs.inside.doubled_mid.Tie as tie
 
-value-of-requires : tie.Need-value-of-requires
-value-of-requires c κs = search needs
-
-value-of-requires-2 : tie.Need-value-of-requires-2
-value-of-requires-2 c κs = search needs
-
 add-result : tie.Need-add-result
 add-result c = let a = c .before .value-of in
     let b = c .value-of2 in
@@ -22,4 +16,8 @@ returns c = let a = c .before .value-of in
     mid-read _ _ (got (a .result) (a .ok) ∙ a .ensures) (got (b .result) (b .ok) ∙ b .ensures)
 
 pub doubled-mid-spec : {M : Type 1} → statement M
-doubled-mid-spec = tie.close (tie.spec value-of-requires value-of-requires-2 add-result returns)
+doubled-mid-spec = tie.close (tie.spec
+    (λ c κs. search needs)
+    (λ c κs. search needs)
+    add-result
+    returns)

@@ -19,20 +19,21 @@ inside-at-requires c κs = search (needs, asking)
 slice-write-inside : tie.Need-slice-write-inside Inv-loop μ-loop
 slice-write-inside c = search (needs, asking)
 
-add-k : tie.Need-add-k Inv-loop μ-loop
-add-k c = search needs
-
-loop-less : tie.Need-loop-less Inv-loop μ-loop
-loop-less c = search needs
-
 loop-again : tie.Need-loop-again Inv-loop μ-loop
 loop-again c = search (needs, asking)
-
-same-length : tie.Need-same-length Inv-loop μ-loop
-same-length c = search needs
 
 returns : tie.Need-returns Inv-loop μ-loop
 returns c = search (needs, asking)
 
 pub write-inside-spec : {M : Type 1} → statement M
-write-inside-spec = tie.close (tie.spec Inv-loop μ-loop loop-holds inside-at-requires slice-write-inside add-k loop-less loop-again same-length returns)
+write-inside-spec = tie.close (tie.spec
+    Inv-loop
+    μ-loop
+    loop-holds
+    inside-at-requires
+    slice-write-inside
+    (λ c. search needs)
+    (λ c. search needs)
+    loop-again
+    (λ c. search needs)
+    returns)

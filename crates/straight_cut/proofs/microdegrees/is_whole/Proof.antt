@@ -12,9 +12,6 @@ truncating-f64-to-i64-requires : tie.Need-truncating-f64-to-i64-requires
 unfolding ofBits neg
 truncating-f64-to-i64-requires c κs = (subst T (sym (c .before .if1 .taken)) tt, subst T (sym (c .if2 .taken)) tt)
 
-near-vertex-requires : tie.Need-near-vertex-requires
-near-vertex-requires c κs = search needs
-
 float-of-requires : tie.Need-float-of-requires
 float-of-requires c κs = near-yes _ _ (c .before .near-vertex .ensures) (c .if3 .taken)
 
@@ -49,7 +46,7 @@ is-whole-spec =
     tie.close
     (tie.spec
     truncating-f64-to-i64-requires
-    near-vertex-requires
+    (λ c κs. search needs)
     float-of-requires
     returns
     returns-2

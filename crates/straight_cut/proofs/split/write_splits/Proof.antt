@@ -16,20 +16,20 @@ loop-holds c = search (needs, splitting)
 put-split-requires : tie.Need-put-split-requires Inv-loop μ-loop
 put-split-requires c κs = search (needs, splitting)
 
-add-p : tie.Need-add-p Inv-loop μ-loop
-add-p c = search needs
-
-loop-less : tie.Need-loop-less Inv-loop μ-loop
-loop-less c = search needs
-
 loop-again : tie.Need-loop-again Inv-loop μ-loop
 loop-again c = search (needs, splitting)
-
-same-length : tie.Need-same-length Inv-loop μ-loop
-same-length c = search needs
 
 returns : tie.Need-returns Inv-loop μ-loop
 returns c = search (needs, splitting)
 
 pub write-splits-spec : {M : Type 1} → statement M
-write-splits-spec = tie.close (tie.spec Inv-loop μ-loop loop-holds put-split-requires add-p loop-less loop-again same-length returns)
+write-splits-spec = tie.close (tie.spec
+    Inv-loop
+    μ-loop
+    loop-holds
+    put-split-requires
+    (λ c. search needs)
+    (λ c. search needs)
+    loop-again
+    (λ c. search needs)
+    returns)

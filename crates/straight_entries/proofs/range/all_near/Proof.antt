@@ -20,21 +20,6 @@ loop-holds : tie.Need-loop-holds Inv-loop μ-loop
 unfolding allOf
 loop-holds c = (search needs, refl)
 
-mul-near-vertex : tie.Need-mul-near-vertex Inv-loop μ-loop
-mul-near-vertex c = search needs
-
-shared-slice-copy-out-near-vertex : tie.Need-shared-slice-copy-out-near-vertex Inv-loop μ-loop
-shared-slice-copy-out-near-vertex c = search needs
-
-near-vertex-requires : tie.Need-near-vertex-requires Inv-loop μ-loop
-near-vertex-requires c κs = search needs
-
-add-i : tie.Need-add-i Inv-loop μ-loop
-add-i c = search needs
-
-loop-less : tie.Need-loop-less Inv-loop μ-loop
-loop-less c = search needs
-
 loop-again : tie.Need-loop-again Inv-loop μ-loop
 loop-again c =
     let k = c .before .before .before in
@@ -53,10 +38,10 @@ all-near-spec =
     Inv-loop
     μ-loop
     loop-holds
-    mul-near-vertex
-    shared-slice-copy-out-near-vertex
-    near-vertex-requires
-    add-i
-    loop-less
+    (λ c. search needs)
+    (λ c. search needs)
+    (λ c κs. search needs)
+    (λ c. search needs)
+    (λ c. search needs)
     loop-again
     returns)

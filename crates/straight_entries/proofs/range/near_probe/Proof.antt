@@ -3,12 +3,6 @@ use borrow.Author.Needs.{needs}
 use Rattle.straight_entries.proofs.range.near_probe.Statement.{statement}
 use Rattle.straight_entries.proofs.range.near_probe.Tie as tie
 
-at-most-requires : tie.Need-at-most-requires
-at-most-requires c κs = search needs
-
-at-most-requires-2 : tie.Need-at-most-requires-2
-at-most-requires-2 c κs = search needs
-
 returns : tie.Need-returns
 returns c = search (needs, reaching)
 
@@ -16,4 +10,8 @@ returns-2 : tie.Need-returns-2
 returns-2 c = search (needs, reaching)
 
 pub near-probe-spec : {M : Type 1} → statement M
-near-probe-spec = tie.close (tie.spec at-most-requires at-most-requires-2 returns returns-2)
+near-probe-spec = tie.close (tie.spec
+    (λ c κs. search needs)
+    (λ c κs. search needs)
+    returns
+    returns-2)

@@ -3,15 +3,6 @@ use borrow.Author.Needs.{needs}
 use Rattle.straight_entries.proofs.report.last_end.Statement.{statement}
 use Rattle.straight_entries.proofs.report.last_end.Tie as tie
 
-sub-result : tie.Need-sub-result
-sub-result c = search needs
-
-mul-result : tie.Need-mul-result
-mul-result c = search needs
-
-shared-slice-read-result : tie.Need-shared-slice-read-result
-shared-slice-read-result c = search needs
-
 returns : tie.Need-returns
 returns c = search (needs, sizing)
 
@@ -20,4 +11,9 @@ returns-2 c = search (needs, sizing)
 
 pub last-end-spec : {M : Type 1} → statement M
 last-end-spec =
-    tie.close (tie.spec sub-result mul-result shared-slice-read-result returns returns-2)
+    tie.close (tie.spec
+    (λ c. search needs)
+    (λ c. search needs)
+    (λ c. search needs)
+    returns
+    returns-2)

@@ -3,26 +3,14 @@ use borrow.Author.Needs.{needs}
 use Rattle.straight_entries.proofs.running.join.Statement.{statement}
 use Rattle.straight_entries.proofs.running.join.Tie as tie
 
-lowest-of-requires : tie.Need-lowest-of-requires
-lowest-of-requires c κs = search needs
-
-report-refused-requires : tie.Need-report-refused-requires
-report-refused-requires c κs = search needs
-
 returns : tie.Need-returns
 returns c = search (needs, joins)
 
 add-if2 : tie.Need-add-if2
 add-if2 c = let s = c .before .before .before .before in record { fits = counts-fit (s .args .a) (s .args .b) (s .pre) }
 
-report-refused-requires-2 : tie.Need-report-refused-requires-2
-report-refused-requires-2 c κs = search needs
-
 returns-2 : tie.Need-returns-2
 returns-2 c = search (needs, joins)
-
-sum-of-requires : tie.Need-sum-of-requires
-sum-of-requires c κs = search needs
 
 returns-3 : tie.Need-returns-3
 returns-3 c = search (needs, joins)
@@ -31,11 +19,11 @@ pub join-spec : {M : Type 1} → statement M
 join-spec =
     tie.close
     (tie.spec
-    lowest-of-requires
-    report-refused-requires
+    (λ c κs. search needs)
+    (λ c κs. search needs)
     returns
     add-if2
-    report-refused-requires-2
+    (λ c κs. search needs)
     returns-2
-    sum-of-requires
+    (λ c κs. search needs)
     returns-3)

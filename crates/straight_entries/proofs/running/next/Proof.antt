@@ -3,12 +3,6 @@ use borrow.Author.Needs.{needs}
 use Rattle.straight_entries.proofs.running.next.Statement.{statement}
 use Rattle.straight_entries.proofs.running.next.Tie as tie
 
-slice-aggregate-entry : tie.Need-slice-aggregate-entry
-slice-aggregate-entry c = search needs
-
-entry-requires : tie.Need-entry-requires
-entry-requires c κs = search needs
-
 join-requires : tie.Need-join-requires
 join-requires c κs = search (needs, both-reported)
 
@@ -16,4 +10,8 @@ returns : tie.Need-returns
 returns c = search (needs, join-next)
 
 pub next-spec : {M : Type 1} → statement M
-next-spec = tie.close (tie.spec slice-aggregate-entry entry-requires join-requires returns)
+next-spec = tie.close (tie.spec
+    (λ c. search needs)
+    (λ c κs. search needs)
+    join-requires
+    returns)

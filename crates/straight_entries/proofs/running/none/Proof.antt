@@ -3,11 +3,10 @@ use borrow.Author.Needs.{needs}
 use Rattle.straight_entries.proofs.running.none.Statement.{statement}
 use Rattle.straight_entries.proofs.running.none.Tie as tie
 
-report-refused-requires : tie.Need-report-refused-requires
-report-refused-requires c κs = search needs
-
 returns : tie.Need-returns
 returns c = search (needs, joins)
 
 pub none-spec : {M : Type 1} → statement M
-none-spec = tie.close (tie.spec report-refused-requires returns)
+none-spec = tie.close (tie.spec
+    (λ c κs. search needs)
+    returns)

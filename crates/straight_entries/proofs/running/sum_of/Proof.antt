@@ -3,12 +3,6 @@ use borrow.Author.Needs.{needs}
 use Rattle.straight_entries.proofs.running.sum_of.Statement.{statement}
 use Rattle.straight_entries.proofs.running.sum_of.Tie as tie
 
-total-of-requires : tie.Need-total-of-requires
-total-of-requires c κs = search needs
-
-total-of-requires-2 : tie.Need-total-of-requires-2
-total-of-requires-2 c κs = search needs
-
 add-requires : tie.Need-add-requires
 add-requires c κs = search (needs, joins)
 
@@ -23,4 +17,10 @@ returns c = search (needs, joins)
 
 pub sum-of-spec : {M : Type 1} → statement M
 sum-of-spec =
-    tie.close (tie.spec total-of-requires total-of-requires-2 add-requires add-t6 add-t7 returns)
+    tie.close (tie.spec
+    (λ c κs. search needs)
+    (λ c κs. search needs)
+    add-requires
+    add-t6
+    add-t7
+    returns)

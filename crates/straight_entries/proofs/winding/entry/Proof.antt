@@ -18,12 +18,6 @@ plain : (s : tie.Start)
     → windingRefusal (now (s .args .outline)) (s .args .vc) (toZ w64 (ofZ w64 (s .args .x))) (toZ w64 (ofZ w64 (s .args .y))) ≡ windingRefusal (now (s .args .outline)) (s .args .vc) (s .args .x) (s .args .y)
 plain s = λ i. windingRefusal (now (s .args .outline)) (s .args .vc) (toZ-ofZ (s .fits .x) i) (toZ-ofZ (s .fits .y) i)
 
-refusal-requires : tie.Need-refusal-requires
-refusal-requires c κs = search needs
-
-winding-refused-requires : tie.Need-winding-refused-requires
-winding-refused-requires c κs = search needs
-
 returns : tie.Need-returns
 returns c = let s = c .before .before .before in answer-no windingRefused _ _ _ _ (c .before .before .refusal .ensures ∙ plain s) (c .before .if1 .taken) (c .winding-refused .ensures)
 
@@ -32,9 +26,6 @@ winding-of-requires c κs =
     let s = c .before .before in
     probed-as (toZ-ofZ (s .fits .x)) (toZ-ofZ (s .fits .y))
     (winding-accepted (now (s .args .outline)) (s .args .vc) (s .args .x) (s .args .y) _ (c .before .refusal .ensures ∙ plain s) (c .if1 .left))
-
-winding-found-requires : tie.Need-winding-found-requires
-winding-found-requires c κs = search needs
 
 returns-2 : tie.Need-returns-2
 returns-2 c =
@@ -49,9 +40,9 @@ pub entry-spec : {M : Type 1} → statement M
 entry-spec =
     tie.close
     (tie.spec
-    refusal-requires
-    winding-refused-requires
+    (λ c κs. search needs)
+    (λ c κs. search needs)
     returns
     winding-of-requires
-    winding-found-requires
+    (λ c κs. search needs)
     returns-2)

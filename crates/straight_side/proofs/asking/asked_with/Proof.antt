@@ -3,20 +3,11 @@ use borrow.Author.Needs.{needs}
 use Rattle.straight_side.proofs.asking.asked_with.Statement.{statement}
 use Rattle.straight_side.proofs.asking.asked_with.Tie as tie
 
-write-wholes-requires : tie.Need-write-wholes-requires
-write-wholes-requires c κs = search needs
-
 told-requires : tie.Need-told-requires
 told-requires c κs =
     let read = c .before .before .before in
     let start = read .before .before .before .before .before in
     ask-ready _ _ _ _ _ _ _ (read .write-wholes .ensures) (start .pre)
-
-same-length : tie.Need-same-length
-same-length c = search needs
-
-same-length-2 : tie.Need-same-length-2
-same-length-2 c = search needs
 
 returns : tie.Need-returns
 returns c =
@@ -26,4 +17,9 @@ returns c =
 
 pub asked-with-spec : {M : Type 1} → statement M
 asked-with-spec =
-    tie.close (tie.spec write-wholes-requires told-requires same-length same-length-2 returns)
+    tie.close (tie.spec
+    (λ c κs. search needs)
+    told-requires
+    (λ c. search needs)
+    (λ c. search needs)
+    returns)

@@ -4,9 +4,6 @@ use borrow.Author.Needs.{needs}
 use Rattle.straight_side.proofs.keeping.side.Statement.{statement}
 use Rattle.straight_side.proofs.keeping.side.Tie as tie
 
-candidates-requires : tie.Need-candidates-requires
-candidates-requires c κs = search needs
-
 asked-requires : tie.Need-asked-requires
 asked-requires c κs =
     let made = c .before .before .before .before .before .before .before .before in
@@ -31,21 +28,6 @@ write-editions-requires c κs =
     let start = made .before .before .before .before .before .before .before .before .before .before .before .before .before .before .before in
     side-stretch _ _ _ _ _ (start .pre) _ _ (made .candidates .ensures)
 
-same-length : tie.Need-same-length
-same-length c = search needs
-
-same-length-2 : tie.Need-same-length-2
-same-length-2 c = search needs
-
-same-length-3 : tie.Need-same-length-3
-same-length-3 c = search needs
-
-same-length-4 : tie.Need-same-length-4
-same-length-4 c = search needs
-
-same-length-5 : tie.Need-same-length-5
-same-length-5 c = search needs
-
 returns : tie.Need-returns
 returns c =
     let dated = c .before .before in
@@ -58,14 +40,14 @@ pub side-spec : {M : Type 1} → statement M
 side-spec =
     tie.close
     (tie.spec
-    candidates-requires
+    (λ c κs. search needs)
     asked-requires
     mul-write-editions
     add-write-editions
     write-editions-requires
-    same-length
-    same-length-2
-    same-length-3
-    same-length-4
-    same-length-5
+    (λ c. search needs)
+    (λ c. search needs)
+    (λ c. search needs)
+    (λ c. search needs)
+    (λ c. search needs)
     returns)

@@ -4,12 +4,6 @@ use borrow.Author.Needs.{needs}
 use Rattle.straight_slices.proofs.entry.entry.Statement.{statement}
 use Rattle.straight_slices.proofs.entry.entry.Tie as tie
 
-input-refusal-requires : tie.Need-input-refusal-requires
-input-refusal-requires c κs = search needs
-
-prune-refused-requires : tie.Need-prune-refused-requires
-prune-refused-requires c κs = search needs
-
 returns : tie.Need-returns
 returns c =
     let first = c .before in
@@ -43,9 +37,6 @@ lent-refusal-requires c κs =
     let input = first .before in
     need-countable _ _ (input .input-refusal .ensures) _ (first .if1 .left) (need .need-of .ensures)
 
-prune-refused-requires-2 : tie.Need-prune-refused-requires-2
-prune-refused-requires-2 c κs = search needs
-
 returns-2 : tie.Need-returns-2
 returns-2 c =
     let second = c .before in
@@ -64,18 +55,6 @@ sliced-requires c κs =
     let input = first .before in
     accepted-ready _ _ _ _ _ (input .input-refusal .ensures) (first .if1 .left) (need .need-of .ensures) (lent .lent-refusal .ensures) _ refl (second .if2 .left)
 
-prune-given-requires : tie.Need-prune-given-requires
-prune-given-requires c κs = search needs
-
-same-length : tie.Need-same-length
-same-length c = search needs
-
-same-length-2 : tie.Need-same-length-2
-same-length-2 c = search needs
-
-same-length-3 : tie.Need-same-length-3
-same-length-3 c = search needs
-
 returns-3 : tie.Need-returns-3
 returns-3 c =
     let done = c .before .before .before .before .before .before .before in
@@ -90,18 +69,18 @@ pub entry-spec : {M : Type 1} → statement M
 entry-spec =
     tie.close
     (tie.spec
-    input-refusal-requires
-    prune-refused-requires
+    (λ c κs. search needs)
+    (λ c κs. search needs)
     returns
     mul-count
     add-count
     need-of-requires
     lent-refusal-requires
-    prune-refused-requires-2
+    (λ c κs. search needs)
     returns-2
     sliced-requires
-    prune-given-requires
-    same-length
-    same-length-2
-    same-length-3
+    (λ c κs. search needs)
+    (λ c. search needs)
+    (λ c. search needs)
+    (λ c. search needs)
     returns-3)

@@ -3,12 +3,6 @@ use borrow.Author.Needs.{needs}
 use Rattle.straight_slices.proofs.faults.list_refusal.Statement.{statement}
 use Rattle.straight_slices.proofs.faults.list_refusal.Tie as tie
 
-list-refusal-requires : tie.Need-list-refusal-requires
-list-refusal-requires c κs = search needs
-
-more-list-refusal-requires : tie.Need-more-list-refusal-requires
-more-list-refusal-requires c κs = search needs
-
 returns : tie.Need-returns
 returns c = search then-rows depth 8
 
@@ -16,6 +10,6 @@ pub list-refusal-spec : {M : Type 1} → statement M
 list-refusal-spec =
     tie.close
     (tie.spec
-    list-refusal-requires
-    more-list-refusal-requires
+    (λ c κs. search needs)
+    (λ c κs. search needs)
     returns)

@@ -3,9 +3,6 @@ use borrow.Author.Needs.{needs}
 use Rattle.straight_slices.proofs.slicing.both_sides.Statement.{statement}
 use Rattle.straight_slices.proofs.slicing.both_sides.Tie as tie
 
-parts-of-requires : tie.Need-parts-of-requires
-parts-of-requires c κs = search needs
-
 kept-requires : tie.Need-kept-requires
 kept-requires c κs =
     let start = c .before .before .before .before .before .before .before .before .before .before .before .before .before .before .before .before .before in
@@ -16,15 +13,6 @@ kept-requires-2 c κs =
     let first = c .before .before .before .before .before .before .before .before .before in
     let start = first .before .before .before .before .before .before .before .before .before .before .before .before .before .before .before .before .before .before in
     second-room _ _ (start .pre) _ _ _ (first .kept .ensures)
-
-same-length : tie.Need-same-length
-same-length c = search needs
-
-same-length-2 : tie.Need-same-length-2
-same-length-2 c = search needs
-
-same-length-3 : tie.Need-same-length-3
-same-length-3 c = search needs
 
 returns : tie.Need-returns
 returns c =
@@ -38,10 +26,10 @@ pub both-sides-spec : {M : Type 1} → statement M
 both-sides-spec =
     tie.close
     (tie.spec
-    parts-of-requires
+    (λ c κs. search needs)
     kept-requires
     kept-requires-2
-    same-length
-    same-length-2
-    same-length-3
+    (λ c. search needs)
+    (λ c. search needs)
+    (λ c. search needs)
     returns)

@@ -3,23 +3,11 @@ use borrow.Author.Needs.{needs}
 use Rattle.straight_slices.proofs.slicing.sliced.Statement.{statement}
 use Rattle.straight_slices.proofs.slicing.sliced.Tie as tie
 
-both-sides-requires : tie.Need-both-sides-requires
-both-sides-requires c κs = search needs
-
 finish-requires : tie.Need-finish-requires
 finish-requires c κs =
     let kept = c .before .before .before .before .before .before .before .before .before in
     let start = kept .before .before .before .before .before .before .before .before .before .before .before .before .before .before in
     finish-fit _ _ _ _ _ (start .pre) (kept .both-sides .ensures)
-
-same-length : tie.Need-same-length
-same-length c = search needs
-
-same-length-2 : tie.Need-same-length-2
-same-length-2 c = search needs
-
-same-length-3 : tie.Need-same-length-3
-same-length-3 c = search needs
 
 returns : tie.Need-returns
 returns c =
@@ -31,4 +19,10 @@ returns c =
 pub sliced-spec : {M : Type 1} → statement M
 sliced-spec =
     tie.close
-    (tie.spec both-sides-requires finish-requires same-length same-length-2 same-length-3 returns)
+    (tie.spec
+    (λ c κs. search needs)
+    finish-requires
+    (λ c. search needs)
+    (λ c. search needs)
+    (λ c. search needs)
+    returns)

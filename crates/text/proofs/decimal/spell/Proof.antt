@@ -13,29 +13,11 @@ abbrev μ-loop : tie.MeasureT-loop
 loop-holds : tie.Need-loop-holds Inv-loop μ-loop
 loop-holds c = search (needs, spelling)
 
-sub-i : tie.Need-sub-i Inv-loop μ-loop
-sub-i c = search needs
-
-tenth-of-requires : tie.Need-tenth-of-requires Inv-loop μ-loop
-tenth-of-requires c κs = search needs
-
 glyph-requires : tie.Need-glyph-requires Inv-loop μ-loop
 glyph-requires c κs = search (needs, digit-small)
 
-slice-write-out : tie.Need-slice-write-out Inv-loop μ-loop
-slice-write-out c = search needs
-
-two-of-requires : tie.Need-two-of-requires Inv-loop μ-loop
-two-of-requires c κs = search needs
-
-loop-less : tie.Need-loop-less Inv-loop μ-loop
-loop-less c = search needs
-
 loop-again : tie.Need-loop-again Inv-loop μ-loop
 loop-again c = search (needs, spelling)
-
-same-length : tie.Need-same-length Inv-loop μ-loop
-same-length c = search needs
 
 returns : tie.Need-returns Inv-loop μ-loop
 returns c = search (needs, spelling)
@@ -47,12 +29,12 @@ spell-spec =
     Inv-loop
     μ-loop
     loop-holds
-    sub-i
-    tenth-of-requires
+    (λ c. search needs)
+    (λ c κs. search needs)
     glyph-requires
-    slice-write-out
-    two-of-requires
-    loop-less
+    (λ c. search needs)
+    (λ c κs. search needs)
+    (λ c. search needs)
     loop-again
-    same-length
+    (λ c. search needs)
     returns)

@@ -5,12 +5,6 @@ use borrow.Author.Needs.{needs}
 use Rattle.text.proofs.lines.coordinate.Statement.{statement}
 use Rattle.text.proofs.lines.coordinate.Tie as tie
 
-capped-requires : tie.Need-capped-requires
-capped-requires c κs = search needs
-
-signed-requires : tie.Need-signed-requires
-signed-requires c κs = search needs
-
 minus-requires : tie.Need-minus-requires
 minus-requires c κs =
     let s = c .before .before .before .args in
@@ -34,4 +28,9 @@ returns-2 c =
 
 pub coordinate-spec : {M : Type 1} → statement M
 coordinate-spec =
-    tie.close (tie.spec capped-requires signed-requires minus-requires returns returns-2)
+    tie.close (tie.spec
+    (λ c κs. search needs)
+    (λ c κs. search needs)
+    minus-requires
+    returns
+    returns-2)

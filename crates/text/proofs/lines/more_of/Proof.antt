@@ -4,12 +4,6 @@ use borrow.Author.Needs.{needs}
 use Rattle.text.proofs.lines.more_of.Statement.{statement}
 use Rattle.text.proofs.lines.more_of.Tie as tie
 
-mul-result : tie.Need-mul-result
-mul-result c = search needs
-
-add-result : tie.Need-add-result
-add-result c = search needs
-
 returns : tie.Need-returns
 unfolding more
 returns c = search (needs, cases)
@@ -19,4 +13,8 @@ unfolding more
 returns-2 c = search (needs, cases)
 
 pub more-of-spec : {M : Type 1} → statement M
-more-of-spec = tie.close (tie.spec mul-result add-result returns returns-2)
+more-of-spec = tie.close (tie.spec
+    (λ c. search needs)
+    (λ c. search needs)
+    returns
+    returns-2)

@@ -16,12 +16,14 @@ returns-3 : tie.Need-returns-3
 unfolding onBlank
 returns-3 c = search (needs, cases)
 
-blanks-more-requires : tie.Need-blanks-more-requires
-blanks-more-requires c κs = search needs
-
 returns-4 : tie.Need-returns-4
 unfolding onBlank
 returns-4 c = search (needs, cases)
 
 pub on-blank-spec : {M : Type 1} → statement M
-on-blank-spec = tie.close (tie.spec returns returns-2 returns-3 blanks-more-requires returns-4)
+on-blank-spec = tie.close (tie.spec
+    returns
+    returns-2
+    returns-3
+    (λ c κs. search needs)
+    returns-4)

@@ -4,12 +4,6 @@ use borrow.Author.Needs.{needs}
 use Rattle.text.proofs.lines.stage_of.Statement.{statement}
 use Rattle.text.proofs.lines.stage_of.Tie as tie
 
-is-blank-requires : tie.Need-is-blank-requires
-is-blank-requires c κs = search needs
-
-on-blank-requires : tie.Need-on-blank-requires
-on-blank-requires c κs = search needs
-
 returns : tie.Need-returns
 unfolding stageOf
 returns c = search (needs, cases)
@@ -19,4 +13,8 @@ unfolding stageOf
 returns-2 c = search (needs, cases)
 
 pub stage-of-spec : {M : Type 1} → statement M
-stage-of-spec = tie.close (tie.spec is-blank-requires on-blank-requires returns returns-2)
+stage-of-spec = tie.close (tie.spec
+    (λ c κs. search needs)
+    (λ c κs. search needs)
+    returns
+    returns-2)

@@ -3,12 +3,6 @@ use borrow.Author.Needs.{needs}
 use Rattle.unmoved.proofs.moved.same_at.Statement.{statement}
 use Rattle.unmoved.proofs.moved.same_at.Tie as tie
 
-vertex-of-requires : tie.Need-vertex-of-requires
-vertex-of-requires c κs = search needs
-
-vertex-of-requires-2 : tie.Need-vertex-of-requires-2
-vertex-of-requires-2 c κs = search needs
-
 same-vertex-requires : tie.Need-same-vertex-requires
 same-vertex-requires c κs = search (needs, vertices)
 
@@ -17,4 +11,8 @@ returns c = search (needs, vertices)
 
 pub same-at-spec : {M : Type 1} → statement M
 same-at-spec =
-    tie.close (tie.spec vertex-of-requires vertex-of-requires-2 same-vertex-requires returns)
+    tie.close (tie.spec
+    (λ c κs. search needs)
+    (λ c κs. search needs)
+    same-vertex-requires
+    returns)

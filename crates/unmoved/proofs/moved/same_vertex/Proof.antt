@@ -4,15 +4,6 @@ use borrow.Author.Needs.{needs}
 use Rattle.unmoved.proofs.moved.same_vertex.Statement.{statement}
 use Rattle.unmoved.proofs.moved.same_vertex.Tie as tie
 
-same-number-requires : tie.Need-same-number-requires
-same-number-requires c κs = search needs
-
-same-number-requires-2 : tie.Need-same-number-requires-2
-same-number-requires-2 c κs = search needs
-
-same-number-requires-3 : tie.Need-same-number-requires-3
-same-number-requires-3 c κs = search needs
-
 returns : tie.Need-returns
 unfolding sameVertex
 returns c = search (needs, cases)
@@ -29,9 +20,9 @@ pub same-vertex-spec : {M : Type 1} → statement M
 same-vertex-spec =
     tie.close
     (tie.spec
-    same-number-requires
-    same-number-requires-2
-    same-number-requires-3
+    (λ c κs. search needs)
+    (λ c κs. search needs)
+    (λ c κs. search needs)
     returns
     returns-2
     returns-3)

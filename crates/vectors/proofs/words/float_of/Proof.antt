@@ -14,11 +14,8 @@ no-nan w h = nanBits-above binary64 w ∙ le-ltb _ _ h
 float-from-bits-result : tie.Need-float-from-bits-result
 float-from-bits-result c = rw (no-nan _ (c .if1 .taken)) tt
 
-returns : tie.Need-returns
-returns c = search needs
-
-returns-2 : tie.Need-returns-2
-returns-2 c = search needs
-
 pub float-of-spec : {M : Type 1} → statement M
-float-of-spec = tie.close (tie.spec float-from-bits-result returns returns-2)
+float-of-spec = tie.close (tie.spec
+    float-from-bits-result
+    (λ c. search needs)
+    (λ c. search needs))

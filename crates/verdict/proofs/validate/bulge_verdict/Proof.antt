@@ -8,9 +8,6 @@ returns : tie.Need-returns
 unfolding bulgeVerdict
 returns c = search (needs, cases)
 
-agrees-requires : tie.Need-agrees-requires
-agrees-requires c κs = search needs
-
 returns-2 : tie.Need-returns-2
 unfolding bulgeVerdict
 returns-2 c = search (needs, cases)
@@ -20,4 +17,8 @@ unfolding bulgeVerdict
 returns-3 c = search (needs, cases)
 
 pub bulge-verdict-spec : {M : Type 1} → statement M
-bulge-verdict-spec = tie.close (tie.spec returns agrees-requires returns-2 returns-3)
+bulge-verdict-spec = tie.close (tie.spec
+    returns
+    (λ c κs. search needs)
+    returns-2
+    returns-3)

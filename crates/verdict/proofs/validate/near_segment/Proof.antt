@@ -4,15 +4,6 @@ use borrow.Author.Needs.{needs}
 use Rattle.verdict.proofs.validate.near_segment.Statement.{statement}
 use Rattle.verdict.proofs.validate.near_segment.Tie as tie
 
-near-vertex-requires : tie.Need-near-vertex-requires
-near-vertex-requires c κs = search needs
-
-add-near-vertex : tie.Need-add-near-vertex
-add-near-vertex c = search needs
-
-near-vertex-requires-2 : tie.Need-near-vertex-requires-2
-near-vertex-requires-2 c κs = search needs
-
 returns : tie.Need-returns
 unfolding nearSegment
 returns c = search (needs, cases)
@@ -24,4 +15,9 @@ returns-2 c = search (needs, cases)
 pub near-segment-spec : {M : Type 1} → statement M
 near-segment-spec =
     tie.close
-    (tie.spec near-vertex-requires add-near-vertex near-vertex-requires-2 returns returns-2)
+    (tie.spec
+    (λ c κs. search needs)
+    (λ c. search needs)
+    (λ c κs. search needs)
+    returns
+    returns-2)

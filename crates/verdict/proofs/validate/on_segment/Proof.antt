@@ -4,9 +4,6 @@ use borrow.Author.Needs.{needs}
 use Rattle.verdict.proofs.validate.on_segment.Statement.{statement}
 use Rattle.verdict.proofs.validate.on_segment.Tie as tie
 
-near-segment-requires : tie.Need-near-segment-requires
-near-segment-requires c κs = search needs
-
 returns : tie.Need-returns
 unfolding onSegment
 returns c = search (needs, cases)
@@ -16,4 +13,7 @@ unfolding onSegment
 returns-2 c = search (needs, cases)
 
 pub on-segment-spec : {M : Type 1} → statement M
-on-segment-spec = tie.close (tie.spec near-segment-requires returns returns-2)
+on-segment-spec = tie.close (tie.spec
+    (λ c κs. search needs)
+    returns
+    returns-2)

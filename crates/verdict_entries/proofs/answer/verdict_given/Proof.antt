@@ -4,48 +4,6 @@ use borrow.Author.Needs.{needs}
 use Rattle.verdict_entries.proofs.answer.verdict_given.Statement.{statement}
 use Rattle.verdict_entries.proofs.answer.verdict_given.Tie as tie
 
-enum-told : tie.Need-enum-told
-enum-told c = search needs
-
-verdict-record-requires : tie.Need-verdict-record-requires
-verdict-record-requires c κs = search needs
-
-enum-known-v : tie.Need-enum-known-v
-enum-known-v c = search needs
-
-verdict-record-requires-2 : tie.Need-verdict-record-requires-2
-verdict-record-requires-2 c κs = search needs
-
-enum-known-v-2 : tie.Need-enum-known-v-2
-enum-known-v-2 c = search needs
-
-verdict-record-requires-3 : tie.Need-verdict-record-requires-3
-verdict-record-requires-3 c κs = search needs
-
-enum-known-v-3 : tie.Need-enum-known-v-3
-enum-known-v-3 c = search needs
-
-verdict-record-requires-4 : tie.Need-verdict-record-requires-4
-verdict-record-requires-4 c κs = search needs
-
-enum-known-v-4 : tie.Need-enum-known-v-4
-enum-known-v-4 c = search needs
-
-verdict-record-requires-5 : tie.Need-verdict-record-requires-5
-verdict-record-requires-5 c κs = search needs
-
-enum-known-v-5 : tie.Need-enum-known-v-5
-enum-known-v-5 c = search needs
-
-verdict-record-requires-6 : tie.Need-verdict-record-requires-6
-verdict-record-requires-6 c κs = search needs
-
-enum-told-2 : tie.Need-enum-told-2
-enum-told-2 c = search needs
-
-verdict-record-requires-7 : tie.Need-verdict-record-requires-7
-verdict-record-requires-7 c κs = search needs
-
 returns : tie.Need-returns
 unfolding verdictGiven
 returns c = c .verdict-record .ensures ∙ ap verdictGiven (sym (c .before .enum-told .given .1))
@@ -78,20 +36,20 @@ pub verdict-given-spec : {M : Type 1} → statement M
 verdict-given-spec =
     tie.close
     (tie.spec
-    enum-told
-    verdict-record-requires
-    enum-known-v
-    verdict-record-requires-2
-    enum-known-v-2
-    verdict-record-requires-3
-    enum-known-v-3
-    verdict-record-requires-4
-    enum-known-v-4
-    verdict-record-requires-5
-    enum-known-v-5
-    verdict-record-requires-6
-    enum-told-2
-    verdict-record-requires-7
+    (λ c. search needs)
+    (λ c κs. search needs)
+    (λ c. search needs)
+    (λ c κs. search needs)
+    (λ c. search needs)
+    (λ c κs. search needs)
+    (λ c. search needs)
+    (λ c κs. search needs)
+    (λ c. search needs)
+    (λ c κs. search needs)
+    (λ c. search needs)
+    (λ c κs. search needs)
+    (λ c. search needs)
+    (λ c κs. search needs)
     returns
     returns-2
     returns-3

@@ -5,15 +5,6 @@ use borrow.Author.Needs.{needs}
 use Rattle.view.proofs.create.create.Statement.{statement}
 use Rattle.view.proofs.create.create.Tie as tie
 
-near-vertex-requires : tie.Need-near-vertex-requires
-near-vertex-requires c κs = search needs
-
-sub-t8 : tie.Need-sub-t8
-sub-t8 c = search needs
-
-bulge-before-requires : tie.Need-bulge-before-requires
-bulge-before-requires c κs = search needs
-
 returns : tie.Need-returns
 returns c = search (needs, makers)
 
@@ -23,4 +14,9 @@ returns-2 c = search (needs, cases)
 
 pub create-spec : {M : Type 1} → statement M
 create-spec =
-    tie.close (tie.spec near-vertex-requires sub-t8 bulge-before-requires returns returns-2)
+    tie.close (tie.spec
+    (λ c κs. search needs)
+    (λ c. search needs)
+    (λ c κs. search needs)
+    returns
+    returns-2)

@@ -4,9 +4,6 @@ use borrow.Author.Needs.{needs}
 use Rattle.view.proofs.create.create_on_single_segment.Statement.{statement}
 use Rattle.view.proofs.create.create_on_single_segment.Tie as tie
 
-points-agree-requires : tie.Need-points-agree-requires
-points-agree-requires c κs = search needs
-
 returns : tie.Need-returns
 unfolding singleView
 returns c = search (needs, cases)
@@ -16,4 +13,7 @@ unfolding singleView
 returns-2 c = search (needs, cases)
 
 pub create-on-single-segment-spec : {M : Type 1} → statement M
-create-on-single-segment-spec = tie.close (tie.spec points-agree-requires returns returns-2)
+create-on-single-segment-spec = tie.close (tie.spec
+    (λ c κs. search needs)
+    returns
+    returns-2)

@@ -4,12 +4,6 @@ use borrow.Author.Needs.{needs}
 use Rattle.view.proofs.create.entire_offset.Statement.{statement}
 use Rattle.view.proofs.create.entire_offset.Tie as tie
 
-sub-result : tie.Need-sub-result
-sub-result c = search needs
-
-sub-result-2 : tie.Need-sub-result-2
-sub-result-2 c = search needs
-
 returns : tie.Need-returns
 unfolding entireOffset
 returns c = search (needs, cases)
@@ -19,4 +13,8 @@ unfolding entireOffset
 returns-2 c = search (needs, cases)
 
 pub entire-offset-spec : {M : Type 1} → statement M
-entire-offset-spec = tie.close (tie.spec sub-result sub-result-2 returns returns-2)
+entire-offset-spec = tie.close (tie.spec
+    (λ c. search needs)
+    (λ c. search needs)
+    returns
+    returns-2)

@@ -10,26 +10,11 @@ Inv-loop outline vc v room₀ count k₀ room k = Listing outline vc v room₀ r
 abbrev μ-loop : tie.MeasureT-loop
 μ-loop outline vc v room₀ count k₀ room k = count - k
 
-add-count : tie.Need-add-count Inv-loop μ-loop
-add-count c = search needs
-
 loop-holds : tie.Need-loop-holds Inv-loop μ-loop
 loop-holds c = search (needs, listing)
 
-mul-put-vertex : tie.Need-mul-put-vertex Inv-loop μ-loop
-mul-put-vertex c = search needs
-
-vertex-of-requires : tie.Need-vertex-of-requires Inv-loop μ-loop
-vertex-of-requires c κs = search needs
-
 put-vertex-requires : tie.Need-put-vertex-requires Inv-loop μ-loop
 put-vertex-requires c κs = search (needs, listing)
-
-add-k : tie.Need-add-k Inv-loop μ-loop
-add-k c = search needs
-
-loop-less : tie.Need-loop-less Inv-loop μ-loop
-loop-less c = search needs
 
 loop-again : tie.Need-loop-again Inv-loop μ-loop
 loop-again c =
@@ -37,9 +22,6 @@ loop-again c =
     let drawn = put .before in
     let turn = drawn .before .before in
     list-more _ _ _ _ _ _ _ _ (turn .before .loop .inv) (search needs) (drawn .vertex-of .ensures) (put .put-vertex .ensures)
-
-same-length : tie.Need-same-length Inv-loop μ-loop
-same-length c = search needs
 
 returns : tie.Need-returns Inv-loop μ-loop
 returns c = search (needs, listing)
@@ -50,13 +32,13 @@ write-vertices-spec =
     (tie.spec
     Inv-loop
     μ-loop
-    add-count
+    (λ c. search needs)
     loop-holds
-    mul-put-vertex
-    vertex-of-requires
+    (λ c. search needs)
+    (λ c κs. search needs)
     put-vertex-requires
-    add-k
-    loop-less
+    (λ c. search needs)
+    (λ c. search needs)
     loop-again
-    same-length
+    (λ c. search needs)
     returns)

@@ -5,12 +5,6 @@ use borrow.Author.Needs.{needs}
 use Rattle.view.proofs.vertex.get_vertex.Statement.{statement}
 use Rattle.view.proofs.vertex.get_vertex.Tie as tie
 
-add-if1 : tie.Need-add-if1
-add-if1 c = search needs
-
-vertex-of-requires : tie.Need-vertex-of-requires
-vertex-of-requires c κs = search needs
-
 returns : tie.Need-returns
 unfolding getVertex
 returns c = search (needs, cases, callees)
@@ -20,4 +14,8 @@ unfolding getVertex
 returns-2 c = search (needs, cases, callees)
 
 pub get-vertex-spec : {M : Type 1} → statement M
-get-vertex-spec = tie.close (tie.spec add-if1 vertex-of-requires returns returns-2)
+get-vertex-spec = tie.close (tie.spec
+    (λ c. search needs)
+    (λ c κs. search needs)
+    returns
+    returns-2)

@@ -4,15 +4,6 @@ use borrow.Author.Needs.{needs}
 use Rattle.view_entries.proofs.answer.vertex_found.Statement.{statement}
 use Rattle.view_entries.proofs.answer.vertex_found.Tie as tie
 
-enum-known-f : tie.Need-enum-known-f
-enum-known-f c = search needs
-
-enum-told : tie.Need-enum-told
-enum-told c = search needs
-
-vertex-refused-requires : tie.Need-vertex-refused-requires
-vertex-refused-requires c κs = search needs
-
 returns : tie.Need-returns
 unfolding vertexFound
 returns c = ap vertexFound (sym (c .before .f .given .1))
@@ -23,4 +14,9 @@ returns-2 c = c .vertex-refused .ensures ∙ ap vertexFound (sym (c .before .enu
 
 pub vertex-found-spec : {M : Type 1} → statement M
 vertex-found-spec =
-    tie.close (tie.spec enum-known-f enum-told vertex-refused-requires returns returns-2)
+    tie.close (tie.spec
+    (λ c. search needs)
+    (λ c. search needs)
+    (λ c κs. search needs)
+    returns
+    returns-2)

@@ -3,12 +3,11 @@ use borrow.Author.Needs.{needs}
 use Rattle.view_entries.proofs.answer.view_made.Statement.{statement}
 use Rattle.view_entries.proofs.answer.view_made.Tie as tie
 
-flat-view-requires : tie.Need-flat-view-requires
-flat-view-requires c κs = search needs
-
 returns : tie.Need-returns
 unfolding viewMade
 returns c = rw (c .flat-view .ensures)
 
 pub view-made-spec : {M : Type 1} → statement M
-view-made-spec = tie.close (tie.spec flat-view-requires returns)
+view-made-spec = tie.close (tie.spec
+    (λ c κs. search needs)
+    returns)

@@ -4,15 +4,12 @@ use borrow.Author.Needs.{needs}
 use Rattle.view_entries.proofs.input.bad_view_numbers.Statement.{statement}
 use Rattle.view_entries.proofs.input.bad_view_numbers.Tie as tie
 
-slice-aggregate-all-in-range : tie.Need-slice-aggregate-all-in-range
-slice-aggregate-all-in-range c = search needs
-
-all-in-range-requires : tie.Need-all-in-range-requires
-all-in-range-requires c κs = search needs
-
 returns : tie.Need-returns
 returns c = ap not (c .all-in-range .ensures)
 
 pub bad-view-numbers-spec : {M : Type 1} → statement M
 bad-view-numbers-spec =
-    tie.close (tie.spec slice-aggregate-all-in-range all-in-range-requires returns)
+    tie.close (tie.spec
+    (λ c. search needs)
+    (λ c κs. search needs)
+    returns)

@@ -4,9 +4,6 @@ use Rattle.view_entries.specs.ViewVertices.{list-shaped, listRows}
 use Rattle.view_entries.proofs.view_vertices.refusal.Statement.{statement}
 use Rattle.view_entries.proofs.view_vertices.refusal.Tie as tie
 
-refusal-requires : tie.Need-refusal-requires
-refusal-requires c κs = search needs
-
 returns : tie.Need-returns
 returns c = search (needs, listRows)
 
@@ -23,4 +20,10 @@ returns-3 : tie.Need-returns-3
 returns-3 c = search (needs, listRows)
 
 pub refusal-spec : {M : Type 1} → statement M
-refusal-spec = tie.close (tie.spec refusal-requires returns add-if2 mul-if2 returns-2 returns-3)
+refusal-spec = tie.close (tie.spec
+    (λ c κs. search needs)
+    returns
+    add-if2
+    mul-if2
+    returns-2
+    returns-3)

@@ -3,14 +3,8 @@ use borrow.Author.Needs.{needs}
 use Rattle.view_start.proofs.new_start.from_new_start.Statement.{statement}
 use Rattle.view_start.proofs.new_start.from_new_start.Tie as tie
 
-once-round-requires : tie.Need-once-round-requires
-once-round-requires c κs = search needs
-
 returns : tie.Need-returns
 returns c = search (needs, news)
-
-last-ends-requires : tie.Need-last-ends-requires
-last-ends-requires c κs = search needs
 
 from-slice-points-requires : tie.Need-from-slice-points-requires
 from-slice-points-requires c κs = search (needs, news)
@@ -21,4 +15,9 @@ returns-2 c = search (needs, news)
 pub from-new-start-spec : {M : Type 1} → statement M
 from-new-start-spec =
     tie.close
-    (tie.spec once-round-requires returns last-ends-requires from-slice-points-requires returns-2)
+    (tie.spec
+    (λ c κs. search needs)
+    returns
+    (λ c κs. search needs)
+    from-slice-points-requires
+    returns-2)

@@ -3,9 +3,6 @@ use borrow.Author.Needs.{needs}
 use Rattle.view_start.proofs.slice_points.from_slice_points.Statement.{statement}
 use Rattle.view_start.proofs.slice_points.from_slice_points.Tie as tie
 
-span-of-requires : tie.Need-span-of-requires
-span-of-requires c κs = search needs
-
 sliced-requires : tie.Need-sliced-requires
 sliced-requires c κs = search (needs, slices)
 
@@ -13,4 +10,7 @@ returns : tie.Need-returns
 returns c = search (needs, slices)
 
 pub from-slice-points-spec : {M : Type 1} → statement M
-from-slice-points-spec = tie.close (tie.spec span-of-requires sliced-requires returns)
+from-slice-points-spec = tie.close (tie.spec
+    (λ c κs. search needs)
+    sliced-requires
+    returns)

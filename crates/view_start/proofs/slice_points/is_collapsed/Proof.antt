@@ -6,17 +6,8 @@ use Rattle.view_start.proofs.slice_points.is_collapsed.Tie as tie
 returns : tie.Need-returns
 returns c = search (needs, slices)
 
-near-vertex-requires : tie.Need-near-vertex-requires
-near-vertex-requires c κs = search needs
-
 returns-2 : tie.Need-returns-2
 returns-2 c = search (needs, slices)
-
-pos-requires : tie.Need-pos-requires
-pos-requires c κs = search needs
-
-points-agree-requires : tie.Need-points-agree-requires
-points-agree-requires c κs = search needs
 
 returns-3 : tie.Need-returns-3
 returns-3 c = search (needs, slices)
@@ -24,4 +15,10 @@ returns-3 c = search (needs, slices)
 pub is-collapsed-spec : {M : Type 1} → statement M
 is-collapsed-spec =
     tie.close
-    (tie.spec returns near-vertex-requires returns-2 pos-requires points-agree-requires returns-3)
+    (tie.spec
+    returns
+    (λ c κs. search needs)
+    returns-2
+    (λ c κs. search needs)
+    (λ c κs. search needs)
+    returns-3)

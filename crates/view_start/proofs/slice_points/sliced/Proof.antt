@@ -5,15 +5,9 @@ use borrow.Author.Needs.{needs}
 use Rattle.view_start.proofs.slice_points.sliced.Statement.{statement}
 use Rattle.view_start.proofs.slice_points.sliced.Tie as tie
 
-create-on-single-segment-requires : tie.Need-create-on-single-segment-requires
-create-on-single-segment-requires c κs = search needs
-
 returns : tie.Need-returns
 unfolding slicedView
 returns c = search (needs, cases)
-
-walk-over-requires : tie.Need-walk-over-requires
-walk-over-requires c κs = search needs
 
 walked-requires : tie.Need-walked-requires
 walked-requires c κs = search (needs, slices)
@@ -25,8 +19,8 @@ pub sliced-spec : {M : Type 1} → statement M
 sliced-spec =
     tie.close
     (tie.spec
-    create-on-single-segment-requires
+    (λ c κs. search needs)
     returns
-    walk-over-requires
+    (λ c κs. search needs)
     walked-requires
     returns-2)

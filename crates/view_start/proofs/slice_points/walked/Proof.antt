@@ -5,18 +5,16 @@ use borrow.Author.Needs.{needs}
 use Rattle.view_start.proofs.slice_points.walked.Statement.{statement}
 use Rattle.view_start.proofs.slice_points.walked.Tie as tie
 
-is-collapsed-requires : tie.Need-is-collapsed-requires
-is-collapsed-requires c κs = search needs
-
 returns : tie.Need-returns
 unfolding walkedView
 returns c = search (needs, cases)
-
-create-requires : tie.Need-create-requires
-create-requires c κs = search needs
 
 returns-2 : tie.Need-returns-2
 returns-2 c = search (needs, slices)
 
 pub walked-spec : {M : Type 1} → statement M
-walked-spec = tie.close (tie.spec is-collapsed-requires returns create-requires returns-2)
+walked-spec = tie.close (tie.spec
+    (λ c κs. search needs)
+    returns
+    (λ c κs. search needs)
+    returns-2)

@@ -9,11 +9,12 @@ returns c = search (needs, spans)
 returns-2 : tie.Need-returns-2
 returns-2 c = search (needs, spans)
 
-points-agree-requires : tie.Need-points-agree-requires
-points-agree-requires c κs = search needs
-
 returns-3 : tie.Need-returns-3
 returns-3 c = search (needs, spans)
 
 pub is-decided-spec : {M : Type 1} → statement M
-is-decided-spec = tie.close (tie.spec returns returns-2 points-agree-requires returns-3)
+is-decided-spec = tie.close (tie.spec
+    returns
+    returns-2
+    (λ c κs. search needs)
+    returns-3)

@@ -4,15 +4,6 @@ use borrow.Author.Needs.{needs}
 use Rattle.view_start.proofs.span.moves_on.Statement.{statement}
 use Rattle.view_start.proofs.span.moves_on.Tie as tie
 
-can-move-requires : tie.Need-can-move-requires
-can-move-requires c κs = search needs
-
-add-near-vertex : tie.Need-add-near-vertex
-add-near-vertex c = search needs
-
-near-vertex-requires : tie.Need-near-vertex-requires
-near-vertex-requires c κs = search needs
-
 returns : tie.Need-returns
 unfolding movesOn
 returns c = search (needs, cases)
@@ -23,4 +14,9 @@ returns-2 c = search (needs, cases)
 
 pub moves-on-spec : {M : Type 1} → statement M
 moves-on-spec =
-    tie.close (tie.spec can-move-requires add-near-vertex near-vertex-requires returns returns-2)
+    tie.close (tie.spec
+    (λ c κs. search needs)
+    (λ c. search needs)
+    (λ c κs. search needs)
+    returns
+    returns-2)

@@ -4,12 +4,6 @@ use borrow.Author.Needs.{needs}
 use Rattle.view_start.proofs.span.start_index.Statement.{statement}
 use Rattle.view_start.proofs.span.start_index.Tie as tie
 
-add-wrapped : tie.Need-add-wrapped
-add-wrapped c = search needs
-
-wrapped-requires : tie.Need-wrapped-requires
-wrapped-requires c κs = search needs
-
 returns : tie.Need-returns
 unfolding startIndex
 returns c = search (needs, cases)
@@ -19,4 +13,8 @@ unfolding startIndex
 returns-2 c = search (needs, cases)
 
 pub start-index-spec : {M : Type 1} → statement M
-start-index-spec = tie.close (tie.spec add-wrapped wrapped-requires returns returns-2)
+start-index-spec = tie.close (tie.spec
+    (λ c. search needs)
+    (λ c κs. search needs)
+    returns
+    returns-2)

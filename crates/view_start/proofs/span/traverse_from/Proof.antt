@@ -3,17 +3,8 @@ use borrow.Author.Needs.{needs}
 use Rattle.view_start.proofs.span.traverse_from.Statement.{statement}
 use Rattle.view_start.proofs.span.traverse_from.Tie as tie
 
-segments-ahead-requires : tie.Need-segments-ahead-requires
-segments-ahead-requires c κs = search needs
-
-is-decided-requires : tie.Need-is-decided-requires
-is-decided-requires c κs = search needs
-
 returns : tie.Need-returns
 returns c = search (needs, spans)
-
-start-nearer-requires : tie.Need-start-nearer-requires
-start-nearer-requires c κs = search needs
 
 returns-2 : tie.Need-returns-2
 returns-2 c = search (needs, spans)
@@ -25,9 +16,9 @@ pub traverse-from-spec : {M : Type 1} → statement M
 traverse-from-spec =
     tie.close
     (tie.spec
-    segments-ahead-requires
-    is-decided-requires
+    (λ c κs. search needs)
+    (λ c κs. search needs)
     returns
-    start-nearer-requires
+    (λ c κs. search needs)
     returns-2
     returns-3)

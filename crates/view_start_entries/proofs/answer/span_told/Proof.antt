@@ -3,12 +3,11 @@ use borrow.Author.Needs.{needs}
 use Rattle.view_start_entries.proofs.answer.span_told.Statement.{statement}
 use Rattle.view_start_entries.proofs.answer.span_told.Tie as tie
 
-choice-requires : tie.Need-choice-requires
-choice-requires c κs = search needs
-
 returns : tie.Need-returns
 unfolding spanTold
 returns c = rw (c .choice .ensures)
 
 pub span-told-spec : {M : Type 1} → statement M
-span-told-spec = tie.close (tie.spec choice-requires returns)
+span-told-spec = tie.close (tie.spec
+    (λ c κs. search needs)
+    returns)

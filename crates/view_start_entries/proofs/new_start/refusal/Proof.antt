@@ -6,21 +6,6 @@ use borrow.Author.Needs.{needs}
 use Rattle.view_start_entries.proofs.new_start.refusal.Statement.{statement}
 use Rattle.view_start_entries.proofs.new_start.refusal.Tie as tie
 
-shape-refusal-requires : tie.Need-shape-refusal-requires
-shape-refusal-requires c κs = search needs
-
-bad-point-requires : tie.Need-bad-point-requires
-bad-point-requires c κs = search needs
-
-or-else-requires : tie.Need-or-else-requires
-or-else-requires c κs = search needs
-
-split-refusal-requires : tie.Need-split-refusal-requires
-split-refusal-requires c κs = search needs
-
-or-else-requires-2 : tie.Need-or-else-requires-2
-or-else-requires-2 c κs = search needs
-
 returns : tie.Need-returns
 unfolding newStartRefusal
 returns c =
@@ -36,9 +21,9 @@ pub refusal-spec : {M : Type 1} → statement M
 refusal-spec =
     tie.close
     (tie.spec
-    shape-refusal-requires
-    bad-point-requires
-    or-else-requires
-    split-refusal-requires
-    or-else-requires-2
+    (λ c κs. search needs)
+    (λ c κs. search needs)
+    (λ c κs. search needs)
+    (λ c κs. search needs)
+    (λ c κs. search needs)
     returns)

@@ -4,23 +4,11 @@ use borrow.Author.Needs.{needs}
 use Rattle.view_start_entries.proofs.slice_points.made.Statement.{statement}
 use Rattle.view_start_entries.proofs.slice_points.made.Tie as tie
 
-refusal-requires : tie.Need-refusal-requires
-refusal-requires c κs = search needs
-
-view-refused-requires : tie.Need-view-refused-requires
-view-refused-requires c κs = search needs
-
 returns : tie.Need-returns
 returns c = search (needs, answers, sliceLaws)
 
-splits-of-requires : tie.Need-splits-of-requires
-splits-of-requires c κs = search needs
-
 from-slice-points-requires : tie.Need-from-slice-points-requires
 from-slice-points-requires c κs = search (needs, answers, sliceLaws)
-
-segment-made-requires : tie.Need-segment-made-requires
-segment-made-requires c κs = search needs
 
 returns-2 : tie.Need-returns-2
 returns-2 c = search (needs, answers, sliceLaws)
@@ -29,10 +17,10 @@ pub made-spec : {M : Type 1} → statement M
 made-spec =
     tie.close
     (tie.spec
-    refusal-requires
-    view-refused-requires
+    (λ c κs. search needs)
+    (λ c κs. search needs)
     returns
-    splits-of-requires
+    (λ c κs. search needs)
     from-slice-points-requires
-    segment-made-requires
+    (λ c κs. search needs)
     returns-2)

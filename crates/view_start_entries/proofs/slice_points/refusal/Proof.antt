@@ -6,21 +6,6 @@ use borrow.Author.Needs.{needs}
 use Rattle.view_start_entries.proofs.slice_points.refusal.Statement.{statement}
 use Rattle.view_start_entries.proofs.slice_points.refusal.Tie as tie
 
-shape-refusal-requires : tie.Need-shape-refusal-requires
-shape-refusal-requires c κs = search needs
-
-bad-points-requires : tie.Need-bad-points-requires
-bad-points-requires c κs = search needs
-
-or-else-requires : tie.Need-or-else-requires
-or-else-requires c κs = search needs
-
-split-refusal-requires : tie.Need-split-refusal-requires
-split-refusal-requires c κs = search needs
-
-index-refusal-requires : tie.Need-index-refusal-requires
-index-refusal-requires c κs = search needs
-
 returns : tie.Need-returns
 unfolding sliceRefusal
 returns c =
@@ -36,9 +21,9 @@ pub refusal-spec : {M : Type 1} → statement M
 refusal-spec =
     tie.close
     (tie.spec
-    shape-refusal-requires
-    bad-points-requires
-    or-else-requires
-    split-refusal-requires
-    index-refusal-requires
+    (λ c κs. search needs)
+    (λ c κs. search needs)
+    (λ c κs. search needs)
+    (λ c κs. search needs)
+    (λ c κs. search needs)
     returns)

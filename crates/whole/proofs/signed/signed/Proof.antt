@@ -4,11 +4,10 @@ use borrow.Author.Needs.{needs}
 use Rattle.whole.proofs.signed.signed.Statement.{statement}
 use Rattle.whole.proofs.signed.signed.Tie as tie
 
-cast-result : tie.Need-cast-result
-cast-result c = search needs
-
 returns : tie.Need-returns
 returns c = toZ-pos w64 (c .pre .below)
 
 pub signed-spec : {M : Type 1} → statement M
-signed-spec = tie.close (tie.spec cast-result returns)
+signed-spec = tie.close (tie.spec
+    (λ c. search needs)
+    returns)

@@ -6,8 +6,7 @@ use Rattle.whole.proofs.signed.unsigned.Tie as tie
 cast-result : tie.Need-cast-result
 cast-result c = cast-ok (c .args .x) (c .fits .x) (c .pre)
 
-returns : tie.Need-returns
-returns c = search needs
-
 pub unsigned-spec : {M : Type 1} → statement M
-unsigned-spec = tie.close (tie.spec cast-result returns)
+unsigned-spec = tie.close (tie.spec
+    cast-result
+    (λ c. search needs))

@@ -3,9 +3,6 @@ use borrow.Author.Needs.{needs}
 use Rattle.whole.proofs.two.take.Statement.{statement}
 use Rattle.whole.proofs.two.take.Tie as tie
 
-wrapping-sub-u64-requires : tie.Need-wrapping-sub-u64-requires
-wrapping-sub-u64-requires c κs = search needs
-
 sub-high : tie.Need-sub-high
 sub-high c = search (needs, words)
 
@@ -23,4 +20,10 @@ returns-2 c = search (needs, words)
 
 pub take-spec : {M : Type 1} → statement M
 take-spec =
-    tie.close (tie.spec wrapping-sub-u64-requires sub-high sub-high-2 returns sub-high-3 returns-2)
+    tie.close (tie.spec
+    (λ c κs. search needs)
+    sub-high
+    sub-high-2
+    returns
+    sub-high-3
+    returns-2)
