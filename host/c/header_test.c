@@ -5,7 +5,9 @@
  * Sizes and widths are compared with document 01's and the lists' numbers, written down
  * here a second time. The stack is measured: a thread of its own paints its stack, makes
  * one call with the largest inputs, and looks how far down the paint is gone. host/stack
- * reads the same off the machine code, for every input.
+ * reads the same off the machine code, for every input. Under the address sanitizer the same
+ * calls are made on the same stacks, but what they took is not judged: its memset and memcpy
+ * take more than the C library's, and the header counts neither.
  */
 #include "testing.h"
 #include <pthread.h>
@@ -316,18 +318,25 @@ enum {
     STACK = 1 << 20,
     FRAME = 256, /* what is left to the painter's own frame */
     OWN = 1024,  /* what it and the caller of an entry have themselves, its arguments among it */
-    PAINT = 0xa5
+    PAINT = 0xa5,
+#ifdef __SANITIZE_ADDRESS__
+    JUDGED = 0
+#else
+    JUDGED = 1
+#endif
 };
 
 static char *stack;
 static void (*asked)(void);
 static size_t taken;
 
-static void *painted(void *nothing)
+/* It paints byte by byte: a function that it called would have its frame in the paint. */
+__attribute__((no_sanitize("address", "undefined"))) static void *painted(void *nothing)
 {
-    volatile char here = 0;
+    volatile char here = 0, *paint = stack;
     size_t height = (size_t)((uintptr_t)&here - (uintptr_t)stack), clean = 0;
-    memset(stack, PAINT, height - FRAME);
+    for (size_t i = 0; i < height - FRAME; i++)
+        paint[i] = (char)PAINT;
     asked();
     while (clean < height - FRAME && stack[clean] == (char)PAINT)
         clean++;
@@ -350,9 +359,12 @@ static void measure(const char *name, void (*call)(void), size_t most)
         check(0, "%s: no thread", name);
         return;
     }
-    check(refusal == MASK_ACCEPTED && taken <= most + OWN && (most < 4096 || taken > most / 2),
-          "%s: it and its caller took no more than %zu bytes of stack; said of it alone: %zu", name,
-          taken, most);
+    if (!JUDGED)
+        check(refusal == MASK_ACCEPTED, "%s: accepted on a stack of its own", name);
+    else
+        check(refusal == MASK_ACCEPTED && taken <= most + OWN && (most < 4096 || taken > most / 2),
+              "%s: it and its caller took no more than %zu bytes of stack; said of it alone: %zu",
+              name, taken, most);
 }
 
 int main(void)
