@@ -268,24 +268,38 @@ fn rust_type(kind: &str) -> String {
     }
 }
 
-/// The functions of the extern block.
+/// The functions that the boundary declares, with a pointer and a length for each slice.
 fn bound() -> Vec<Function> {
-    let block = between(BOUNDARY, "extern \"C\" {", "\n    }");
+    let block = between(BOUNDARY, "declare_entries! {", "\n    }");
     block
-        .split("fn ")
-        .skip(1)
-        .map(|function| {
-            let (name, rest) = function.split_once('(').expect("parameters");
-            let (parameters, answer) = rest.split_once(')').expect("their end");
+        .split(';')
+        .filter_map(|function| function.split_once('('))
+        .map(|(head, rest)| {
+            let (name, here) = head.trim().split_once(" as ").expect("both names");
+            assert_eq!(name.strip_prefix("mask_"), Some(here));
+            let (parameters, answer) = rest.split_once(") -> ").expect("their end");
             let parameters = parameters
                 .split(',')
                 .filter_map(|parameter| parameter.trim().split_once(": "))
-                .map(|(name, kind)| (name.to_string(), kind.to_string()))
+                .flat_map(|(name, kind)| handed_on(name, kind))
                 .collect();
-            let answer = between(answer, "-> ", ";").to_string();
-            (name.to_string(), parameters, answer)
+            (name.to_string(), parameters, answer.to_string())
         })
         .collect()
+}
+
+/// `hit: &[f64]` as `hit: *const f64` and `hit_len: usize`.
+fn handed_on(name: &str, kind: &str) -> Vec<(String, String)> {
+    let list = |word: &str, of: &str| {
+        let of = of.trim_end_matches(']');
+        let pointer = (name.to_string(), format!("*{word} {of}"));
+        vec![pointer, (format!("{name}_len"), "usize".to_string())]
+    };
+    match (kind.strip_prefix("&["), kind.strip_prefix("&mut [")) {
+        (Some(of), _) => list("const", of),
+        (_, Some(of)) => list("mut", of),
+        _ => vec![(name.to_string(), kind.to_string())],
+    }
 }
 
 #[test]
