@@ -1,364 +1,465 @@
-//! The typed layer over drawn input: it never panics, never lends less than the need (so that
-//! number 9 is never answered), and its answers are those of the raw entries, bit for bit.
+//! The typed layer over drawn input: it never panics, it never lends less than the need (so that
+//! number 9 is never answered), and every call answers what the raw entry answers, bit for bit.
+//!
+//! `draw` draws, `raw` makes the raw call of the same input, `same` compares. A property names the
+//! typed call and the raw one beside each other, and nothing more.
 
+#[macro_use]
+#[path = "../../../rust/src/ffi/declare.rs"]
+mod declare;
 mod draw;
+mod entries;
 mod raw;
+mod same;
+mod words;
 
 use draw::*;
+use mask_tools::lent::{self, CandidateRoom, SliceRoom, StitchRoom};
 use mask_tools::*;
 use proptest::collection::vec;
 use proptest::prelude::*;
+use raw::{room, RawStore, Spare, StitchLists, Written, NEED};
+use same::{for_drawn, same, same_lent, Told};
+use words::{words, Words};
 
-fn numbers(outline: &Outline) -> Vec<f64> {
-    outline
-        .vertices()
-        .iter()
-        .flat_map(|v| [v.x, v.y, v.bulge])
-        .collect()
+/// A host that answers what was drawn, one split after the other, and keeps what it gave.
+struct Drawn<'a> {
+    splits: &'a [Split],
+    given: Vec<Split>,
 }
 
-fn bits(numbers: &[f64]) -> Vec<u64> {
-    numbers.iter().map(|a| a.to_bits()).collect()
-}
-
-fn vertex_bits<'a>(vertices: impl IntoIterator<Item = &'a Vertex>) -> Vec<u64> {
-    vertices
-        .into_iter()
-        .flat_map(|v| [v.x.to_bits(), v.y.to_bits(), v.bulge.to_bits()])
-        .collect()
-}
-
-fn raw_view(view: &View) -> raw::View {
-    raw::View {
-        start_index: view.start_index,
-        end_index_offset: view.end_index_offset,
-        updated_start: view.updated_start,
-        updated_end_bulge: view.updated_end_bulge,
-        end_point: view.end_point,
-        inverted_direction: u32::from(view.inverted_direction),
-    }
-}
-
-/// The number that was answered; 0 where the call was accepted. Never 9: there was room.
-fn number_of<T>(answer: &Result<T, Refusal>) -> u32 {
-    let number = answer.as_ref().err().map_or(0, |refusal| refusal.number());
-    assert_ne!(number, 9, "the typed layer lent less than the need");
-    number
-}
-
-/// Room for what a raw stitch writes: the most that a drawn one needs.
-struct Room {
-    room: Vec<f64>,
-    ends: Vec<usize>,
-    chain: Vec<usize>,
-    chain_ends: Vec<usize>,
-    chain_how: Vec<usize>,
-}
-
-impl Room {
-    fn new(vertices: usize, slices: usize) -> Room {
-        Room {
-            room: vec![f64::NAN; 3 * vertices],
-            ends: vec![7; slices],
-            chain: vec![7; slices],
-            chain_ends: vec![7; slices],
-            chain_how: vec![7; slices],
-        }
+impl<'a> Drawn<'a> {
+    fn new(splits: &'a [Split]) -> Drawn<'a> {
+        Drawn { splits, given: Vec::new() }
     }
 
-    fn same(&self, stitched: &Stitched, rounds: usize, loops: usize, chains: usize) {
-        assert_eq!(
-            (
-                stitched.rounds(),
-                stitched.loop_count(),
-                stitched.chain_count()
-            ),
-            (rounds, loops, chains)
-        );
-        let used = if loops == 0 { 0 } else { self.ends[loops - 1] };
-        assert_eq!(
-            vertex_bits(stitched.loops().flatten()),
-            bits(&self.room[..3 * used])
-        );
-        let mut begin = 0;
-        for (i, chain) in stitched.chains().enumerate() {
-            assert_eq!(chain.slices, &self.chain[begin..self.chain_ends[i]]);
-            begin = self.chain_ends[i];
+    /// The start's split and the end's. One that it was not asked for can be any.
+    fn start_and_end(&self, first_is_start: bool) -> [Split; 2] {
+        let any = Vertex::new(1.5, -2.5, 0.25);
+        let unused = Split { updated_start: any, split_vertex: any };
+        match self.given[..] {
+            [start, end] => [start, end],
+            [start] if first_is_start => [start, unused],
+            [end] => [unused, end],
+            _ => [unused, unused],
         }
     }
 }
 
-proptest! {
-    #[test]
-    fn vertices_of_a_view(source in outline(), view in view(), index in index()) {
-        let typed = view.vertices(&source);
-        let (outline, mut room) = (numbers(&source), vec![f64::NAN; 3 * 1030]);
-        let raw = unsafe {
-            raw::mask_view_vertices(outline.as_ptr(), outline.len(), source.vertex_count(), raw_view(&view), room.as_mut_ptr(), room.len())
-        };
-        prop_assert_eq!(number_of(&typed), raw.refusal);
-        if let Ok(vertices) = typed {
-            prop_assert_eq!(vertex_bits(vertices.as_slice()), bits(&room[..3 * raw.count]));
-        }
-        number_of(&view.get_vertex(&source, index));
-        number_of(&view.first_moved(&source, &source));
+impl Host for Drawn<'_> {
+    fn split(&mut self, _from: Vertex, _to: Vertex, _at: Point) -> Split {
+        let split = self.splits[self.given.len() % self.splits.len()];
+        self.given.push(split);
+        split
     }
 
-    #[test]
-    fn views_that_are_made(source in outline(), walk in walk(), t in tolerance(), closed in any::<bool>()) {
-        let typed = View::create(&source, &walk, t);
-        let outline = numbers(&source);
-        let raw = unsafe {
-            raw::mask_create(outline.as_ptr(), outline.len(), source.vertex_count(), walk.start_index, walk.end_intersect, walk.intersect_index,
-                walk.updated_start, walk.traverse_count, t.x, t.y, walk.split)
-        };
-        prop_assert_eq!(number_of(&typed), raw.refusal);
-        if let Ok(view) = typed {
-            prop_assert_eq!((view.start_index, view.end_index_offset), (raw.view.start_index, raw.view.end_index_offset));
-            prop_assert_eq!(view.updated_end_bulge.to_bits(), raw.view.updated_end_bulge.to_bits());
-            prop_assert_eq!(raw.found, 1);
-        }
-        number_of(&View::from_entire_pline(&source, closed));
-        number_of(&View::create_on_single_segment(&source, walk.start_index, walk.updated_start, walk.end_intersect, t));
+    fn inside(&mut self, source: Source, outline: &Outline, probe: Probe) -> bool {
+        StraightHost.inside(source, outline, probe)
     }
 
-    #[test]
-    fn verdicts(source in outline(), mut view in view(), start in any::<bool>(), end in any::<bool>()) {
-        let typed = view.validate_for_source(&source, OnSegment { start, end });
-        number_of(&typed);
-        let before = view.edition;
-        let reopened = view.reopen(&source, OnSegment { start, end });
-        number_of(&reopened);
-        if reopened != Ok(Verdict::IsValid) {
-            prop_assert_eq!(view.edition, before);
-        }
+    fn area(&mut self, vertices: &[Vertex]) -> f64 {
+        StraightHost.area(vertices)
     }
+}
 
-    #[test]
-    fn starts_anywhere(source in outline(), from in (index(), point()), to in (index(), point()), closed in any::<bool>(), t in tolerance()) {
-        let place = |(index, point)| Place { index, point };
-        number_of(&slice_span(&source, closed, place(from), place(to), t));
-        number_of(&View::from_slice_points(&source, closed, place(from), place(to), t, &mut StraightHost));
-        number_of(&View::from_new_start(&source, closed, place(from), t, &mut StraightHost));
-    }
+fn mode() -> impl Strategy<Value = Mode> {
+    (0..4usize).prop_map(|number| Mode::ALL[number])
+}
 
-    #[test]
-    fn cuts_in_order(source in outline(), of in source(), hits in intersections(), laps in overlaps(), t in tolerance()) {
-        let typed = cut_order(&source, of, &hits, &laps, t);
-        let outline = numbers(&source);
-        let hit_at: Vec<usize> = hits.iter().flat_map(|h| [h.start_index1, h.start_index2]).collect();
-        let hit: Vec<f64> = hits.iter().flat_map(|h| [h.point.x, h.point.y]).collect();
-        let lap_at: Vec<usize> = laps.iter().flat_map(|l| {
-            let v = l.view_data;
-            [l.start_indexes.0, l.start_indexes.1, l.end_indexes.0, l.end_indexes.1, usize::from(l.opposing_directions), v.start_index, v.end_index_offset]
-        }).collect();
-        let lap: Vec<f64> = laps.iter().flat_map(|l| {
-            let v = l.view_data;
-            [v.updated_start.x, v.updated_start.y, v.updated_start.bulge, v.updated_end_bulge, v.end_point.x, v.end_point.y]
-        }).collect();
-        let (mut cut_at, mut cut) = (vec![7usize; 3 * 800], vec![f64::NAN; 2 * 800]);
-        let code = if of == Source::Pline1 { 1 } else { 2 };
-        let raw = unsafe {
-            raw::mask_cut_order(outline.as_ptr(), outline.len(), source.vertex_count(), code, hit_at.as_ptr(), hit_at.len(), hit.as_ptr(), hit.len(),
-                hits.len(), lap_at.as_ptr(), lap_at.len(), lap.as_ptr(), lap.len(), laps.len(), t.x, t.y, cut_at.as_mut_ptr(), cut_at.len(),
-                cut.as_mut_ptr(), cut.len())
-        };
-        prop_assert_eq!(number_of(&typed), raw.refusal);
-        if let Ok(cuts) = typed {
-            prop_assert_eq!(cuts.len(), raw.count);
-            for (i, c) in cuts.iter().enumerate() {
-                prop_assert_eq!([c.segment, usize::from(c.overlap_mark), c.arrival], [cut_at[3 * i], cut_at[3 * i + 1], cut_at[3 * i + 2]]);
-                prop_assert_eq!([c.point.x.to_bits(), c.point.y.to_bits()], [cut[2 * i].to_bits(), cut[2 * i + 1].to_bits()]);
-            }
-        }
-    }
+fn selector() -> impl Strategy<Value = Selector> {
+    prop_oneof![Just(Selector::OrAnd), Just(Selector::NotXor)]
+}
 
-    #[test]
-    fn candidates_and_slices(source in outline(), of in source(), hits in intersections(), laps in overlaps(), t in tolerance(),
-        splits in vec((vertex(), vertex(), vertex()), 0..24), inside in vec(any::<bool>(), 0..30), mode in 0usize..4, opposing in any::<bool>(),
-        exact in any::<bool>()) {
-        let cuts = hits.len() + 2 * laps.len();
-        let count = if exact { cuts } else { splits.len() };
-        let splits: Splits = splits.iter().cycle().take(if splits.is_empty() { 0 } else { count }).map(|&(updated_start, split_vertex, whole)| CutSplit {
-            split: Split { updated_start, split_vertex },
-            split_vertex_of_segment: whole,
-        }).collect();
-        let typed = candidates(&source, of, &hits, &laps, &splits, t);
-        number_of(&typed);
-        if let Ok(candidates) = typed {
-            prop_assert!(candidates.len() <= cuts);
-            prop_assert!(candidates.iter().all(|c| c.view.edition == source.edition()));
-            let mut inside = inside;
-            if exact {
-                inside.resize(candidates.len(), false);
-            }
-            let one = Answered { candidates, inside };
-            let pruned = prune(Mode::ALL[mode], opposing, [source.vertex_count(); 2], [&one, &one], &laps);
-            number_of(&pruned);
-            if let Ok(slices) = pruned {
-                prop_assert!(slices.len() <= 2 * one.candidates.len() + 2 * laps.len());
-            }
-        }
-        number_of(&straight_slices(Mode::ALL[mode], opposing, [&source, &source], &hits, &laps, t));
-    }
+/// Room that is just the need, some more, or less in some lists.
+fn spare() -> impl Strategy<Value = Spare> {
+    let some = |least| vec(least..3i8, 5).prop_map(|list| -> Spare { list.try_into().unwrap() });
+    prop_oneof![4 => Just(NEED), 2 => some(0), 1 => some(-1)]
+}
 
-    #[test]
-    fn stitches(pline1 in outline(), pline2 in outline(), slices in slices(), not_xor in any::<bool>(), entered in setting()) {
-        let mut settings = Settings::new();
-        let edition = match settings.enter(entered) {
-            Ok(edition) => edition,
-            Err(_) => 3, // no setting: number 16, or what comes before it
-        };
-        let selector = if not_xor { Selector::NotXor } else { Selector::OrAnd };
-        let typed = stitch(&pline1, &pline2, &slices, selector, settings.named(edition));
-        let (o1, o2) = (numbers(&pline1), numbers(&pline2));
-        let slice_at: Vec<usize> = slices.iter().flat_map(|s| {
-            [if s.source == Source::Pline1 { 1 } else { 2 }, usize::from(s.view.inverted_direction), s.view.start_index, s.view.end_index_offset]
-        }).collect();
-        let slice: Vec<f64> = slices.iter().flat_map(|s| {
-            let v = s.view;
-            [v.updated_start.x, v.updated_start.y, v.updated_start.bulge, v.updated_end_bulge, v.end_point.x, v.end_point.y]
-        }).collect();
-        let editions: Vec<u32> = slices.iter().map(|s| s.view.edition).collect();
-        let (count, record) = ([settings.len()], [entered.tolerance.x, entered.tolerance.y, entered.area_limit]);
-        let mut list = [0.0; 48];
-        if settings.len() == 1 {
-            list[..3].copy_from_slice(&record);
+/// A record of one setting, or of none where it was refused.
+fn record_of(setting: Setting) -> Settings {
+    let mut settings = Settings::new();
+    let entered = settings.enter(setting);
+    assert_eq!(entered.is_ok(), settings.len() == 1);
+    settings
+}
+
+#[test]
+fn vertices_of_a_view() {
+    for_drawn((outline(), view(), any_index()), |(source, view, index)| {
+        same(&view.vertices(&source), &raw::view_vertices(&view, &source, NEED));
+        same(&view.get_vertex(&source, index), &raw::view_vertex(&view, &source, index));
+    });
+}
+
+#[test]
+fn views_that_are_made() {
+    for_drawn((outline(), walk(), tolerance(), any::<bool>()), |(source, walk, t, closed)| {
+        let (start, from, to) = (walk.start_index, walk.updated_start, walk.end_intersect);
+        same(&View::create(&source, &walk, t), &raw::create(&source, &walk, t));
+        same(&View::create_on_single_segment(&source, start, from, to, t), &raw::create_on_single_segment(&source, &walk, t));
+        same(&View::from_entire_pline(&source, closed), &raw::from_entire_pline(&source, closed));
+    });
+}
+
+#[test]
+fn verdicts() {
+    let on_segment = (any::<bool>(), any::<bool>()).prop_map(|(start, end)| OnSegment { start, end });
+    for_drawn((old_and_new(), view(), on_segment), |((old, new), view, on)| {
+        same(&view.validate_for_source(&new, on), &raw::validate_for_source(&view, &new, on));
+        let mut reopened = view;
+        let verdict = reopened.reopen(&new, on);
+        same(&verdict.map(|verdict| (verdict, reopened.edition)), &raw::reopen(&view, &new, on));
+        assert_eq!(words![View { edition: view.edition, ..reopened }], words![view]);
+        assert!(verdict.is_ok() || reopened.edition == view.edition);
+        let moved = view.first_moved(&old, &new);
+        same(&moved, &raw::unmoved(&view, &old, &new));
+        assert_eq!(view.unmoved(&old, &new), moved.map(|first| first.is_none()));
+    });
+}
+
+#[test]
+fn starts_anywhere() {
+    for_drawn((outline(), place(), place(), any::<bool>(), tolerance(), vec(split(), 2)), |(source, from, to, closed, t, drawn)| {
+        same(&slice_span(&source, closed, from, to, t), &raw::slice_span(&source, closed, from, to, t));
+        let mut host = Drawn::new(&drawn);
+        let between = View::from_slice_points(&source, closed, from, to, t, &mut host);
+        same(&between, &raw::from_slice_points(&source, closed, from, to, t, host.start_and_end(false)));
+        let mut host = Drawn::new(&drawn);
+        let started = View::from_new_start(&source, closed, from, t, &mut host);
+        same(&started, &raw::from_new_start(&source, closed, from, t, host.start_and_end(closed)));
+    });
+}
+
+#[test]
+fn cuts_candidates_and_slices() {
+    let lists = (intersections(), overlaps(), drawn_splits(), vec(any::<bool>(), 1..30));
+    for_drawn((outline(), source(), lists, tolerance(), mode(), any::<[bool; 2]>()), |(source, of, lists, t, mode, [opposing, exact])| {
+        let (hits, laps, drawn, answers) = lists;
+        same(&cut_order(&source, of, &hits, &laps, t), &raw::cut_order(&source, of, &hits, &laps, t, NEED));
+        let splits = splits_for(if answers.len() == 7 { 3 } else { hits.len() + 2 * laps.len() }, &drawn);
+        let found = candidates(&source, of, &hits, &laps, &splits, t);
+        same(&found, &raw::candidates(&source, of, &hits, &laps, &splits, t, NEED));
+        if let Ok(candidates) = found {
+            let inside = answers.iter().copied().cycle();
+            let inside = inside.take(if exact { candidates.len() } else { answers.len() }).collect();
+            let (one, counts) = (Answered { candidates, inside }, [source.vertex_count(); 2]);
+            let answered = [&one, &one];
+            same(&prune(mode, opposing, counts, answered, &laps), &raw::prune(mode, opposing, counts, answered, &laps, NEED));
         }
-        let vertices: usize = slices.iter().map(|s| s.view.end_index_offset.min(1024) + 1).sum::<usize>() + 1;
-        let mut room = Room::new(vertices, slices.len());
-        let s = slices.starts;
-        let raw = unsafe {
-            raw::mask_stitch(o1.as_ptr(), o1.len(), pline1.vertex_count(), pline1.edition(), o2.as_ptr(), o2.len(), pline2.vertex_count(), pline2.edition(),
-                slice_at.as_ptr(), slice_at.len(), slice.as_ptr(), slice.len(), editions.as_ptr(), editions.len(), slices.len(), s.pline2,
-                s.pline1_overlapping, s.pline2_overlapping, u32::from(not_xor), count.as_ptr(), 1, list.as_ptr(), 48, edition,
-                room.room.as_mut_ptr(), room.room.len(), room.ends.as_mut_ptr(), room.ends.len(), room.chain.as_mut_ptr(), room.chain.len(),
-                room.chain_ends.as_mut_ptr(), room.chain_ends.len(), room.chain_how.as_mut_ptr(), room.chain_how.len())
-        };
-        prop_assert_eq!(number_of(&typed), raw.refusal);
-        if let Ok(stitched) = typed {
-            prop_assert_eq!(stitched.rounds(), slices.len());
-            room.same(&stitched, raw.rounds, raw.loops, raw.chains);
-        }
-        for version in [RecordVersion::One, RecordVersion::Two] {
-            let written = Record::write(version, &pline1, &pline2, &slices, selector, entered.tolerance);
-            number_of(&written);
+    });
+}
+
+#[test]
+fn straight_slices_in_one_call() {
+    let outlines = (whole_outline(), whole_outline());
+    let lists = (whole_intersections(), whole_overlaps());
+    for_drawn((outlines, lists, tolerance(), mode(), any::<bool>(), spare()), |((pline1, pline2), (hits, laps), t, mode, opposing, spare)| {
+        let both = [&pline1, &pline2];
+        same(&straight_slices(mode, opposing, both, &hits, &laps, t), &raw::straight_slices(mode, opposing, both, &hits, &laps, t, NEED));
+        let need = lent::straight_slices_needed(&hits, &laps);
+        let (typed, rooms) = with_slice_room(need, spare, |room| lent::straight_slices(mode, opposing, both, &hits, &laps, t, room));
+        same_lent(&typed, rooms, &raw::straight_slices(mode, opposing, both, &hits, &laps, t, spare));
+    });
+}
+
+#[test]
+fn stitches() {
+    for_drawn((outline(), outline(), slices(), selector(), setting(), 0usize..30), |(pline1, pline2, slices, selector, entered, asked)| {
+        let settings = record_of(entered);
+        let setting = settings.named(if asked == 0 { 2 } else { 1 });
+        same(&stitch(&pline1, &pline2, &slices, selector, setting), &raw::stitch([&pline1, &pline2], &slices, selector, setting, NEED));
+    });
+}
+
+#[test]
+fn records_of_stitches() {
+    for_drawn((outline(), outline(), recorded_slices(), selector(), tolerance()), |(pline1, pline2, slices, selector, t)| {
+        let handed = Written::of([&pline1, &pline2], &slices, selector, t);
+        for version in RecordVersion::ALL {
+            let written = Record::write(version, &pline1, &pline2, &slices, selector, t);
+            same(&written, &raw::record_write(version.number(), &handed, NEED));
             if let Ok(record) = written {
-                number_of(&record.replay());
+                replayed_as_raw(&record);
             }
         }
-    }
+    });
+}
 
-    #[test]
-    fn replays(bytes in vec(any::<u8>(), 0..400), version in 1u8..4, marked in any::<bool>(), vc in 0u8..5, slices in 0u8..4) {
+/// Any record, replayed and taken apart and written again.
+fn replayed_as_raw(record: &Record) {
+    let raw = raw::record_replay(record.bytes(), NEED);
+    same(&record.replay(), &raw);
+    let contents = record.contents();
+    assert_eq!(contents.as_ref().err().map_or(0, |refusal| refusal.number()), if (11..14).contains(&raw.refusal) { raw.refusal } else { 0 });
+    if let Ok(contents) = contents {
+        let handed = Written::of_contents(&contents);
+        for version in RecordVersion::ALL {
+            let written = contents.write(version);
+            same(&written, &raw::record_write(version.number(), &handed, NEED));
+            assert!(!raw.accepted() || version != contents.version || written.as_ref() == Ok(record));
+        }
+    }
+}
+
+#[test]
+fn replays_of_any_bytes() {
+    let (vc, slices) = (prop_oneof![4 => 2u8..5, 1 => 0u8..2], prop_oneof![2 => Just(0u8), 1 => 1u8..4]);
+    for_drawn((vec(any::<u8>(), 0..400), 1u8..4, 0u8..9, vc, slices), |(bytes, version, whole, vc, slices)| {
         let mut bytes = bytes;
-        if marked && bytes.len() >= 60 {
+        if whole > 0 && bytes.len() >= 60 {
             bytes[..10].copy_from_slice(&[b'P', b'B', b'R', version, 0, vc, 0, vc, 0, version & 1]);
             let (head, width) = if version == 1 { (26, 54) } else { (42, 58) };
             bytes[head - 8..head].copy_from_slice(&[0, 0, 0, 0, 0, 0, slices, 0]);
             bytes.resize(head + 24 * 2 * usize::from(vc) + width * usize::from(slices), 0);
         }
-        let record = Record::from_bytes(bytes.clone());
-        let typed = record.replay();
-        let mut room = Room::new(1821, 28);
-        let raw = unsafe {
-            raw::mask_record_replay(bytes.as_ptr(), bytes.len(), room.room.as_mut_ptr(), room.room.len(), room.ends.as_mut_ptr(), 28,
-                room.chain.as_mut_ptr(), 28, room.chain_ends.as_mut_ptr(), 28, room.chain_how.as_mut_ptr(), 28)
-        };
-        prop_assert_eq!(number_of(&typed), raw.refusal);
-        if let Ok(replay) = typed {
-            prop_assert_eq!(replay.slices, raw.slices);
-            room.same(&replay.stitched, raw.rounds, raw.loops, raw.chains);
+        if whole > 4 {
+            // Numbers in range: the tolerance, then all others.
+            bytes.iter_mut().skip(10).for_each(|byte| *byte &= 0x3f);
         }
-        number_of(&record.contents());
-    }
+        replayed_as_raw(&Record::from_bytes(bytes));
+    });
+}
 
-    #[test]
-    fn settings_and_areas(entries in vec(setting(), 0..20), areas in vec(number(), 0..20), asked in 0usize..20) {
-        let mut settings = Settings::new();
-        let mut plain: Vec<Setting> = Vec::new();
-        for entry in entries {
-            let answer = settings.enter(entry);
-            number_of(&answer);
-            if let Ok(edition) = answer {
-                plain.push(entry);
-                prop_assert_eq!(edition, plain.len());
+#[test]
+fn settings_and_areas() {
+    let any_content = vec(any::<u8>(), Settings::BYTES);
+    let calls = vec((setting(), 0usize..20, vec(area(), 0..20)), 0..24);
+    for_drawn((prop_oneof![4 => Just(None), 1 => any_content.prop_map(Some)], calls, 0u8..40), |(content, calls, many)| {
+        let kept: Option<[u8; Settings::BYTES]> = content.map(|bytes| bytes.try_into().unwrap());
+        let mut settings = kept.map_or_else(Settings::new, |bytes| Settings::from_bytes(&bytes));
+        for (entry, asked, mut areas) in calls {
+            let (raw, behind) = raw::settings_enter(&settings, entry);
+            same(&settings.enter(entry), &raw);
+            let (entered, numbers) = raw::settings(&settings);
+            assert_eq!(words![entered, numbers], behind, "the record behind the call");
+            same(&settings.ask(asked), &raw::settings_ask(&settings, asked));
+            if many == 0 {
+                areas.resize(1790 + asked % 6, 1.0);
+            }
+            let setting = settings.named(asked);
+            same(&area_pass(&areas, setting), &raw::area_pass(&areas, setting, NEED));
+        }
+    });
+}
+
+/// A store of any content: marks of few handles or all, codes that are codes, any bits beside them.
+fn store_of(seed: u64, all_live: bool) -> Store {
+    let mut bytes = Store::new().to_bytes();
+    let mut drawn = seed;
+    for (place, word) in bytes.chunks_exact_mut(8).enumerate() {
+        drawn = drawn.wrapping_mul(0x5851_f42d_4c95_7f2d).wrapping_add(0x1405_7b7e_f767_814f);
+        let number = match (place, place % 4) {
+            (0..=1791, _) if all_live => place as u64 % 896 + 1,
+            (0..=1791, _) => drawn >> 55,
+            (1792..=8959, 0) => 1 + (drawn >> 63), // a source
+            (1792..=8959, 1) => drawn >> 63,       // a direction
+            _ => drawn,
+        };
+        word.copy_from_slice(&number.to_le_bytes());
+    }
+    Store::from_bytes(&bytes).unwrap()
+}
+
+/// Bytes that no store wrote can hold codes that are none. The types have no such code, so they read
+/// as outline 2 and as inverted; the list itself has them still, and a stitch refuses them.
+#[test]
+fn codes_that_are_none() {
+    let mut bytes = Store::new().to_bytes();
+    bytes[0] = 1; // party 0's handle 0, at place 0
+    bytes[8 * 1792] = 7;
+    let listed = Store::from_bytes(&bytes).unwrap().list(First).unwrap();
+    assert_eq!(listed.iter().map(|kept| kept.slice.source).collect::<Vec<Source>>(), [Source::Pline2]);
+    let square = Outline::straight(&[(0.0, 0.0), (4.0, 0.0), (4.0, 4.0), (0.0, 4.0)]);
+    let settings = record_of(Setting { tolerance: Tolerance::new(0.5), area_limit: 0.0 });
+    let stitched = stitch(&square, &square, &listed.into_slices(Starts::default()), Selector::OrAnd, settings.named(1));
+    assert_eq!(stitched, Err(Refusal::Code));
+}
+
+/// One call of a party, on the typed store and on the raw one.
+fn call_store<P: Party>(party: P, code: u32, store: &mut Store, raw: &mut RawStore, (what, slice, handle): (u8, Slice, usize)) {
+    match what {
+        0..=3 => same(&store.put(party, slice), &raw.put(code, slice)),
+        4..=6 => same(&store.release(Handle::of_number(party, handle)), &raw.release(code, handle)),
+        7 => same(&store.list(party), &raw.list(code)),
+        _ => same(&store.compact(party), &raw.compact(code)),
+    }
+    assert_eq!(RawStore::of(store).words(), raw.words(), "the store behind the call");
+}
+
+#[test]
+fn histories_of_a_store() {
+    let slice = (source(), view()).prop_map(|(source, view)| Slice { source, view });
+    let calls = vec((any::<bool>(), (0u8..9, slice, prop_oneof![9 => 0usize..12, 1 => any::<usize>()])), 0..16);
+    for_drawn((prop_oneof![2 => Just(None), 1 => any::<u64>().prop_map(Some)], calls), |(content, calls)| {
+        let mut store = content.map_or_else(Store::new, |seed| store_of(seed, seed % 4 == 0));
+        let mut raw = RawStore::of(&store);
+        for (first, call) in calls {
+            if first {
+                call_store(First, 0, &mut store, &mut raw, call);
+            } else {
+                call_store(Second, 1, &mut store, &mut raw, call);
             }
         }
-        prop_assert_eq!(settings.len(), plain.len());
-        let answer = settings.ask(asked);
-        prop_assert_eq!(number_of(&answer), if asked == 0 || asked > plain.len() { 16 } else { 0 });
-        let typed = area_pass(&areas, settings.named(asked));
-        let mut list = [0.0; 48];
-        for (i, s) in plain.iter().enumerate() {
-            list[3 * i..3 * i + 3].copy_from_slice(&[s.tolerance.x, s.tolerance.y, s.area_limit]);
-        }
-        let mut kept = vec![7usize; areas.len()];
-        let raw = unsafe {
-            raw::mask_area_pass(areas.as_ptr(), areas.len(), areas.len(), [plain.len()].as_ptr(), 1, list.as_ptr(), 48, asked, kept.as_mut_ptr(), kept.len())
-        };
-        prop_assert_eq!(number_of(&typed), raw.refusal);
-        if let Ok(typed) = typed {
-            prop_assert_eq!(&typed[..], &kept[..raw.count]);
-        }
-    }
-
-    #[test]
-    fn store_as_a_plain_list(calls in vec((0u8..4, source(), view(), 0usize..20), 0..60)) {
-        let mut store = Store::new();
-        let mut plain: Vec<(Handle<First>, Slice)> = Vec::new();
-        for (what, source, view, at) in calls {
-            match what {
-                0 | 1 => {
-                    let slice = Slice { source, view };
-                    let answer = store.put(First, slice);
-                    number_of(&answer);
-                    if let Ok(handle) = answer {
-                        plain.push((handle, slice));
-                    }
-                }
-                2 if !plain.is_empty() => {
-                    let (handle, _) = plain.remove(at % plain.len());
-                    prop_assert_eq!(store.release(handle), Ok(()));
-                    prop_assert!(store.release(handle).is_err());
-                }
-                _ => prop_assert_eq!(store.compact(First), Ok(())),
-            }
-        }
+        // What is listed goes on as slices, and has the editions that it lists.
         let listed = store.list(First).unwrap();
-        prop_assert_eq!(listed.len(), plain.len());
-        for (kept, (handle, slice)) in listed.iter().zip(&plain) {
-            prop_assert_eq!(kept.handle, *handle);
-            prop_assert_eq!(kept.slice, *slice);
-        }
-        prop_assert!(store.list(Second).unwrap().is_empty());
-    }
+        let editions: Vec<u32> = listed.iter().map(|kept| kept.slice.view.edition).collect();
+        assert_eq!(listed.editions(), editions);
+        let (lists, slices) = (listed.lists(), listed.into_slices(Starts::default()));
+        assert_eq!(slices.lists(), lists[1..]);
+    });
+}
 
-    #[test]
-    fn whole_outlines(vertices in vec((-500_000_000i64..500_000_000, -3i64..4), 0..20), x in -9i64..9, y in -9i64..9) {
-        let whole = WholeOutline::new(&vertices);
-        let flat: Vec<i64> = vertices.iter().flat_map(|&(x, y)| [x, y]).collect();
-        let typed = whole.winding(x, y);
-        let raw = unsafe { raw::mask_straight_winding(flat.as_ptr(), flat.len(), vertices.len(), x, y) };
-        prop_assert_eq!(number_of(&typed), raw.refusal);
-        if let Ok(winding) = typed {
-            prop_assert_eq!(winding, raw.winding);
+#[test]
+fn whole_outlines() {
+    let x = prop_oneof![12 => -400_000_000i64..400_000_001, 40 => -6i64..7, 1 => any::<i64>()];
+    let one = prop_oneof![30 => vec((x, -6i64..7), 2..20), 1 => vec((-6i64..7, -6i64..7), 0..2), 1 => vec((-6i64..7, -6i64..7), 1022..1027)];
+    let many = prop_oneof![30 => 1usize..5, 1 => 4095usize..4098];
+    for_drawn((vec(one, 0..4), -14i64..15, prop_oneof![20 => -14i64..15, 1 => any::<i64>()], many), |(outlines, x, y, many)| {
+        let whole: Vec<WholeOutline> = outlines.iter().map(|vertices| WholeOutline::new(vertices)).collect();
+        for one in &whole {
+            let winding = one.winding(x, y);
+            same(&winding, &raw::straight_winding(one, x, y));
+            assert_eq!(one.is_inside(x, y), winding.map(|turns| turns != 0));
+            same(&one.doubled_area(), &raw::straight_area(one));
         }
-        let typed = whole.doubled_area();
-        let raw = unsafe { raw::mask_straight_area(flat.as_ptr(), flat.len(), vertices.len()) };
-        prop_assert_eq!(number_of(&typed), raw.refusal);
-        if let Ok(area) = typed {
-            let size = (u128::from(raw.high) << 64 | u128::from(raw.low)) as i128;
-            prop_assert_eq!(area, if raw.negative == 1 { -size } else { size });
-        }
-        number_of(&straight_report(&[whole.clone(), whole]));
-    }
+        let report: Vec<WholeOutline> = if many > 4 { vec![WholeOutline::new(&[(0, 0), (x, y)]); many] } else { whole };
+        same(&straight_report(&report), &raw::straight_report(&report));
+    });
+}
 
-    #[test]
-    fn two_masks(pline1 in outline(), pline2 in outline(), hits in intersections(), laps in overlaps(), mode in 0usize..4, entered in setting()) {
-        let mut settings = Settings::new();
-        let edition = settings.enter(entered).unwrap_or(1);
-        let masks = Masks { pline1: &pline1, pline2: &pline2, intersections: &hits, overlaps: &laps, setting: settings.named(edition) };
-        number_of(&masks.combine(Mode::ALL[mode], &mut StraightHost));
-    }
+/// The calls that a host lends room for: the answer and all that the room holds behind the call.
+#[test]
+fn lent_room() {
+    let lists = (intersections(), overlaps(), drawn_splits(), slices(), vec(area(), 0..20));
+    let how = (source(), tolerance(), mode(), selector(), setting());
+    for_drawn((outline(), view(), lists, how, spare()), |(source, view, lists, how, spare)| {
+        let ((hits, laps, drawn, slices, areas), (of, t, mode, selector, entered)) = (lists, how);
+
+        let mut vertices: Vec<f64> = room(3 * (view.end_index_offset.min(1024) + 2), spare[0]);
+        let typed = lent::view_vertices(&view, &source, &mut vertices);
+        same_lent(&typed, vec![words![vertices]], &raw::view_vertices(&view, &source, spare));
+
+        let cuts = lent::cuts_needed(&hits, &laps);
+        let (mut cut_at, mut cut) = (room(3 * cuts, spare[0]), room(2 * cuts, spare[1]));
+        let typed = lent::cut_order(&source, of, &hits, &laps, t, &mut cut_at, &mut cut);
+        same_lent(&typed, vec![words![cut_at], words![cut]], &raw::cut_order(&source, of, &hits, &laps, t, spare));
+
+        let splits = splits_for(cuts, &drawn);
+        let (mut at, mut cand) = (room(2 * cuts, spare[0]), room(6 * cuts, spare[1]));
+        let (mut probe, mut edition) = (room(6 * cuts, spare[2]), room(cuts, spare[3]));
+        let lent_room = CandidateRoom { cand_at: &mut at, cand: &mut cand, probe: &mut probe, cand_edition: &mut edition };
+        let typed = lent::candidates(&source, of, &hits, &laps, &splits, t, lent_room);
+        let rooms = vec![words![at], words![cand], words![probe], words![edition]];
+        same_lent(&typed, rooms, &raw::candidates(&source, of, &hits, &laps, &splits, t, spare));
+
+        let opposing = cuts % 2 == 1;
+        let candidates = candidates(&source, of, &hits, &laps, &splits, t).unwrap_or_default();
+        let answered = Answered { inside: candidates.iter().map(|c| c.view.start_index % 2 == 0).collect(), candidates };
+        let codes: Vec<u8> = answered.inside.iter().map(|&yes| yes.into()).collect();
+        let (counts, both) = ([source.vertex_count(); 2], [(&answered.candidates, &codes[..]); 2]);
+        let need = lent::slices_needed([&answered.candidates; 2], &laps);
+        let (typed, rooms) = with_slice_room(need, spare, |room| lent::prune(mode, opposing, counts, both, &laps, room));
+        same_lent(&typed, rooms, &raw::prune(mode, opposing, counts, [&answered; 2], &laps, spare));
+
+        let settings = record_of(entered);
+        let setting = settings.named(1);
+        // Beyond the most offset the call is refused, whatever the room.
+        let need = lent::vertices_needed(&slices).min(raw::vertices_needed(&slices));
+        let mut lists = StitchLists::new(need, slices.len(), spare);
+        let typed = lent::stitch(&source, &source, &slices, selector, setting, stitch_room(&mut lists));
+        same_lent(&typed, lists.words(), &raw::stitch([&source; 2], &slices, selector, setting, spare));
+
+        let mut kept: Vec<usize> = room(areas.len(), spare[0]);
+        let typed = lent::area_pass(&areas, setting, &mut kept);
+        same_lent(&typed, vec![words![kept]], &raw::area_pass(&areas, setting, spare));
+    });
+}
+
+/// A call with room for so many slices, and what the room holds behind it.
+fn with_slice_room<T>(need: usize, spare: Spare, call: impl FnOnce(SliceRoom<'_>) -> T) -> (T, Vec<Vec<u64>>) {
+    let (mut at, mut slice, mut edition) = (room(4 * need, spare[0]), room(6 * need, spare[1]), room(need, spare[2]));
+    let typed = call(SliceRoom { slice_at: &mut at, slice: &mut slice, slice_edition: &mut edition });
+    (typed, vec![words![at], words![slice], words![edition]])
+}
+
+fn stitch_room(lists: &mut StitchLists) -> StitchRoom<'_> {
+    let [ends, chain, chain_ends, chain_how] = &mut lists.of_slices;
+    StitchRoom { room: &mut lists.room, ends, chain, chain_ends, chain_how }
+}
+
+#[test]
+fn lent_room_for_records() {
+    for_drawn((outline(), outline(), recorded_slices(), selector(), tolerance(), spare()), |(pline1, pline2, slices, selector, t, spare)| {
+        let handed = Written::of([&pline1, &pline2], &slices, selector, t);
+        let counts = [pline1.vertex_count(), pline2.vertex_count()];
+        for version in RecordVersion::ALL {
+            let need = lent::record_bytes_needed(version, counts, slices.len());
+            let mut bytes: Vec<u8> = room(need, spare[0]);
+            let typed = lent::record_write(version, &pline1, &pline2, &slices, selector, t, &mut bytes);
+            same_lent(&typed, vec![words![bytes]], &raw::record_write(version.number(), &handed, spare));
+            let mut lists = StitchLists::new(Record::MOST_ROOM, Record::MOST_SLICES, spare);
+            let typed = lent::record_replay(&bytes, stitch_room(&mut lists));
+            same_lent(&typed, lists.words(), &raw::record_replay(&bytes, spare));
+        }
+    });
+}
+
+/// All steps from where two masks meet to the loops: each step as the raw entry, and `combine` as the
+/// steps in turn.
+#[test]
+fn two_masks() {
+    let straight = (whole_outline(), whole_outline(), whole_intersections(), whole_overlaps());
+    let arcs = (outline(), outline(), intersections(), overlaps());
+    let input = (prop_oneof![straight.boxed(), arcs.boxed()], mode(), setting(), 0usize..40);
+    for_drawn(input, |((pline1, pline2, hits, laps), mode, entered, known)| {
+        let settings = record_of(entered);
+        let setting = settings.named(if known == 0 { 0 } else { 1 });
+        let masks = Masks { pline1: &pline1, pline2: &pline2, intersections: &hits, overlaps: &laps, setting };
+        let combined = masks.combine(mode, &mut StraightHost);
+        assert_eq!(combined, step_by_step(&masks, mode));
+    });
+}
+
+fn step_by_step(masks: &Masks<'_>, mode: Mode) -> Result<Combined, Refusal> {
+    let (setting, both, laps) = (masks.setting, [masks.pline1, masks.pline2], masks.overlaps);
+    let asked = setting.ask();
+    same(&asked, &raw::settings_ask(setting.settings, setting.edition));
+    let (t, hits) = (asked?.tolerance, masks.intersections);
+    let opposing = || StraightHost.opposing_directions(masks.pline1, masks.pline2);
+    let slices = if masks.is_straight_and_whole() {
+        let slices = straight_slices(mode, opposing(), both, hits, laps, t);
+        same(&slices, &raw::straight_slices(mode, opposing(), both, hits, laps, t, NEED));
+        slices?
+    } else {
+        let one = answered(masks, Source::Pline1, t)?;
+        let two = answered(masks, Source::Pline2, t)?;
+        let (counts, answered) = (both.map(Outline::vertex_count), [&one, &two]);
+        let slices = prune(mode, opposing(), counts, answered, laps);
+        same(&slices, &raw::prune(mode, opposing(), counts, answered, laps, NEED));
+        slices?
+    };
+    let stitched = stitch(masks.pline1, masks.pline2, &slices, mode.selector(), setting);
+    same(&stitched, &raw::stitch(both, &slices, mode.selector(), setting, NEED));
+    let stitched = stitched?;
+    let areas: Vec<f64> = stitched.loops().map(|vertices| StraightHost.area(vertices)).collect();
+    let kept = area_pass(&areas, setting);
+    same(&kept, &raw::area_pass(&areas, setting, NEED));
+    Ok(Combined { slices, stitched, kept: kept? })
+}
+
+fn answered(masks: &Masks<'_>, of: Source, t: Tolerance) -> Result<Answered, Refusal> {
+    let (outline, other) = match of {
+        Source::Pline1 => (masks.pline1, masks.pline2),
+        Source::Pline2 => (masks.pline2, masks.pline1),
+    };
+    let (hits, laps) = (masks.intersections, masks.overlaps);
+    let cuts = cut_order(outline, of, hits, laps, t);
+    same(&cuts, &raw::cut_order(outline, of, hits, laps, t, NEED));
+    let splits = split_cuts(outline, &cuts?, &mut StraightHost)?;
+    let found = candidates(outline, of, hits, laps, &splits, t);
+    same(&found, &raw::candidates(outline, of, hits, laps, &splits, t, NEED));
+    let candidates = found?;
+    let inside = candidates.probes().map(|probe| StraightHost.inside(of.other(), other, probe)).collect();
+    Ok(Answered { candidates, inside })
 }
