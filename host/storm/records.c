@@ -88,30 +88,14 @@ static uint32_t content_refusal(const stitching *s, bool differ_is_bad)
         return 1;
     if (s->vc1 < 2 || s->vc1 > 64 || s->vc2 < 2 || s->vc2 > 64)
         return 2;
-    if (s->selector > 1)
+    if (unknown_code(s))
         return 3;
-    for (size_t i = 0; i < s->slices; i++)
-        if ((U(SLICE_AT)[4 * i] != 1 && U(SLICE_AT)[4 * i] != 2) || U(SLICE_AT)[4 * i + 1] > 1)
-            return 3;
     if (!good_tolerance(s->t.x) || !good_tolerance(s->t.y) || (differ_is_bad && s->t.x != s->t.y))
         return 4;
     if (!all_in_range(F(OUTLINE1), 3 * s->vc1) || !all_in_range(F(OUTLINE2), 3 * s->vc2) ||
         !all_in_range(F(SLICE), 6 * s->slices))
         return 5;
-    for (int number = 6; number <= 7; number++)
-        for (size_t i = 0; i < s->slices; i++) {
-            const size_t *at = U(SLICE_AT) + 4 * i;
-            size_t vc = at[0] == 1 ? s->vc1 : s->vc2;
-            if (number == 6 ? at[2] >= vc : at[3] > vc)
-                return (uint32_t)number;
-        }
-    if (s->pline2 > s->pline1_overlapping || s->pline1_overlapping > s->pline2_overlapping ||
-        s->pline2_overlapping > s->slices)
-        return 8;
-    for (size_t i = 0; i < s->slices; i++)
-        if (E(SLICE_EDITION)[i] != (U(SLICE_AT)[4 * i] == 1 ? s->edition1 : s->edition2))
-            return 14;
-    return 0;
+    return late_refusal(s);
 }
 
 /* ---- Writing: 12, then those, then 9 ---- */

@@ -242,28 +242,18 @@ void demand_three(const stitching *s, uint64_t rounds, uint64_t loops, uint64_t 
 
 /* ---- Refusals 1 2 3 16 4 5 6 7 8 14 9 ---- */
 
-static uint32_t stitch_refusal(const stitching *s, size_t setting)
+bool unknown_code(const stitching *s)
 {
-    size_t known = U(ENTERED)[0] > 16 ? 16 : U(ENTERED)[0];
-    if (!long_as(LEN(OUTLINE1), 3, s->vc1) || !long_as(LEN(OUTLINE2), 3, s->vc2) ||
-        s->slices > 1792 || !long_as(LEN(SLICE_AT), 4, s->slices) ||
-        !long_as(LEN(SLICE), 6, s->slices) || LEN(SLICE_EDITION) != s->slices ||
-        LEN(ENTERED) != 1 || LEN(SETTINGS) != 48)
-        return 1;
-    if (s->vc1 < 2 || s->vc1 > 1024 || s->vc2 < 2 || s->vc2 > 1024)
-        return 2;
     if (s->selector > 1)
-        return 3;
+        return true;
     for (size_t i = 0; i < s->slices; i++)
         if ((U(SLICE_AT)[4 * i] != 1 && U(SLICE_AT)[4 * i] != 2) || U(SLICE_AT)[4 * i + 1] > 1)
-            return 3;
-    if (setting == 0 || setting > known)
-        return 16;
-    if (!good_tolerance(F(SETTINGS)[3 * setting - 3]) || !good_tolerance(F(SETTINGS)[3 * setting - 2]))
-        return 4;
-    if (!all_in_range(F(OUTLINE1), LEN(OUTLINE1)) || !all_in_range(F(OUTLINE2), LEN(OUTLINE2)) ||
-        !all_in_range(F(SLICE), LEN(SLICE)))
-        return 5;
+            return true;
+    return false;
+}
+
+uint32_t late_refusal(const stitching *s)
+{
     for (int number = 6; number <= 7; number++)
         for (size_t i = 0; i < s->slices; i++) {
             const size_t *at = U(SLICE_AT) + 4 * i;
@@ -277,6 +267,31 @@ static uint32_t stitch_refusal(const stitching *s, size_t setting)
     for (size_t i = 0; i < s->slices; i++)
         if (E(SLICE_EDITION)[i] != (U(SLICE_AT)[4 * i] == 1 ? s->edition1 : s->edition2))
             return 14;
+    return 0;
+}
+
+static uint32_t stitch_refusal(const stitching *s, size_t setting)
+{
+    size_t known = U(ENTERED)[0] > 16 ? 16 : U(ENTERED)[0];
+    if (!long_as(LEN(OUTLINE1), 3, s->vc1) || !long_as(LEN(OUTLINE2), 3, s->vc2) ||
+        s->slices > 1792 || !long_as(LEN(SLICE_AT), 4, s->slices) ||
+        !long_as(LEN(SLICE), 6, s->slices) || LEN(SLICE_EDITION) != s->slices ||
+        LEN(ENTERED) != 1 || LEN(SETTINGS) != 48)
+        return 1;
+    if (s->vc1 < 2 || s->vc1 > 1024 || s->vc2 < 2 || s->vc2 > 1024)
+        return 2;
+    if (unknown_code(s))
+        return 3;
+    if (setting == 0 || setting > known)
+        return 16;
+    if (!good_tolerance(F(SETTINGS)[3 * setting - 3]) || !good_tolerance(F(SETTINGS)[3 * setting - 2]))
+        return 4;
+    if (!all_in_range(F(OUTLINE1), LEN(OUTLINE1)) || !all_in_range(F(OUTLINE2), LEN(OUTLINE2)) ||
+        !all_in_range(F(SLICE), LEN(SLICE)))
+        return 5;
+    uint32_t late = late_refusal(s);
+    if (late != 0)
+        return late;
     if (LEN(ROOM) < 3 * stitch_need(s) || LEN(ENDS) < s->slices || LEN(CHAIN) < s->slices ||
         LEN(CHAIN_ENDS) < s->slices || LEN(CHAIN_HOW) < s->slices)
         return 9;

@@ -168,6 +168,8 @@ typedef struct side {
 } side;
 pruned prune_into(uint32_t mode, uint32_t opposing, side one, side two, size_t laps,
                   size_t *slice_at, double *slice, uint32_t *slice_edition);
+void say_pruned(mask_prune_answer a);
+void expect_pruned(pruned p, size_t need); /* also the zeros behind the slices, up to the need */
 
 /* stitches.c: also used by records.c */
 typedef struct stitching {
@@ -181,6 +183,8 @@ typedef struct stitched {
 void draw_stitch(stitching *s, size_t most_vertices, size_t most_slices);
 size_t stitch_need(const stitching *s);
 void stitch_rooms(const stitching *s);
+bool unknown_code(const stitching *s);     /* 3 */
+uint32_t late_refusal(const stitching *s); /* 6 7 8 14, or none */
 stitched stitch_into(const stitching *s); /* writes what is wanted */
 void demand_three(const stitching *s, uint64_t rounds, uint64_t loops, uint64_t chains);
 

@@ -349,11 +349,7 @@ void storm_straight_slices(void)
         c.mode, c.opposing, READ(OUTLINE1), c.vc1, c.edition1, READ(OUTLINE2), c.vc2, c.edition2,
         READ(HIT_AT), READ(HIT), c.hits, READ(LAP_AT), READ(LAP), READ(LAP_EDITION), c.laps, c.t.x,
         c.t.y, WRITE(SLICE_AT), WRITE(SLICE), WRITE(SLICE_EDITION));
-    say(a.refusal);
-    say(a.slices);
-    say(a.starts.pline2);
-    say(a.starts.pline1_overlapping);
-    say(a.starts.pline2_overlapping);
+    say_pruned(a);
     uint32_t refusal = at_once_refusal(&c);
     expect(refusal);
     if (refusal == 0) {
@@ -364,13 +360,7 @@ void storm_straight_slices(void)
                               (side){one.at, one.numbers, one.editions, one.inside, one.count},
                               (side){two.at, two.numbers, two.editions, two.inside, two.count},
                               c.laps, WANT_U(SLICE_AT), WANT_F(SLICE), WANT_E(SLICE_EDITION));
-        zero_want(SLICE_AT, 4 * p.slices, 4 * need);
-        zero_want(SLICE, 6 * p.slices, 6 * need);
-        zero_want(SLICE_EDITION, p.slices, need);
-        expect(p.slices);
-        expect(p.pline2);
-        expect(p.pline1_overlapping);
-        expect(p.pline2_overlapping);
+        expect_pruned(p, need);
     } else {
         expect_zeros(4);
     }

@@ -555,6 +555,20 @@ static void expect_verdict(mask_verdict_answer v)
     expect_number(v.expected);
 }
 
+/* The fields that both answers have. */
+#define SAY_VERDICT(a) \
+    do { \
+        say((a).refusal); \
+        say((a).verdict); \
+        say((a).offset); \
+        say((a).source_length); \
+        say_number((a).point.x); \
+        say_number((a).point.y); \
+        say_vertex((a).vertex); \
+        say_number((a).updated_bulge); \
+        say_number((a).expected); \
+    } while (0)
+
 void storm_validate(void)
 {
     asked q;
@@ -563,15 +577,7 @@ void storm_validate(void)
     spoil();
     mask_verdict_answer a = mask_validate_for_source(READ(OUTLINE1), q.vc, q.edition, q.view,
                                                      q.view_edition, q.start_on, q.end_on);
-    say(a.refusal);
-    say(a.verdict);
-    say(a.offset);
-    say(a.source_length);
-    say_number(a.point.x);
-    say_number(a.point.y);
-    say_vertex(a.vertex);
-    say_number(a.updated_bulge);
-    say_number(a.expected);
+    SAY_VERDICT(a);
     uint32_t refusal = asked_refusal(&q);
     if (refusal == 0 && q.edition != q.view_edition)
         refusal = 14;
@@ -591,15 +597,7 @@ void storm_reopen(void)
     spoil();
     mask_reopen_answer a = mask_reopen(READ(OUTLINE1), q.vc, q.edition, q.view, q.view_edition,
                                        q.start_on, q.end_on);
-    say(a.refusal);
-    say(a.verdict);
-    say(a.offset);
-    say(a.source_length);
-    say_number(a.point.x);
-    say_number(a.point.y);
-    say_vertex(a.vertex);
-    say_number(a.updated_bulge);
-    say_number(a.expected);
+    SAY_VERDICT(a);
     say(a.edition);
     uint32_t refusal = asked_refusal(&q);
     expect(refusal);
