@@ -73,6 +73,11 @@ pub fn outline() -> impl Strategy<Value = Outline> {
     (mostly(vec(vertex(true), LEAST..9), any), edition()).prop_map(|(vertices, edition)| Outline::new(vertices).with_edition(edition))
 }
 
+/// As long as a record takes, rarely.
+pub fn recorded_outline() -> impl Strategy<Value = Outline> {
+    prop_oneof![9 => outline().boxed(), 1 => vec(vertex(true), 62..66).prop_map(Outline::new).boxed()]
+}
+
 /// Straight, and in whole microdegrees mostly.
 pub fn whole_outline() -> impl Strategy<Value = Outline> {
     let one = |most: f64| (-6i32..7, -6i32..7).prop_map(move |(x, y)| Vertex::new(f64::from(x) * most, f64::from(y), -0.0));

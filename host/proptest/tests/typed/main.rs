@@ -19,7 +19,7 @@ use mask_tools::*;
 use proptest::collection::vec;
 use proptest::prelude::*;
 use raw::{room, RawStore, Spare, StitchLists, Written, NEED};
-use same::{for_drawn, same, same_lent, Told};
+use same::{for_drawn, same, same_lent, Raw, Told};
 use words::{words, Words};
 
 /// A host that answers what was drawn, one split after the other, and keeps what it gave.
@@ -174,7 +174,7 @@ fn stitches() {
 
 #[test]
 fn records_of_stitches() {
-    for_drawn((outline(), outline(), recorded_slices(), selector(), tolerance()), |(pline1, pline2, slices, selector, t)| {
+    for_drawn((recorded_outline(), recorded_outline(), recorded_slices(), selector(), tolerance()), |(pline1, pline2, slices, selector, t)| {
         let handed = Written::of([&pline1, &pline2], &slices, selector, t);
         for version in RecordVersion::ALL {
             let written = Record::write(version, &pline1, &pline2, &slices, selector, t);
@@ -376,6 +376,62 @@ fn lent_room() {
     });
 }
 
+/// Each call that writes lists, with the largest inputs: room is lent for the most too.
+#[test]
+fn the_largest_inputs() {
+    let vertex = |i: usize| Vertex::new(2.0 * i as f64, 2.0 * (i % 2) as f64, 0.0);
+    let outline_of = |vertices: usize| (0..vertices).map(vertex).collect::<Outline>();
+    let at = |i: usize| Point::new(2.0 * i as f64 + 1.0, 1.0);
+    let view = |start_index, end_index_offset| View {
+        start_index,
+        end_index_offset,
+        updated_start: vertex(start_index),
+        end_point: at(start_index),
+        ..View::default()
+    };
+    let (source, t) = (outline_of(1024), Tolerance::new(0.5));
+    let longest = view(1023, 1024);
+    accepted(longest.vertices(&source), &raw::view_vertices(&longest, &source, NEED));
+
+    let hits: Intersections = (0..512).map(|i| Intersection { start_index1: i, start_index2: i, point: at(i) }).collect();
+    let lap = |i| Overlap { start_indexes: (i, i), end_indexes: (i + 1, i + 1), view_data: view(i, 1), opposing_directions: false };
+    let (laps, both): (Overlaps, _) = ((0..128).map(|i| lap(600 + 2 * i)).collect(), [&source; 2]);
+    accepted(cut_order(&source, Source::Pline2, &hits, &laps, t), &raw::cut_order(&source, Source::Pline2, &hits, &laps, t, NEED));
+    let splits = splits_for(768, &[Split::default()]);
+    let found = candidates(&source, Source::Pline1, &hits, &laps, &splits, t);
+    let candidates = accepted(found, &raw::candidates(&source, Source::Pline1, &hits, &laps, &splits, t, NEED));
+    let most = Candidates::from_iter((0..768).map(|i| candidates.get(i % candidates.len()).unwrap()));
+    let answered = Answered { inside: vec![false; most.len()], candidates: most };
+    let (counts, mode) = ([1024; 2], Mode::Union);
+    accepted(prune(mode, false, counts, [&answered; 2], &laps), &raw::prune(mode, false, counts, [&answered; 2], &laps, NEED));
+    accepted(straight_slices(mode, false, both, &hits, &laps, t), &raw::straight_slices(mode, false, both, &hits, &laps, t, NEED));
+
+    let settings = record_of(Setting { tolerance: t, area_limit: 1.0 });
+    let slices_of = |count, offset| Slices {
+        list: (0..count).map(|i| Slice { source: Source::Pline1, view: view(i % 64, offset) }).collect(),
+        starts: Starts { pline2: count, pline1_overlapping: count, pline2_overlapping: count },
+    };
+    let (slices, selector, setting) = (slices_of(1792, 1024), Selector::OrAnd, settings.named(1));
+    accepted(stitch(&source, &source, &slices, selector, setting), &raw::stitch(both, &slices, selector, setting, NEED));
+    accepted(area_pass(&[2.0; 1792], setting), &raw::area_pass(&[2.0; 1792], setting, NEED));
+
+    let (small, few) = (outline_of(64), slices_of(28, 64));
+    let handed = Written::of([&small; 2], &few, selector, t);
+    for version in RecordVersion::ALL {
+        let written = Record::write(version, &small, &small, &few, selector, t);
+        let record = accepted(written, &raw::record_write(version.number(), &handed, NEED));
+        accepted(record.replay(), &raw::record_replay(record.bytes(), NEED));
+    }
+    let full = store_of(1, true);
+    accepted(full.list(Second), &RawStore::of(&full).list(1));
+}
+
+/// The same as the raw entry, and accepted.
+fn accepted<T: Told>(typed: Result<T, Refusal>, raw: &Raw) -> T {
+    same(&typed, raw);
+    typed.unwrap_or_else(|refusal| panic!("{}: {refusal}", raw.entry))
+}
+
 /// A call with room for so many slices, and what the room holds behind it.
 fn with_slice_room<T>(need: usize, spare: Spare, call: impl FnOnce(SliceRoom<'_>) -> T) -> (T, Vec<Vec<u64>>) {
     let (mut at, mut slice, mut edition) = (room(4 * need, spare[0]), room(6 * need, spare[1]), room(need, spare[2]));
@@ -390,19 +446,22 @@ fn stitch_room(lists: &mut StitchLists) -> StitchRoom<'_> {
 
 #[test]
 fn lent_room_for_records() {
-    for_drawn((outline(), outline(), recorded_slices(), selector(), tolerance(), spare()), |(pline1, pline2, slices, selector, t, spare)| {
-        let handed = Written::of([&pline1, &pline2], &slices, selector, t);
-        let counts = [pline1.vertex_count(), pline2.vertex_count()];
-        for version in RecordVersion::ALL {
-            let need = lent::record_bytes_needed(version, counts, slices.len());
-            let mut bytes: Vec<u8> = room(need, spare[0]);
-            let typed = lent::record_write(version, &pline1, &pline2, &slices, selector, t, &mut bytes);
-            same_lent(&typed, vec![words![bytes]], &raw::record_write(version.number(), &handed, spare));
-            let mut lists = StitchLists::new(Record::MOST_ROOM, Record::MOST_SLICES, spare);
-            let typed = lent::record_replay(&bytes, stitch_room(&mut lists));
-            same_lent(&typed, lists.words(), &raw::record_replay(&bytes, spare));
-        }
-    });
+    for_drawn(
+        (recorded_outline(), recorded_outline(), recorded_slices(), selector(), tolerance(), spare()),
+        |(pline1, pline2, slices, selector, t, spare)| {
+            let handed = Written::of([&pline1, &pline2], &slices, selector, t);
+            let counts = [pline1.vertex_count(), pline2.vertex_count()];
+            for version in RecordVersion::ALL {
+                let need = lent::record_bytes_needed(version, counts, slices.len());
+                let mut bytes: Vec<u8> = room(need, spare[0]);
+                let typed = lent::record_write(version, &pline1, &pline2, &slices, selector, t, &mut bytes);
+                same_lent(&typed, vec![words![bytes]], &raw::record_write(version.number(), &handed, spare));
+                let mut lists = StitchLists::new(Record::MOST_ROOM, Record::MOST_SLICES, spare);
+                let typed = lent::record_replay(&bytes, stitch_room(&mut lists));
+                same_lent(&typed, lists.words(), &raw::record_replay(&bytes, spare));
+            }
+        },
+    );
 }
 
 /// All steps from where two masks meet to the loops: each step as the raw entry, and `combine` as the
