@@ -121,6 +121,7 @@ extern "C" {
 #define MASK_STACK_UNMOVED 512
 #define MASK_STACK_CUT_ORDER 16384
 #define MASK_STACK_CANDIDATES 49152
+#define MASK_STACK_CANDIDATES_ALONG 49152
 #define MASK_STACK_PRUNE 512
 #define MASK_STACK_STITCH 65536
 #define MASK_STACK_AREA_PASS 512
@@ -410,7 +411,7 @@ mask_unmoved_answer mask_unmoved(const double *outline1, size_t outline1_len, si
 
 /*
  * The cuts of one outline. `source` says which it is, 1 or 2, and `outline` is that
- * one. Both entries below take the same lists of what the two outlines share:
+ * one. The entries below take the same lists of what the two outlines share:
  *   hit_at  2 to a basic intersection: its start index on outline 1, on outline 2
  *   hit     2 to a basic intersection: its point x, y
  *   lap_at  7 to a joined overlap: start index on outline 1, on 2, end index on 1,
@@ -463,6 +464,22 @@ mask_count_answer mask_candidates(const double *outline, size_t outline_len, siz
                                   double tolerance_y, size_t *cand_at, size_t cand_at_len,
                                   double *cand, size_t cand_len, double *probe, size_t probe_len,
                                   uint32_t *cand_edition, size_t cand_edition_len);
+
+/*
+ * The same, for a host that has asked for the order before it split. `cut_at` is the order as
+ * `mask_cut_order` wrote it, 3 numbers to a cut. It is a hint: one pass looks whether it is
+ * the order, and where it is not, or is of another length, the order is worked out as
+ * `mask_candidates` does. So for every `cut_at` the answer, the lists and the refusals are
+ * those of `mask_candidates`; with the right one it takes less time.
+ */
+mask_count_answer mask_candidates_along(
+    const double *outline, size_t outline_len, size_t vc, uint32_t edition, uint32_t source,
+    const size_t *hit_at, size_t hit_at_len, const double *hit, size_t hit_len, size_t hits,
+    const size_t *lap_at, size_t lap_at_len, const double *lap, size_t lap_len, size_t laps,
+    const size_t *cut_at, size_t cut_at_len, const double *splits, size_t splits_len,
+    double tolerance_x, double tolerance_y, size_t *cand_at, size_t cand_at_len, double *cand,
+    size_t cand_len, double *probe, size_t probe_len, uint32_t *cand_edition,
+    size_t cand_edition_len);
 
 /*
  * Slices are parts of the two outlines, which the stitch joins end to start:

@@ -161,13 +161,12 @@ fn candidates(families: &[Family]) {
             let mut rooms = [0; 3].map(|_| input.room(outline));
             let [alone, same, all] = &mut rooms;
             check_candidates(input, outline, alone);
+            shared.our_candidates_in_order(pair, outline, all);
+            check_candidates(input, outline, all);
             let times = measure(&mut [
                 &mut || shared.our_candidates(black_box(pair), outline, same),
                 &mut || done(shared.candidates(outline)),
-                &mut || {
-                    ours::cut_order(black_box(pair), outline, all);
-                    shared.our_candidates(pair, outline, all);
-                },
+                &mut || shared.our_candidates_in_order(black_box(pair), outline, all),
                 &mut || ours::candidates(black_box(pair), outline, alone),
             ]);
             let tell = |title, side| {
@@ -226,7 +225,7 @@ fn prune(families: &[Family]) {
                         let room = &mut whole[outline];
                         ours::cut_order(black_box(pair), outline, room);
                         shared.split_cuts(outline, room);
-                        ours::candidates(pair, outline, room);
+                        ours::candidates_along(pair, outline, room);
                         shared.answer_inside(outline, room);
                     }
                     done(ours::prune(pair, UNION, &whole, &mut to2));
@@ -601,6 +600,8 @@ fn repeat(stage: &str, input: &str, size: usize, calls: Option<usize>) {
     match stage {
         "order" => many(&mut || ours::cut_order(pair, outline, room)),
         "candidates" => many(&mut || ours::candidates(pair, outline, room)),
+        "along" => many(&mut || ours::candidates_along(pair, outline, room)),
+        "ordered-slicing" => many(&mut || shared.our_candidates_in_order(pair, outline, room)),
         "splits" => many(&mut || shared.split_cuts(outline, room)),
         "midpoints" => many(&mut || shared.use_midpoints(room)),
         "slicing" => many(&mut || shared.our_candidates(pair, outline, room)),

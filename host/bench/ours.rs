@@ -110,6 +110,32 @@ pub fn candidates(pair: &Pair, outline: usize, room: &mut CutRoom) {
     room.count = answer.count;
 }
 
+/// The same, with the order that is in the room.
+pub fn candidates_along(pair: &Pair, outline: usize, room: &mut CutRoom) {
+    let answer = archive::candidates_along(
+        &pair.outlines[outline],
+        pair.vertex_count(outline),
+        EDITIONS[outline],
+        outline as u32 + 1,
+        &pair.hit_at,
+        &pair.hit,
+        pair.hits(),
+        &pair.lap_at,
+        &pair.lap,
+        pair.laps(),
+        &room.cut_at,
+        &room.splits,
+        pair.tolerance,
+        pair.tolerance,
+        &mut room.cand_at,
+        &mut room.cand,
+        &mut room.probe,
+        &mut room.cand_edition,
+    );
+    assert_eq!(answer.refusal, 0);
+    room.count = answer.count;
+}
+
 /// Slices, and where their classes begin.
 #[derive(Default)]
 pub struct Slices {

@@ -2,7 +2,7 @@
 // the spatial index is a plain list, and as module `tree`, where it is a packed tree. `cavalier` is
 // the original, built with the one or the other.
 
-use super::ours::{CutRoom, EDITIONS, Pair, Slices, candidates};
+use super::ours::{CutRoom, EDITIONS, Pair, Slices, candidates, candidates_along, cut_order};
 use cavalier::core::math::Vector2;
 use cavalier::polyline::internal::pline_boolean::{
     NotXorStitchSelector, OrAndStitchSelector, ProcessForBooleanResult, PruneMode, SliceStarts,
@@ -209,6 +209,14 @@ impl Shared {
     pub fn our_candidates(&self, pair: &Pair, outline: usize, room: &mut CutRoom) {
         self.split_cuts(outline, room);
         candidates(pair, outline, room);
+        self.use_midpoints(room);
+    }
+
+    /// The same after the cut order, which is handed in: what a host does.
+    pub fn our_candidates_in_order(&self, pair: &Pair, outline: usize, room: &mut CutRoom) {
+        cut_order(pair, outline, room);
+        self.split_cuts(outline, room);
+        candidates_along(pair, outline, room);
         self.use_midpoints(room);
     }
 

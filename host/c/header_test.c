@@ -204,6 +204,14 @@ static void candidates(void)
                   .refusal;
 }
 
+static void candidates_along(void)
+{
+    refusal = mask_candidates_along(ALL(outline), VC, 0, 1, ALL(hit_at), ALL(hit), HITS, ALL(lap_at),
+                                    ALL(lap), LAPS, ALL(cut_at), ALL(splits), T, T, ALL(cand_at),
+                                    ALL(cand), ALL(probe), ALL(cand_edition))
+                  .refusal;
+}
+
 static void prune(void)
 {
     refusal = mask_prune(MASK_MODE_UNION, 0, VC, VC, ALL(cand_at), ALL(cand), ALL(cand_edition),
@@ -388,6 +396,9 @@ int main(void)
     measure("mask_stitch", stitch, MASK_STACK_STITCH); /* before the slices are written over */
     measure("mask_record_write", record_write, MASK_STACK_RECORD_WRITE);
     measure("mask_record_replay", record_replay, MASK_STACK_RECORD_REPLAY); /* of what it wrote */
+    measure("mask_candidates_along", candidates_along, MASK_STACK_CANDIDATES_ALONG); /* of the order */
+    cut_at[2]++;
+    measure("mask_candidates_along", candidates_along, MASK_STACK_CANDIDATES_ALONG); /* of another */
     measure("mask_candidates", candidates, MASK_STACK_CANDIDATES);
     measure("mask_prune", prune, MASK_STACK_PRUNE);
     measure("mask_area_pass", area_pass, MASK_STACK_AREA_PASS);

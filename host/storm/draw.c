@@ -196,7 +196,7 @@ static void spoil_element(list_name name)
     if (l->len == 0)
         return;
     switch (name) {
-    case HIT_AT: case LAP_AT: case CAND_AT1: case CAND_AT2: case SLICE_AT: case ENTERED:
+    case HIT_AT: case LAP_AT: case CUT_AT: case CAND_AT1: case CAND_AT2: case SLICE_AT: case ENTERED:
     case POINT_ENDS: case PUT_AT:
         U(name)[i] = odd_count(U(name)[i]);
         break;

@@ -65,6 +65,9 @@ const char *const FAULTS[] = {
     "store_compact: a byte behind the live slices",
     "straight_area: the high word is lost",
     "straight_winding: no more than 1 is told",
+    "candidates_along: the segments are taken from a hint of the right length",
+    "candidates_along: a hint of another length is refused",
+    "candidates_along: one number beyond the hint is read",
     NULL
 };
 
@@ -278,6 +281,33 @@ WRAP(mask_count_answer, candidates)(ARGS)
         ce[a.count - 1] = 0;
     if (FAULT(24) && a.refusal == 0 && a.count < hits + 2 * laps)
         c[6 * a.count] = 0.5;
+    return a;
+}
+#undef ARGS
+
+#define ARGS \
+    const double *o, size_t ol, size_t vc, uint32_t ed, uint32_t s, const size_t *ha, size_t hal, \
+        const double *h, size_t hl, size_t hits, const size_t *la, size_t lal, const double *l, \
+        size_t ll, size_t laps, const size_t *cu, size_t cul, const double *sp, size_t spl, \
+        double tx, double ty, size_t *ca, size_t cal, double *c, size_t cl, double *p, size_t pl, \
+        uint32_t *ce, size_t cel
+REAL(mask_count_answer, candidates_along)(ARGS);
+WRAP(mask_count_answer, candidates_along)(ARGS);
+WRAP(mask_count_answer, candidates_along)(ARGS)
+{
+    static volatile size_t seen;
+    mask_count_answer a =
+        __real_mask_candidates_along(o, ol, vc, ed, s, ha, hal, h, hl, hits, la, lal, l, ll, laps, cu,
+                                     cul, sp, spl, tx, ty, ca, cal, c, cl, p, pl, ce, cel);
+    size_t cuts = hits + 2 * laps;
+    if (FAULT(54) && a.refusal == 0 && cul == 3 * cuts && a.count == cuts)
+        for (size_t i = 0; i < cuts; i++)
+            ca[2 * i] = cu[3 * i];
+    if (FAULT(55) && a.refusal == 0 && cul != 3 * cuts)
+        a = (mask_count_answer){1, 0};
+    if (FAULT(56) && cul > 0)
+        seen = cu[cul];
+    (void)seen;
     return a;
 }
 #undef ARGS

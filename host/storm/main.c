@@ -40,9 +40,9 @@ static const struct {
     int share;
     const char *refusals; /* that it can give, in their order */
 } ENTRIES[] = {
-    {"mask_view_vertex", storm_view_vertex, 19, "1 2 3 5 6 7"},
+    {"mask_view_vertex", storm_view_vertex, 14, "1 2 3 5 6 7"},
     {"mask_view_vertices", storm_view_vertices, 12, "1 2 3 5 6 7 9"},
-    {"mask_create", storm_create, 14, "1 2 4 5 6 7"},
+    {"mask_create", storm_create, 11, "1 2 4 5 6 7"},
     {"mask_create_on_single_segment", storm_single, 14, "1 2 4 5 6"},
     {"mask_from_entire_pline", storm_entire, 10, "1 2 3 5"},
     {"mask_slice_span", storm_span, 14, "1 2 3 4 5 6 15"},
@@ -52,7 +52,8 @@ static const struct {
     {"mask_reopen", storm_reopen, 12, "1 2 3 5 6"},
     {"mask_unmoved", storm_unmoved, 10, "1 2 3 5 6 7"},
     {"mask_cut_order", storm_cut_order, 12, "1 2 3 4 5 6 7 9"},
-    {"mask_candidates", storm_candidates, 12, "1 2 3 4 5 6 7 9"},
+    {"mask_candidates", storm_candidates, 10, "1 2 3 4 5 6 7 9"},
+    {"mask_candidates_along", storm_candidates_along, 10, "1 2 3 4 5 6 7 9"},
     {"mask_prune", storm_prune, 10, "1 2 3 5 6 7 9"},
     {"mask_stitch", storm_stitch, 14, "1 2 3 16 4 5 6 7 8 14 9"},
     {"mask_area_pass", storm_area_pass, 8, "1 16 4 5 9"},

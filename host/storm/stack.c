@@ -98,6 +98,9 @@ ENTRY(cut_order, ALL(outline), VC, 1, ALL(hit_at), ALL(hit), HITS, ALL(lap_at), 
       0.5, ALL(cut_at), ALL(cut_room))
 ENTRY(candidates, ALL(outline), VC, 0, 1, ALL(hit_at), ALL(hit), HITS, ALL(lap_at), ALL(lap), LAPS,
       ALL(splits), 0.5, 0.5, ALL(cand_at), ALL(cand), ALL(probe), ALL(cand_edition))
+ENTRY(candidates_along, ALL(outline), VC, 0, 1, ALL(hit_at), ALL(hit), HITS, ALL(lap_at), ALL(lap),
+      LAPS, ALL(cut_at), ALL(splits), 0.5, 0.5, ALL(cand_at), ALL(cand), ALL(probe),
+      ALL(cand_edition))
 ENTRY(prune, 0, 0, VC, VC, ALL(cand_at), ALL(cand), ALL(cand_edition), ALL(inside), CUTS, ALL(cand_at),
       ALL(cand), ALL(cand_edition), ALL(inside), CUTS, ALL(lap_at), ALL(lap), ALL(lap_edition), LAPS,
       ALL(slice_at_room), ALL(slice_room), ALL(edition_room))
@@ -236,6 +239,7 @@ int main(int count, char **words)
     TEST(reopen, MASK_STACK_REOPEN);
     TEST(unmoved, MASK_STACK_UNMOVED);
     TEST(cut_order, MASK_STACK_CUT_ORDER);
+    TEST(candidates_along, MASK_STACK_CANDIDATES_ALONG);
     TEST(candidates, MASK_STACK_CANDIDATES);
     TEST(prune, MASK_STACK_PRUNE);
     TEST(stitch, MASK_STACK_STITCH);

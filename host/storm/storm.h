@@ -193,7 +193,7 @@ void demand_three(const stitching *s, uint64_t rounds, uint64_t loops, uint64_t 
 typedef void storm_entry(void);
 storm_entry storm_view_vertex, storm_view_vertices, storm_create, storm_single, storm_entire,
     storm_span, storm_slice_points, storm_new_start, storm_validate, storm_reopen, storm_unmoved,
-    storm_cut_order, storm_candidates, storm_prune, storm_stitch, storm_area_pass,
+    storm_cut_order, storm_candidates, storm_candidates_along, storm_prune, storm_stitch, storm_area_pass,
     storm_settings_enter, storm_settings_ask, storm_record_write, storm_record_replay,
     storm_winding, storm_area, storm_report, storm_straight_slices, storm_put, storm_release,
     storm_list, storm_compact;

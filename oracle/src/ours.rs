@@ -1,6 +1,7 @@
 //! A call of the archive, with guards round every list.
 
 use crate::call::{Call, Entry, Kind, Outcome, Param, Reader};
+use crate::tally::order_of;
 use archive::*;
 
 /// Words kept on each side of every list. A write past a list shows in them.
@@ -249,8 +250,49 @@ fn count_words(a: &CountAnswer) -> Vec<u64> {
     vec![u64::from(a.refusal), a.count as u64]
 }
 
-/// Calls the archive. Says `Err` where it wrote to a list that is only read, or past a list's end.
+/// Calls the archive. Says `Err` where it wrote to a list that is only read, or past a list's end. The
+/// candidates are asked for by both entries: by `mask_candidates`, and by `mask_candidates_along` with
+/// the order and with lists that are not the order. It says `Err` where one of these answers differs.
 pub fn answer(call: &Call) -> Result<Outcome, String> {
+    let plain = made(call, None)?;
+    if call.entry == Entry::Candidates {
+        for hint in hints(call)? {
+            if made(call, Some(&hint))? != plain {
+                return Err(format!("mask_candidates_along differs with {hint:?}"));
+            }
+        }
+    }
+    Ok(plain)
+}
+
+/// The order of a call's cuts as `mask_cut_order` writes it; and lists that are nearly that, of another
+/// length, or of any numbers.
+fn hints(call: &Call) -> Result<Vec<Vec<u64>>, String> {
+    let order = made(&order_of(call), None)?;
+    let order = &order.lent[0][..3 * order.answer[1] as usize];
+    let cuts = order.len() / 3;
+    let mut hints = vec![order.to_vec(), vec![], vec![1; 3 * cuts]];
+    if cuts > 0 {
+        hints.push(order[3..].to_vec());
+        hints.push([order, &order[..3]].concat());
+        hints.push(order.chunks_exact(3).rev().flatten().copied().collect());
+        let changed = |change: &dyn Fn(&mut [u64])| {
+            let mut hint = order.to_vec();
+            change(&mut hint);
+            hint
+        };
+        let (middle, last) = (cuts / 2, cuts - 1);
+        hints.push(changed(&|hint| hint[3 * middle..].rotate_left(3)));
+        hints.push(changed(&|hint| hint.copy_within(0..3, 3 * last)));
+        hints.push(changed(&|hint| hint[3 * last + 2] = cuts as u64));
+        hints.push(changed(&|hint| hint[3 * middle + 2] = u64::MAX));
+        hints.push(changed(&|hint| hint[3 * middle] ^= 1));
+        hints.push(changed(&|hint| hint[3 * last + 1] ^= 1));
+    }
+    Ok(hints)
+}
+
+fn made(call: &Call, hint: Option<&[u64]>) -> Result<Outcome, String> {
     let mut inputs: Vec<Guarded> = Vec::new();
     for (param, (_, kind)) in call.inputs.iter().zip(call.entry.shape()) {
         if let Param::List(words) = param {
@@ -261,7 +303,11 @@ pub fn answer(call: &Call) -> Result<Outcome, String> {
     for (content, (_, kind)) in call.lent.iter().zip(call.entry.room()) {
         lent.push(Guarded::new(content, *kind));
     }
-    let answer = enter(call, &mut inputs, &mut lent);
+    let mut told = hint.map(|words| Guarded::new(words, Kind::Counts));
+    let answer = enter(call, &mut inputs, told.as_mut(), &mut lent);
+    if !told.is_none_or(|held| held.guards_hold() && hint == Some(&held.content()[..])) {
+        return Err("the hint was written to".into());
+    }
     let mut inputs = inputs.iter();
     for param in &call.inputs {
         let Param::List(words) = param else { continue };
@@ -280,7 +326,12 @@ pub fn answer(call: &Call) -> Result<Outcome, String> {
 }
 
 /// The call itself. Lists are taken from the guarded copies, in the order of the parameters.
-fn enter(call: &Call, inputs: &mut [Guarded], lent: &mut [Guarded]) -> Vec<u64> {
+fn enter(
+    call: &Call,
+    inputs: &mut [Guarded],
+    hint: Option<&mut Guarded>,
+    lent: &mut [Guarded],
+) -> Vec<u64> {
     let r = &mut call.read();
     let mut lists = inputs.iter_mut();
     // A list of no elements may have any pointer. One that is only read gets NULL.
@@ -437,6 +488,39 @@ fn enter(call: &Call, inputs: &mut [Guarded], lent: &mut [Guarded]) -> Vec<u64> 
                 let (cand, cand_len) = room!();
                 let (probe, probe_len) = room!();
                 let (cand_edition, cand_edition_len) = room!();
+                if let Some(hint) = hint {
+                    return count_words(&mask_candidates_along(
+                        outline,
+                        outline_len,
+                        vc,
+                        edition,
+                        source,
+                        hit_at,
+                        hit_at_len,
+                        hit,
+                        hit_len,
+                        hits,
+                        lap_at,
+                        lap_at_len,
+                        lap,
+                        lap_len,
+                        laps,
+                        hint.start_or_null(),
+                        hint.length(),
+                        splits,
+                        splits_len,
+                        tolerance.x,
+                        tolerance.y,
+                        cand_at,
+                        cand_at_len,
+                        cand,
+                        cand_len,
+                        probe,
+                        probe_len,
+                        cand_edition,
+                        cand_edition_len,
+                    ));
+                }
                 count_words(&mask_candidates(
                     outline,
                     outline_len,

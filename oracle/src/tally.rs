@@ -343,7 +343,7 @@ fn in_order_of_arrival(call: &Call, expected: &Outcome) -> Outcome {
 }
 
 /// The call that asks for the order of the cuts of a call of the candidates.
-fn order_of(call: &Call) -> Call {
+pub fn order_of(call: &Call) -> Call {
     let mut order = Call::new(Entry::CutOrder);
     order.inputs = call.inputs.clone();
     for name in ["splits", "edition"] {

@@ -19,6 +19,7 @@ use Rattle.cut.specs.Cuts.{Given, given, cutCount}
 use Rattle.cut.specs.Order as order
 use Rattle.cut.specs.Order.{cutNumbers, cutPoints}
 use Rattle.cut_order.specs.CutsLaws.{numbers-length, points-length, written-lengths}
+use Rattle.cut_order.specs.Along.{Hinted}
 use Rattle.cut_order.specs.Write.{WriteRoom}
 use Rattle.candidate.specs.Candidates as slices
 use Rattle.candidate.specs.Ready.{Rooms, Ready, Written}
@@ -90,8 +91,12 @@ module _ (g : Given) (splits : List Float) (l : Rooms) (sorted cutAt : List ℕ)
       let k = ok .along .accepted .ready .fewLaps in
       few-lists mostCandidates (record { ok = ok; few = omega arith })
 
-  pub sort-room : FoundRoom g splits l sorted cutAt cut → WriteRoom g sorted cutAt cut
-  sort-room r = record { roomy = record { accepted = r .ok .along .accepted; numberRoom = r .numberRoom; pointRoom = r .pointRoom }; long = r .sortedLong }
+  pub hint-room : FoundRoom g splits l sorted cutAt cut → Hinted g cut
+  hint-room r = record { accepted = r .ok .along .accepted; room = r .pointRoom }
+
+  -- the list for the points may hold anything
+  pub sort-room : (cut' : List Float) → FoundRoom g splits l sorted cutAt cut → length cut' ≡ length cut → WriteRoom g sorted cutAt cut'
+  sort-room cut' r e = record { roomy = record { accepted = r .ok .along .accepted; numberRoom = r .numberRoom; pointRoom = omega (arith, r .pointRoom) }; long = r .sortedLong }
 
 -- the front of a list is as long as it is said to be
 pub front-length : {A : Type 0} (n : ℕ) (l : List A) → n ≤ length l → n ≡ length (take n l)
@@ -122,4 +127,4 @@ module _ (o : List Float) (ha : List ℕ) (h : List Float) (la : List ℕ) (l : 
   pub along-written : (left : Rooms) (r : ℕ) → Written (frontsOf o a' b' splits s) lent r left → Written (alongCuts g splits) lent r left
   along-written left r q = subst (λ (x : slices.Given). Written x lent r left) same q
 
-pub ruleset fronts = (sort-room, in-front, along-written)
+pub ruleset fronts = (hint-room, sort-room, in-front, along-written)

@@ -16,6 +16,7 @@ use basis::sizes::MOST_CANDIDATES;
 use candidate_write::write;
 use cut::arrival::Case;
 use cut_entries::faults;
+use cut_order::along;
 
 // How long the four lent lists are.
 pub struct Lengths {
@@ -126,6 +127,7 @@ fn found_with(
     hit: &[f64],
     lap_at: &[usize],
     lap: &[f64],
+    told: &[usize],
     splits: &[f64],
     s: Case,
     order: &mut [usize],
@@ -138,6 +140,9 @@ fn found_with(
     requires { ⌜ FoundRoom (given (now outline) (now «hit_at») (now hit) (now «lap_at») (now lap) s) (now splits) (rooms (now «cand_at») (now cand) (now probe)) (now order) (now «cut_at») (now cut) ⌝ }
     ensures { λ r. ⌜ Written (alongCuts (given (now (outline .entry)) (now («hit_at» .entry)) (now (hit .entry)) (now («lap_at» .entry)) (now (lap .entry)) s) (now (splits .entry))) (rooms (now («cand_at» .entry)) (now (cand .entry)) (now (probe .entry))) r (rooms (now («cand_at» .exit)) (now (cand .exit)) (now (probe .exit))) ⌝ }
 {
+    if along::is_along(outline, hit_at, hit, lap_at, lap, s, told, cut) {
+        return walked(outline, told, cut, splits, s, cand_at, cand, probe);
+    }
     cut_order::write::write_order(outline, hit_at, hit, lap_at, lap, s, order, cut_at, cut);
     walked(outline, cut_at, cut, splits, s, cand_at, cand, probe)
 }
@@ -149,6 +154,7 @@ fn found_small(
     hit: &[f64],
     lap_at: &[usize],
     lap: &[f64],
+    told: &[usize],
     splits: &[f64],
     s: Case,
     cand_at: &mut [usize],
@@ -167,6 +173,7 @@ fn found_small(
         hit,
         lap_at,
         lap,
+        told,
         splits,
         s,
         &mut order,
@@ -184,6 +191,7 @@ fn found_few(
     hit: &[f64],
     lap_at: &[usize],
     lap: &[f64],
+    told: &[usize],
     splits: &[f64],
     s: Case,
     cand_at: &mut [usize],
@@ -202,6 +210,7 @@ fn found_few(
         hit,
         lap_at,
         lap,
+        told,
         splits,
         s,
         &mut order,
@@ -219,6 +228,7 @@ fn found_more(
     hit: &[f64],
     lap_at: &[usize],
     lap: &[f64],
+    told: &[usize],
     splits: &[f64],
     s: Case,
     cand_at: &mut [usize],
@@ -237,6 +247,7 @@ fn found_more(
         hit,
         lap_at,
         lap,
+        told,
         splits,
         s,
         &mut order,
@@ -254,6 +265,7 @@ fn found_many(
     hit: &[f64],
     lap_at: &[usize],
     lap: &[f64],
+    told: &[usize],
     splits: &[f64],
     s: Case,
     cand_at: &mut [usize],
@@ -272,11 +284,59 @@ fn found_many(
         hit,
         lap_at,
         lap,
+        told,
         splits,
         s,
         &mut order,
         &mut cut_at,
         &mut cut,
+        cand_at,
+        cand,
+        probe,
+    )
+}
+
+// The candidates of an accepted call that has more than 64 cuts, or fewer.
+fn found_beyond(
+    outline: &[f64],
+    hit_at: &[usize],
+    hit: &[f64],
+    lap_at: &[usize],
+    lap: &[f64],
+    told: &[usize],
+    splits: &[f64],
+    s: Case,
+    cand_at: &mut [usize],
+    cand: &mut [f64],
+    probe: &mut [f64],
+) -> usize
+    requires { ⌜ Accepted (given (now outline) (now «hit_at») (now hit) (now «lap_at») (now lap) s) (now splits) (rooms (now «cand_at») (now cand) (now probe)) ⌝ }
+    ensures { λ r. ⌜ Written (alongCuts (given (now (outline .entry)) (now («hit_at» .entry)) (now (hit .entry)) (now («lap_at» .entry)) (now (lap .entry)) s) (now (splits .entry))) (rooms (now («cand_at» .entry)) (now (cand .entry)) (now (probe .entry))) r (rooms (now («cand_at» .exit)) (now (cand .exit)) (now (probe .exit))) ⌝ }
+{
+    if s.hits + 2 * s.laps <= 256 {
+        return found_more(
+            outline,
+            hit_at,
+            hit,
+            lap_at,
+            lap,
+            told,
+            splits,
+            s,
+            cand_at,
+            cand,
+            probe,
+        );
+    }
+    found_many(
+        outline,
+        hit_at,
+        hit,
+        lap_at,
+        lap,
+        told,
+        splits,
+        s,
         cand_at,
         cand,
         probe,
@@ -290,6 +350,7 @@ fn found(
     hit: &[f64],
     lap_at: &[usize],
     lap: &[f64],
+    told: &[usize],
     splits: &[f64],
     s: Case,
     cand_at: &mut [usize],
@@ -307,6 +368,7 @@ fn found(
             hit,
             lap_at,
             lap,
+            told,
             splits,
             s,
             cand_at,
@@ -321,6 +383,7 @@ fn found(
             hit,
             lap_at,
             lap,
+            told,
             splits,
             s,
             cand_at,
@@ -328,26 +391,13 @@ fn found(
             probe,
         );
     }
-    if count <= 256 {
-        return found_more(
-            outline,
-            hit_at,
-            hit,
-            lap_at,
-            lap,
-            splits,
-            s,
-            cand_at,
-            cand,
-            probe,
-        );
-    }
-    found_many(
+    found_beyond(
         outline,
         hit_at,
         hit,
         lap_at,
         lap,
+        told,
         splits,
         s,
         cand_at,
@@ -363,6 +413,7 @@ fn dated(
     hit: &[f64],
     lap_at: &[usize],
     lap: &[f64],
+    told: &[usize],
     splits: &[f64],
     s: Case,
     edition: u32,
@@ -380,6 +431,7 @@ fn dated(
         hit,
         lap_at,
         lap,
+        told,
         splits,
         s,
         cand_at,
@@ -397,6 +449,7 @@ fn sliced(
     hit: &[f64],
     lap_at: &[usize],
     lap: &[f64],
+    told: &[usize],
     splits: &[f64],
     s: Case,
     edition: u32,
@@ -423,6 +476,7 @@ fn sliced(
         hit,
         lap_at,
         lap,
+        told,
         splits,
         s,
         edition,
@@ -446,6 +500,7 @@ pub fn entry(
     lap_at: &[usize],
     lap: &[f64],
     laps: usize,
+    told: &[usize],
     splits: &[f64],
     tolerance_x: f64,
     tolerance_y: f64,
@@ -473,6 +528,7 @@ pub fn entry(
         hit,
         lap_at,
         lap,
+        told,
         splits,
         s,
         edition,

@@ -1,2 +1,3 @@
 pub mod Keying
 pub mod Writing
+pub mod Following

@@ -6,3 +6,4 @@ pub mod CutsLaws
 pub mod PatternLaws
 pub mod DistanceLaws
 pub mod OrderTheorems
+pub mod Along

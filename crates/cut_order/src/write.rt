@@ -14,7 +14,7 @@ use cut::arrival::Cut;
 use outline::write;
 
 // Yes is 1, no is 0.
-fn code_of(b: bool) -> usize
+pub(crate) fn code_of(b: bool) -> usize
     ensures { λ r. ⌜ r ≡ codeOf b ⌝ }
 {
     if b { 1 } else { 0 }

@@ -115,6 +115,11 @@ candidates-one g splits edition l r s a b x y = (
   one-answer (a .edition) (b .edition) _ (x .editions) (y .editions),
 )
 
+-- `mask_candidates` and `mask_candidates_along` over one call: their contracts are the same, and do not speak of the hint. So the answers are equal for every hint.
+pub along-one : (g : cuts.Given) (splits : List Float) (edition : ℕ) (l : Lent) (r s : CountAnswer) (a b : Lent) (hint : List ℕ)
+    → Sliced g splits edition l r a → Sliced g splits edition l s b → (r ≡ s) × (a .at ≡ b .at) × (a .cand ≡ b .cand) × (a .probe ≡ b .probe) × (a .edition ≡ b .edition)
+along-one g splits edition l r s a b hint = candidates-one g splits edition l r s a b
+
 pub prune-one : (c : Given) (l : slice.Rooms) (r s : PruneAnswer) (a b : slice.Rooms)
     → PruneLeft c l r a → PruneLeft c l s b → (r ≡ s) × (a .at ≡ b .at) × (a .shape ≡ b .shape) × (a .edition ≡ b .edition)
 prune-one c l r s a b x y = (

@@ -76,6 +76,54 @@ pub extern "C" fn mask_candidates(
         lap_at,
         lap,
         laps,
+        &hit_at[..0],
+        splits,
+        tolerance_x,
+        tolerance_y,
+        cand_at,
+        cand,
+        probe,
+        cand_edition,
+    )
+}
+
+// The same, with the order as `mask_cut_order` wrote it, three numbers a cut: a hint, which is looked at in one pass. Where it is not the order, or is of another length,
+// the order is worked out. So the answer is that of `mask_candidates` for every hint.
+#[no_mangle]
+pub extern "C" fn mask_candidates_along(
+    outline: &[f64],
+    vc: usize,
+    edition: u32,
+    source: u32,
+    hit_at: &[usize],
+    hit: &[f64],
+    hits: usize,
+    lap_at: &[usize],
+    lap: &[f64],
+    laps: usize,
+    cut_at: &[usize],
+    splits: &[f64],
+    tolerance_x: f64,
+    tolerance_y: f64,
+    cand_at: &mut [usize],
+    cand: &mut [f64],
+    probe: &mut [f64],
+    cand_edition: &mut [u32],
+) -> CountAnswer
+    ensures { λ r. ⌜ Sliced (given (now (outline .entry)) (now («hit_at» .entry)) (now (hit .entry)) (now («lap_at» .entry)) (now (lap .entry)) (caseOf vc source hits laps (toleranceOf «tolerance_x» «tolerance_y»))) (now (splits .entry)) edition (lent (now («cand_at» .entry)) (now (cand .entry)) (now (probe .entry)) (now («cand_edition» .entry))) r (lent (now («cand_at» .exit)) (now (cand .exit)) (now (probe .exit)) (now («cand_edition» .exit))) ⌝ }
+{
+    candidate_entries::slicing::entry(
+        outline,
+        vc,
+        edition,
+        source,
+        hit_at,
+        hit,
+        hits,
+        lap_at,
+        lap,
+        laps,
+        cut_at,
         splits,
         tolerance_x,
         tolerance_y,

@@ -138,6 +138,25 @@ impl Candidates {
         self.probes.iter()
     }
 
+    /// What a call writes into room for so many, as many as it says.
+    fn written(
+        need: usize,
+        write: impl FnOnce(CandidateRoom<'_>) -> Result<usize, Refusal>,
+    ) -> Result<Candidates, Refusal> {
+        let mut views = List::<ForwardView>::with_room(need);
+        let mut probes = List::<Probe>::with_room(need);
+        let room = views.room();
+        let count = write(CandidateRoom {
+            cand_at: &mut room.indexes,
+            cand: &mut room.numbers,
+            probe: &mut probes.room().numbers,
+            cand_edition: &mut room.editions,
+        })?;
+        views.truncate(count);
+        probes.truncate(count);
+        Ok(Candidates { views, probes })
+    }
+
     pub(crate) fn indexes(&self) -> &[usize] {
         self.views.indexes()
     }
@@ -221,28 +240,44 @@ pub fn candidates(
     splits: &Splits,
     tolerance: Tolerance,
 ) -> Result<Candidates, Refusal> {
-    let room = room_for_cuts(intersections, overlaps);
-    let mut views = List::<ForwardView>::with_room(room);
-    let mut probes = List::<Probe>::with_room(room);
-    let room = views.room();
-    let room = CandidateRoom {
-        cand_at: &mut room.indexes,
-        cand: &mut room.numbers,
-        probe: &mut probes.room().numbers,
-        cand_edition: &mut room.editions,
-    };
-    let count = lent::candidates(
-        outline,
-        source,
-        intersections,
-        overlaps,
-        splits,
-        tolerance,
-        room,
-    )?;
-    views.truncate(count);
-    probes.truncate(count);
-    Ok(Candidates { views, probes })
+    let need = room_for_cuts(intersections, overlaps);
+    Candidates::written(need, |room| {
+        lent::candidates(
+            outline,
+            source,
+            intersections,
+            overlaps,
+            splits,
+            tolerance,
+            room,
+        )
+    })
+}
+
+/// The same with the cuts as [`cut_order`] gave them, which it takes less time to look at than to
+/// put in order again. They are a hint: with other cuts the answer is that of [`candidates`] too.
+pub fn candidates_along(
+    outline: &Outline,
+    source: Source,
+    intersections: &Intersections,
+    overlaps: &Overlaps,
+    cuts: &Cuts,
+    splits: &Splits,
+    tolerance: Tolerance,
+) -> Result<Candidates, Refusal> {
+    let need = room_for_cuts(intersections, overlaps);
+    Candidates::written(need, |room| {
+        lent::candidates_along(
+            outline,
+            source,
+            intersections,
+            overlaps,
+            cuts.indexes(),
+            splits,
+            tolerance,
+            room,
+        )
+    })
 }
 
 /// One for each cut. Beyond the most the call is refused, whatever the room.
@@ -499,6 +534,53 @@ mod tests {
         assert_eq!(call.lent("tolerance_y"), Lent::Number(0.125));
         assert_eq!(call.lent("cut_at"), Lent::Room(3 * 3));
         assert_eq!(call.lent("cut"), Lent::Room(3 * 2));
+    }
+
+    #[test]
+    fn candidates_along_lends_the_cuts_beside_what_candidates_lends() {
+        let (hits, laps) = (Intersections::from([hit()]), Overlaps::new());
+        let splits = Splits::from([CutSplit::default()]);
+        let cuts = Cuts::from([Cut {
+            segment: 1,
+            overlap_mark: true,
+            arrival: 0,
+            point: Point::new(3.0, 4.0),
+        }]);
+        let replies = [0, 1].map(|_| Reply::of(count(0, 0)));
+        let (found, calls) = told(replies, || {
+            let of = Source::Pline1;
+            [
+                candidates(&outline(), of, &hits, &laps, &splits, T),
+                candidates_along(&outline(), of, &hits, &laps, &cuts, &splits, T),
+            ]
+        });
+        assert_eq!(found[0], found[1]);
+        let [plain, along] = &calls[..] else {
+            panic!("two calls are made");
+        };
+        assert_eq!(along.entry, "candidates_along");
+        assert_eq!(along.lent("cut_at"), Lent::Counts(vec![1, 1, 0]));
+        for name in [
+            "outline",
+            "vc",
+            "edition",
+            "source",
+            "hit_at",
+            "hit",
+            "hits",
+            "lap_at",
+            "lap",
+            "laps",
+            "splits",
+            "tolerance_x",
+            "tolerance_y",
+            "cand_at",
+            "cand",
+            "probe",
+            "cand_edition",
+        ] {
+            assert_eq!(plain.lent(name), along.lent(name), "{name}");
+        }
     }
 
     #[test]

@@ -131,6 +131,42 @@ pub fn candidates(
     Refusal::check(answer.refusal, answer.count)
 }
 
+/// The same with the order as [`cut_order`] wrote it, 3 numbers to a cut. It is a hint: the answer
+/// is that of [`candidates`] whatever it holds and however long it is.
+#[allow(clippy::too_many_arguments)] // those of `candidates`, and the hint
+pub fn candidates_along(
+    outline: &Outline,
+    source: Source,
+    intersections: &Intersections,
+    overlaps: &Overlaps,
+    cut_at: &[usize],
+    splits: &Splits,
+    tolerance: Tolerance,
+    room: CandidateRoom<'_>,
+) -> Result<usize, Refusal> {
+    let answer = ffi::candidates_along(
+        outline.numbers(),
+        outline.vertex_count(),
+        outline.edition(),
+        source.code(),
+        intersections.indexes(),
+        intersections.numbers(),
+        intersections.len(),
+        overlaps.indexes(),
+        overlaps.numbers(),
+        overlaps.len(),
+        cut_at,
+        splits.numbers(),
+        tolerance.x,
+        tolerance.y,
+        room.cand_at,
+        room.cand,
+        room.probe,
+        room.cand_edition,
+    );
+    Refusal::check(answer.refusal, answer.count)
+}
+
 /// Room for slices, for each of [`slices_needed`] or [`straight_slices_needed`]:
 #[derive(Debug)]
 pub struct SliceRoom<'a> {

@@ -61,7 +61,8 @@
 //!
 //! 1. [`cut_order`]: the cuts of an outline, in order.
 //! 2. [`split_cuts`]: the host's split at each cut.
-//! 3. [`candidates`]: the parts between the cuts, and what the host tests of each.
+//! 3. [`candidates_along`]: the parts between the cuts, and what the host tests of each;
+//!    [`candidates`] where the cuts were not asked for.
 //! 4. [`prune`]: which of them stay, as slices.
 //! 5. [`stitch`]: the loops that the slices make.
 //! 6. [`area_pass`]: which loops are not below the area limit.
@@ -197,8 +198,8 @@ mod straight;
 mod view;
 
 pub use cuts::{
-    candidates, cut_order, Candidate, Candidates, Cut, CutSplit, Cuts, Intersection, Intersections,
-    Overlap, Overlaps, Probe, Splits,
+    candidates, candidates_along, cut_order, Candidate, Candidates, Cut, CutSplit, Cuts,
+    Intersection, Intersections, Overlap, Overlaps, Probe, Splits,
 };
 pub use ffi::{Point, Split, Starts, Vertex};
 pub use host::{split_cuts, Host, StraightHost};

@@ -2,8 +2,8 @@
 
 use crate::straight::{are_straight_and_whole, is_whole};
 use crate::{
-    area_pass, candidates, cut_order, prune, split_cuts, stitch, straight_slices, Answered, Host,
-    Intersections, Mode, Named, Outline, Overlaps, Refusal, Slices, Source, Stitched, Vertex,
+    area_pass, candidates_along, cut_order, prune, split_cuts, stitch, straight_slices, Answered,
+    Host, Intersections, Mode, Named, Outline, Overlaps, Refusal, Slices, Source, Stitched, Vertex,
 };
 
 /// Two masks, and where their outlines meet.
@@ -112,7 +112,7 @@ impl Masks<'_> {
         let t = self.setting.ask()?.tolerance;
         let cuts = cut_order(outline, source, hits, laps, t)?;
         let splits = split_cuts(outline, &cuts, host)?;
-        let candidates = candidates(outline, source, hits, laps, &splits, t)?;
+        let candidates = candidates_along(outline, source, hits, laps, &cuts, &splits, t)?;
 
         let other = source.other();
         let inside = candidates
@@ -328,9 +328,9 @@ mod tests {
         let entries: Vec<&str> = calls.iter().map(|call| call.entry).collect();
         let expected = [
             "cut_order",
-            "candidates",
+            "candidates_along",
             "cut_order",
-            "candidates",
+            "candidates_along",
             "prune",
             "stitch",
             "area_pass",
@@ -342,6 +342,10 @@ mod tests {
             (calls[0].lent("vc"), calls[2].lent("vc")),
             (Lent::Count(4), Lent::Count(3))
         );
+
+        // The cuts as they were told.
+        assert_eq!(calls[1].lent("cut_at"), Lent::Counts(vec![1, 0, 0]));
+        assert_eq!(calls[3].lent("cut_at"), Lent::Counts(vec![0, 0, 0]));
 
         // The segment's start with bulge 0, and the cut twice: it is the segment's last one too.
         let splits1 = vec![4.0, 0.0, 0.0, 4.0, 2.0, 0.0, 4.0, 2.0, 0.0];

@@ -89,6 +89,9 @@ declare_entries! {
     mask_candidates as candidates(outline: &[f64], vc: usize, edition: u32, source: u32, hit_at: &[usize], hit: &[f64], hits: usize, lap_at: &[usize],
         lap: &[f64], laps: usize, splits: &[f64], tolerance_x: f64, tolerance_y: f64, cand_at: &mut [usize], cand: &mut [f64],
         probe: &mut [f64], cand_edition: &mut [u32]) -> CountAnswer;
+    mask_candidates_along as candidates_along(outline: &[f64], vc: usize, edition: u32, source: u32, hit_at: &[usize], hit: &[f64], hits: usize,
+        lap_at: &[usize], lap: &[f64], laps: usize, cut_at: &[usize], splits: &[f64], tolerance_x: f64, tolerance_y: f64, cand_at: &mut [usize],
+        cand: &mut [f64], probe: &mut [f64], cand_edition: &mut [u32]) -> CountAnswer;
     mask_prune as prune(mode: u32, opposing: u32, vc1: usize, vc2: usize, cand_at1: &[usize], cand1: &[f64], cand_edition1: &[u32], inside1: &[u8],
         count1: usize, cand_at2: &[usize], cand2: &[f64], cand_edition2: &[u32], inside2: &[u8], count2: usize, lap_at: &[usize],
         lap: &[f64], lap_edition: &[u32], laps: usize, slice_at: &mut [usize], slice: &mut [f64], slice_edition: &mut [u32]) -> PruneAnswer;

@@ -18,7 +18,7 @@ use mask_tools::lent::{self, CandidateRoom, SliceRoom, StitchRoom};
 use mask_tools::*;
 use proptest::collection::vec;
 use proptest::prelude::*;
-use raw::{room, RawStore, Spare, StitchLists, Written, NEED};
+use raw::{room, Cutting, RawStore, Spare, StitchLists, Written, NEED};
 use same::{for_drawn, same, same_lent, Raw, Told};
 use words::{words, Words};
 
@@ -131,6 +131,24 @@ fn starts_anywhere() {
     });
 }
 
+/// The candidates, without a hint and with one, which is the order of the cuts or any other list.
+fn candidates_as_raw(c: Cutting<'_>, way: usize) -> Result<Candidates, Refusal> {
+    let found = candidates(c.source, c.of, c.hits, c.laps, c.splits, c.tolerance);
+    same(&found, &raw::candidates(c, None, NEED));
+    let mut cuts: Vec<Cut> = cut_order(c.source, c.of, c.hits, c.laps, c.tolerance).unwrap_or_default().iter().collect();
+    match way % 5 {
+        0 => cuts.reverse(),
+        1 => cuts.truncate(way),
+        2 => cuts.extend(vec![Cut { segment: way, overlap_mark: true, arrival: way, point: Point::default() }; way]),
+        _ => {}
+    }
+    let hint: Cuts = cuts.into_iter().collect();
+    let along = candidates_along(c.source, c.of, c.hits, c.laps, &hint, c.splits, c.tolerance);
+    same(&along, &raw::candidates(c, Some(&raw::flat_cuts(&hint)), NEED));
+    assert_eq!(along, found);
+    found
+}
+
 #[test]
 fn cuts_candidates_and_slices() {
     let lists = (intersections(), overlaps(), drawn_splits(), vec(any::<bool>(), 1..30));
@@ -138,8 +156,7 @@ fn cuts_candidates_and_slices() {
         let (hits, laps, drawn, answers) = lists;
         same(&cut_order(&source, of, &hits, &laps, t), &raw::cut_order(&source, of, &hits, &laps, t, NEED));
         let splits = splits_for(if answers.len() == 7 { 3 } else { hits.len() + 2 * laps.len() }, &drawn);
-        let found = candidates(&source, of, &hits, &laps, &splits, t);
-        same(&found, &raw::candidates(&source, of, &hits, &laps, &splits, t, NEED));
+        let found = candidates_as_raw(Cutting { source: &source, of, hits: &hits, laps: &laps, splits: &splits, tolerance: t }, answers.len());
         if let Ok(candidates) = found {
             let inside = answers.iter().copied().cycle();
             let inside = inside.take(if exact { candidates.len() } else { answers.len() }).collect();
@@ -346,12 +363,12 @@ fn lent_room() {
         same_lent(&typed, vec![words![cut_at], words![cut]], &raw::cut_order(&source, of, &hits, &laps, t, spare));
 
         let splits = splits_for(cuts, &drawn);
-        let (mut at, mut cand) = (room(2 * cuts, spare[0]), room(6 * cuts, spare[1]));
-        let (mut probe, mut edition) = (room(6 * cuts, spare[2]), room(cuts, spare[3]));
-        let lent_room = CandidateRoom { cand_at: &mut at, cand: &mut cand, probe: &mut probe, cand_edition: &mut edition };
-        let typed = lent::candidates(&source, of, &hits, &laps, &splits, t, lent_room);
-        let rooms = vec![words![at], words![cand], words![probe], words![edition]];
-        same_lent(&typed, rooms, &raw::candidates(&source, of, &hits, &laps, &splits, t, spare));
+        let cutting = Cutting { source: &source, of, hits: &hits, laps: &laps, splits: &splits, tolerance: t };
+        let (typed, rooms) = with_candidate_room(cuts, spare, |room| lent::candidates(&source, of, &hits, &laps, &splits, t, room));
+        same_lent(&typed, rooms, &raw::candidates(cutting, None, spare));
+        let along = |room: CandidateRoom<'_>| lent::candidates_along(&source, of, &hits, &laps, &cut_at, &splits, t, room);
+        let (typed, rooms) = with_candidate_room(cuts, spare, along);
+        same_lent(&typed, rooms, &raw::candidates(cutting, Some(&cut_at), spare));
 
         let opposing = cuts % 2 == 1;
         let candidates = candidates(&source, of, &hits, &laps, &splits, t).unwrap_or_default();
@@ -398,8 +415,8 @@ fn the_largest_inputs() {
     let (laps, both): (Overlaps, _) = ((0..128).map(|i| lap(600 + 2 * i)).collect(), [&source; 2]);
     accepted(cut_order(&source, Source::Pline2, &hits, &laps, t), &raw::cut_order(&source, Source::Pline2, &hits, &laps, t, NEED));
     let splits = splits_for(768, &[Split::default()]);
-    let found = candidates(&source, Source::Pline1, &hits, &laps, &splits, t);
-    let candidates = accepted(found, &raw::candidates(&source, Source::Pline1, &hits, &laps, &splits, t, NEED));
+    let cutting = Cutting { source: &source, of: Source::Pline1, hits: &hits, laps: &laps, splits: &splits, tolerance: t };
+    let candidates = candidates_as_raw(cutting, 4).expect("the largest are accepted");
     let most = Candidates::from_iter((0..768).map(|i| candidates.get(i % candidates.len()).unwrap()));
     let answered = Answered { inside: vec![false; most.len()], candidates: most };
     let (counts, mode) = ([1024; 2], Mode::Union);
@@ -430,6 +447,14 @@ fn the_largest_inputs() {
 fn accepted<T: Told>(typed: Result<T, Refusal>, raw: &Raw) -> T {
     same(&typed, raw);
     typed.unwrap_or_else(|refusal| panic!("{}: {refusal}", raw.entry))
+}
+
+/// A call with room for the candidates of so many cuts, and what the room holds behind it.
+fn with_candidate_room<T>(cuts: usize, spare: Spare, call: impl FnOnce(CandidateRoom<'_>) -> T) -> (T, Vec<Vec<u64>>) {
+    let (mut at, mut cand) = (room(2 * cuts, spare[0]), room(6 * cuts, spare[1]));
+    let (mut probe, mut edition) = (room(6 * cuts, spare[2]), room(cuts, spare[3]));
+    let typed = call(CandidateRoom { cand_at: &mut at, cand: &mut cand, probe: &mut probe, cand_edition: &mut edition });
+    (typed, vec![words![at], words![cand], words![probe], words![edition]])
 }
 
 /// A call with room for so many slices, and what the room holds behind it.
@@ -516,9 +541,7 @@ fn answered(masks: &Masks<'_>, of: Source, t: Tolerance) -> Result<Answered, Ref
     let cuts = cut_order(outline, of, hits, laps, t);
     same(&cuts, &raw::cut_order(outline, of, hits, laps, t, NEED));
     let splits = split_cuts(outline, &cuts?, &mut StraightHost)?;
-    let found = candidates(outline, of, hits, laps, &splits, t);
-    same(&found, &raw::candidates(outline, of, hits, laps, &splits, t, NEED));
-    let candidates = found?;
+    let candidates = candidates_as_raw(Cutting { source: outline, of, hits, laps, splits: &splits, tolerance: t }, 4)?;
     let inside = candidates.probes().map(|probe| StraightHost.inside(of.other(), other, probe)).collect();
     Ok(Answered { candidates, inside })
 }

@@ -5,8 +5,8 @@ use crate::entries::{self, ViewAnswer};
 use crate::same::{numbers_of, Raw};
 use crate::words::{words, Words};
 use mask_tools::{
-    Answered, Candidates, Intersections, Mode, Named, OnSegment, Outline, Overlaps, Place, RecordContents, RecordSlice, Selector, Setting, Settings,
-    Slice, Slices, Source, Split, Splits, Starts, Store, Tolerance, Vertex, View, Walk, WholeOutline,
+    Answered, Candidates, Cuts, Intersections, Mode, Named, OnSegment, Outline, Overlaps, Place, RecordContents, RecordSlice, Selector, Setting,
+    Settings, Slice, Slices, Source, Split, Splits, Starts, Store, Tolerance, Vertex, View, Walk, WholeOutline,
 };
 
 /// How much more or less than the need each room is lent.
@@ -242,32 +242,39 @@ pub fn cut_order(source: &Outline, of: Source, hits: &Intersections, laps: &Over
     Raw::of("mask_cut_order", answer, vec![words![cut_at], words![cut]])
 }
 
-pub fn candidates(source: &Outline, of: Source, hits: &Intersections, laps: &Overlaps, splits: &Splits, t: Tolerance, spare: Spare) -> Raw {
-    let ((o, vc, edition), h, l) = (outline(source), flat_hits(hits), flat_laps(laps));
-    let cuts = h.count + 2 * l.count;
-    let split: Vec<f64> = splits.iter().flat_map(|s| numbers(&[s.split.updated_start, s.split.split_vertex, s.split_vertex_of_segment])).collect();
+/// Cuts as they lie in a list.
+pub fn flat_cuts(cuts: &Cuts) -> Vec<usize> {
+    cuts.iter().flat_map(|c| [c.segment, usize::from(c.overlap_mark), c.arrival]).collect()
+}
+
+/// What both entries that find candidates take.
+#[derive(Clone, Copy)]
+pub struct Cutting<'a> {
+    pub source: &'a Outline,
+    pub of: Source,
+    pub hits: &'a Intersections,
+    pub laps: &'a Overlaps,
+    pub splits: &'a Splits,
+    pub tolerance: Tolerance,
+}
+
+/// The candidates; with a hint by the entry that takes one.
+#[rustfmt::skip] // the parameters of both entries beside each other
+pub fn candidates(c: Cutting<'_>, hint: Option<&[usize]>, spare: Spare) -> Raw {
+    let ((o, vc, edition), h, l) = (outline(c.source), flat_hits(c.hits), flat_laps(c.laps));
+    let (source, t, cuts) = (source_code(c.of), c.tolerance, h.count + 2 * l.count);
+    let split: Vec<f64> = c.splits.iter().flat_map(|s| numbers(&[s.split.updated_start, s.split.split_vertex, s.split_vertex_of_segment])).collect();
     let (mut at, mut cand) = (room(2 * cuts, spare[0]), room(6 * cuts, spare[1]));
     let (mut probe, mut editions) = (room(6 * cuts, spare[2]), room(cuts, spare[3]));
-    let answer = entries::candidates(
-        &o,
-        vc,
-        edition,
-        source_code(of),
-        &h.at,
-        &h.numbers,
-        h.count,
-        &l.at,
-        &l.numbers,
-        l.count,
-        &split,
-        t.x,
-        t.y,
-        &mut at,
-        &mut cand,
-        &mut probe,
-        &mut editions,
-    );
-    Raw::of("mask_candidates", answer, vec![words![at], words![cand], words![probe], words![editions]])
+    let (entry, answer) = match hint {
+        None => ("mask_candidates", entries::candidates(
+            &o, vc, edition, source, &h.at, &h.numbers, h.count, &l.at, &l.numbers, l.count, &split, t.x, t.y,
+            &mut at, &mut cand, &mut probe, &mut editions)),
+        Some(hint) => ("mask_candidates_along", entries::candidates_along(
+            &o, vc, edition, source, &h.at, &h.numbers, h.count, &l.at, &l.numbers, l.count, hint, &split, t.x, t.y,
+            &mut at, &mut cand, &mut probe, &mut editions)),
+    };
+    Raw::of(entry, answer, vec![words![at], words![cand], words![probe], words![editions]])
 }
 
 /// Room for so many slices.

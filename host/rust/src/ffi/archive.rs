@@ -313,6 +313,13 @@ mod entries {
             probe: &mut [f64], cand_edition: &mut [u32],
         ) -> CountAnswer;
 
+        mask_candidates_along as candidates_along(
+            outline: &[f64], vc: usize, edition: u32, source: u32, hit_at: &[usize], hit: &[f64],
+            hits: usize, lap_at: &[usize], lap: &[f64], laps: usize, cut_at: &[usize],
+            splits: &[f64], tolerance_x: f64, tolerance_y: f64, cand_at: &mut [usize],
+            cand: &mut [f64], probe: &mut [f64], cand_edition: &mut [u32],
+        ) -> CountAnswer;
+
         mask_prune as prune(
             mode: u32, opposing: u32, vc1: usize, vc2: usize, cand_at1: &[usize], cand1: &[f64],
             cand_edition1: &[u32], inside1: &[u8], count1: usize, cand_at2: &[usize], cand2: &[f64],

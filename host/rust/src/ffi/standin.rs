@@ -348,6 +348,17 @@ pub(crate) mod entries {
         play_all(call, &mut [cand_at], &mut [cand, probe], cand_edition).into()
     }
 
+    pub(crate) fn candidates_along(
+        outline: &[f64], vc: usize, edition: u32, source: u32, hit_at: &[usize], hit: &[f64],
+        hits: usize, lap_at: &[usize], lap: &[f64], laps: usize, cut_at: &[usize],
+        splits: &[f64], tolerance_x: f64, tolerance_y: f64,
+        cand_at: &mut [usize], cand: &mut [f64], probe: &mut [f64], cand_edition: &mut [u32],
+    ) -> CountAnswer {
+        let call = call!(candidates_along: outline, vc, edition, source, hit_at, hit, hits, lap_at,
+            lap, laps, cut_at, splits, tolerance_x, tolerance_y; cand_at, cand, probe, cand_edition);
+        play_all(call, &mut [cand_at], &mut [cand, probe], cand_edition).into()
+    }
+
     pub(crate) fn prune(
         mode: u32, opposing: u32, vc1: usize, vc2: usize,
         cand_at1: &[usize], cand1: &[f64], cand_edition1: &[u32], inside1: &[u8], count1: usize,

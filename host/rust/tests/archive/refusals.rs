@@ -2,10 +2,10 @@
 
 use crate::shapes::{a, b, hit, hits, named, plain, T};
 use mask_tools::{
-    area_pass, candidates, cut_order, lent, prune, split_cuts, stitch, Answered, Candidate,
-    Candidates, CutSplit, Intersection, Intersections, OnSegment, Outline, Overlap, Overlaps,
-    Point, Record, RecordVersion, Refusal, Selector, Slice, Slices, Source, Splits, Starts,
-    StraightHost, Tolerance, Vertex, View, Walk,
+    area_pass, candidates, candidates_along, cut_order, lent, prune, split_cuts, stitch, Answered,
+    Candidate, Candidates, CutSplit, Cuts, Intersection, Intersections, OnSegment, Outline,
+    Overlap, Overlaps, Point, Record, RecordVersion, Refusal, Selector, Slice, Slices, Source,
+    Splits, Starts, StraightHost, Tolerance, Vertex, View, Walk,
 };
 use mask_tools::{Host, Masks, Mode};
 
@@ -285,6 +285,11 @@ impl Meeting {
         let count = lent::cuts_needed(&self.hits, &self.laps);
         let splits: Splits = (0..count).map(|_| CutSplit::default()).collect();
         let found = candidates(&self.outline, source, &self.hits, &self.laps, &splits, t);
+        for hint in [cuts.clone().unwrap_or_default(), Cuts::new()] {
+            let (hits, laps) = (&self.hits, &self.laps);
+            let along = candidates_along(&self.outline, source, hits, laps, &hint, &splits, t);
+            assert_eq!(along, found);
+        }
         [cuts.map(|cuts| cuts.len()), found.map(|found| found.len())]
     }
 

@@ -2,17 +2,23 @@
 
 use crate::shapes::{a, b, hit, hits, masks, named, plain, positions, T};
 use mask_tools::{
-    area_pass, candidates, cut_order, lent, split_cuts, stitch, Chain, ChainEnd, Combined,
-    Intersections, Mode, Outline, Overlaps, Point, Refusal, Selector, Slice, Slices, Source,
-    Starts, Stitched, StraightHost, Tolerance, Vertex, View,
+    area_pass, candidates, candidates_along, cut_order, lent, split_cuts, stitch, Chain, ChainEnd,
+    Combined, Cut, Cuts, Intersections, Mode, Outline, Overlaps, Point, Refusal, Selector, Slice,
+    Slices, Source, Starts, Stitched, StraightHost, Tolerance, Vertex, View,
 };
 
 fn starts_and_offsets(outline: &Outline, source: Source, hits: &Intersections) -> Vec<[usize; 2]> {
     let laps = Overlaps::new();
     let cuts = cut_order(outline, source, hits, &laps, T).unwrap();
     let splits = split_cuts(outline, &cuts, &mut StraightHost).unwrap();
-    candidates(outline, source, hits, &laps, &splits, T)
-        .unwrap()
+    let found = candidates(outline, source, hits, &laps, &splits, T).unwrap();
+    let mut back: Vec<Cut> = cuts.iter().collect();
+    back.reverse();
+    for hint in [cuts, Cuts::from_iter(back), Cuts::new()] {
+        let along = candidates_along(outline, source, hits, &laps, &hint, &splits, T);
+        assert_eq!(along.as_ref(), Ok(&found));
+    }
+    found
         .iter()
         .map(|candidate| [candidate.view.start_index, candidate.view.end_index_offset])
         .collect()

@@ -6,7 +6,8 @@ use Rattle.candidate_entries.proofs.slicing.dated.Tie as tie
 write-editions-requires : tie.Need-write-editions-requires
 write-editions-requires c κs =
     let wrote = c .before .before .before .before .before .before .before .before .before in
-    let begun = wrote .before .before .before .before .before .before .before .before .before .before .before .before .before .before in
+    let lent = wrote .before .before .before .before .before .before .before in
+    let begun = lent .before .before .before .before .before .before .before .before in
     editions-ready _ _ _ _ _ (begun .pre) (wrote .found .ensures)
 
 pub dated-spec : {M : Type 1} → statement M

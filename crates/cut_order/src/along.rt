@@ -1,0 +1,105 @@
+// The order of the cuts as a caller says it, looked at in one pass.
+ghost use mathlib.Core.Path.{_≡_};
+ghost use Rattle.outline.specs.Outline.{Triple};
+ghost use Rattle.cut.specs.Cuts.{given};
+ghost use Rattle.cut.specs.Order.{sooner};
+ghost use Rattle.cut_order.specs.Along.{keyBy, goesOn, followsBy, Third, Hinted, Followed};
+use crate::keys;
+use crate::write;
+use cut::arrival;
+use cut::arrival::Case;
+use cut::arrival::Cut;
+use outline::write::put_point;
+
+// What a cut is sorted by: its segment, its distance, its number of arrival.
+pub struct Key {
+    pub segment: usize,
+    pub distance: f64,
+    pub arrival: usize,
+}
+
+fn key_of(outline: &[f64], c: Cut, n: usize) -> Key
+    requires { ⌜ Triple (now outline) (c .segment) ⌝ }
+    ensures { λ r. ⌜ r ≡ keyBy (now (outline .entry)) c n ⌝ }
+{
+    let distance = keys::distance_of(outline, c);
+    Key {
+        segment: c.segment,
+        distance,
+        arrival: n,
+    }
+}
+
+// By segment, then by distance.
+fn is_sooner(a: usize, b: usize, x: f64, y: f64) -> bool
+    ensures { λ r. ⌜ r ≡ sooner a b x y ⌝ }
+{
+    if a < b {
+        return true;
+    }
+    if b < a {
+        return false;
+    }
+    x < y
+}
+
+// The first goes on from nothing. Every other goes behind the one in front of it: that one is before it, or is not behind it and arrived first.
+fn goes_on(i: usize, last: Key, key: Key) -> bool
+    ensures { λ r. ⌜ r ≡ goesOn i last key ⌝ }
+{
+    let before = is_sooner(last.segment, key.segment, last.distance, key.distance);
+    let behind = is_sooner(key.segment, last.segment, key.distance, last.distance);
+    (i == 0) | (before | ((last.arrival < key.arrival) & !behind))
+}
+
+// What is said at place i is the cut, and it goes on from the one in front of it.
+fn follows(cut_at: &[usize], i: usize, c: Cut, last: Key, key: Key) -> bool
+    requires { ⌜ Third (now «cut_at») i ⌝ }
+    ensures { λ r. ⌜ r ≡ followsBy (now («cut_at» .entry)) i c last key ⌝ }
+{
+    let segment = cut_at[3 * i] == c.segment;
+    let mark = cut_at[3 * i + 1] == write::code_of(c.mark);
+    segment & (mark & goes_on(i, last, key))
+}
+
+// Whether the list says the cuts in their order, three numbers each. Where it does, their points stand in front of the room.
+pub fn is_along(
+    outline: &[f64],
+    hit_at: &[usize],
+    hit: &[f64],
+    lap_at: &[usize],
+    lap: &[f64],
+    s: Case,
+    cut_at: &[usize],
+    cut: &mut [f64],
+) -> bool
+    requires { ⌜ Hinted (given (now outline) (now «hit_at») (now hit) (now «lap_at») (now lap) s) (now cut) ⌝ }
+    ensures { λ r. ⌜ Followed (given (now (outline .entry)) (now («hit_at» .entry)) (now (hit .entry)) (now («lap_at» .entry)) (now (lap .entry)) s) (now («cut_at» .entry)) (now (cut .entry)) (now (cut .exit)) r ⌝ }
+{
+    let count = s.hits + 2 * s.laps;
+    if cut_at.len() != 3 * count {
+        return false;
+    }
+    let mut last = Key {
+        segment: 0,
+        distance: 0.0,
+        arrival: 0,
+    };
+    let mut i = 0;
+    while i < count {
+        let n = cut_at[3 * i + 2];
+        if count <= n {
+            return false;
+        }
+        let c = arrival::cut_of(outline, hit_at, hit, lap_at, lap, s, n);
+        let key = key_of(outline, c, n);
+        if follows(cut_at, i, c, last, key) {
+            put_point(cut, 2 * i, c.point);
+            last = key;
+            i += 1;
+            continue;
+        }
+        return false;
+    }
+    true
+}
