@@ -2,4 +2,4 @@
 pub mod flat;
 pub mod inside;
 pub mod microdegrees;
-pub mod split;
+pub mod at_cut;
