@@ -50,13 +50,7 @@ fn walk(outline: &[f64], cut_at: &[usize], cut: &[f64], s: Case, p: usize) -> Ca
 }
 
 // What the cut at place p gives: nothing where it is marked, the piece to its neighbour, or the walk.
-pub fn candidate_at(
-    outline: &[f64],
-    cut_at: &[usize],
-    cut: &[f64],
-    s: Case,
-    p: usize,
-) -> Candidate
+pub fn candidate_at(outline: &[f64], cut_at: &[usize], cut: &[f64], s: Case, p: usize) -> Candidate
     requires { ⌜ Place (straightGiven (now outline) (now «cut_at») (now cut) s) p ⌝ }
     ensures { λ r. ⌜ r ≡ candidateAt (straightGiven (now (outline .entry)) (now («cut_at» .entry)) (now (cut .entry)) s) p ⌝ }
 {

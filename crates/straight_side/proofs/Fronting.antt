@@ -94,7 +94,7 @@ module _ (o : List Float) (ha : List ℕ) (h : List Float) (la : List ℕ) (l : 
     fronts-kept room′ r q =
         let vc = side .«other_vc» in
         let is : staysTo (take (2 * vc) wholes′) (side .edition) (side .part) (straightGiven o (take (3 * cutCount g) a′) (take (2 * cutCount g) b′) (side .cuts)) (cutCount g)
-            ≡ keptTo (sideCands g other vc (side .edition)) (side .part) (sideCount g) =
+        ≡ keptTo (sideCands g other vc (side .edition)) (side .part) (sideCount g) =
         (λ i. staysTo (wholes-front i) (side .edition) (side .part) (same i) (cutCount g)) ∙ stays-kept g other vc (side .edition) (side .part) in
         let p = subst (λ (s : List slice.Slice). Wrote s (cutCount g) room (side .from) r room′) is q in
         record {

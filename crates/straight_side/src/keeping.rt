@@ -187,6 +187,50 @@ fn fits(side: Side, cuts: usize, vertices: usize) -> bool
     false
 }
 
+// Writes the slices of an outline with more cuts or vertices than the smallest lists hold.
+fn kept_more(
+    outline: &[f64],
+    other: &[f64],
+    hit_at: &[usize],
+    hit: &[f64],
+    lap_at: &[usize],
+    lap: &[f64],
+    side: Side,
+    slice_at: &mut [usize],
+    slice: &mut [f64],
+    slice_edition: &mut [u32],
+) -> usize
+    requires { ⌜ KeptRoom (given (now outline) (now «hit_at») (now hit) (now «lap_at») (now lap) (side .cuts)) (now other) side (rooms (now «slice_at») (now slice) (now «slice_edition»)) ⌝ }
+    ensures { λ r. ⌜ Kept (given (now (outline .entry)) (now («hit_at» .entry)) (now (hit .entry)) (now («lap_at» .entry)) (now (lap .entry)) (side .cuts)) (now (other .entry)) side (rooms (now («slice_at» .entry)) (now (slice .entry)) (now («slice_edition» .entry))) r (rooms (now («slice_at» .exit)) (now (slice .exit)) (now («slice_edition» .exit))) ⌝ }
+{
+    if fits(side, 64, 128) {
+        return kept_some(
+            outline,
+            other,
+            hit_at,
+            hit,
+            lap_at,
+            lap,
+            side,
+            slice_at,
+            slice,
+            slice_edition,
+        );
+    }
+    kept_many(
+        outline,
+        other,
+        hit_at,
+        hit,
+        lap_at,
+        lap,
+        side,
+        slice_at,
+        slice,
+        slice_edition,
+    )
+}
+
 // Writes the slices of one outline, and says where they end.
 pub fn kept(
     outline: &[f64],
@@ -205,13 +249,28 @@ pub fn kept(
 {
     if fits(side, 16, 32) {
         return kept_few(
-            outline, other, hit_at, hit, lap_at, lap, side, slice_at, slice, slice_edition,
+            outline,
+            other,
+            hit_at,
+            hit,
+            lap_at,
+            lap,
+            side,
+            slice_at,
+            slice,
+            slice_edition,
         );
     }
-    if fits(side, 64, 128) {
-        return kept_some(
-            outline, other, hit_at, hit, lap_at, lap, side, slice_at, slice, slice_edition,
-        );
-    }
-    kept_many(outline, other, hit_at, hit, lap_at, lap, side, slice_at, slice, slice_edition)
+    kept_more(
+        outline,
+        other,
+        hit_at,
+        hit,
+        lap_at,
+        lap,
+        side,
+        slice_at,
+        slice,
+        slice_edition,
+    )
 }

@@ -76,9 +76,31 @@ fn both_sides(
 {
     let parts = mode::parts_of(job.mode, job.opposing == 1);
     let one = first_side(job, parts.first);
-    let a = kept(outline1, outline2, hit_at, hit, lap_at, lap, one, slice_at, slice, slice_edition);
+    let a = kept(
+        outline1,
+        outline2,
+        hit_at,
+        hit,
+        lap_at,
+        lap,
+        one,
+        slice_at,
+        slice,
+        slice_edition,
+    );
     let two = second_side(job, parts.second, a);
-    let b = kept(outline2, outline1, hit_at, hit, lap_at, lap, two, slice_at, slice, slice_edition);
+    let b = kept(
+        outline2,
+        outline1,
+        hit_at,
+        hit,
+        lap_at,
+        lap,
+        two,
+        slice_at,
+        slice,
+        slice_edition,
+    );
     Ends {
         first: a,
         second: b,

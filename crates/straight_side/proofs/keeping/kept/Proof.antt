@@ -6,21 +6,12 @@ use Rattle.straight_side.proofs.keeping.kept.Tie as tie
 kept-few-requires : tie.Need-kept-few-requires
 kept-few-requires c κs = search (needs, few-fits)
 
-kept-some-requires : tie.Need-kept-some-requires
-kept-some-requires c κs = search (needs, few-fits)
-
 pub kept-spec : {M : Type 1} → statement M
 kept-spec =
     tie.close
     (tie.spec
     (λ c κs. search needs)
     kept-few-requires
-    (λ c. search needs)
-    (λ c. search needs)
-    (λ c. search needs)
-    (λ c. search needs)
-    (λ c κs. search needs)
-    kept-some-requires
     (λ c. search needs)
     (λ c. search needs)
     (λ c. search needs)
