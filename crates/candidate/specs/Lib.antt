@@ -4,3 +4,4 @@ pub mod Steps
 pub mod SearchLaws
 pub mod PieceLaws
 pub mod CandidateExamples
+pub mod PlaceLaws

@@ -21,7 +21,7 @@ pub enum Candidate {
 }
 
 // The next cut in the order is on the same segment.
-fn same_next(cut_at: &[usize], count: usize, p: usize) -> bool
+pub fn same_next(cut_at: &[usize], count: usize, p: usize) -> bool
     requires { ⌜ NextFit (now «cut_at») count p ⌝ }
     ensures { λ r. ⌜ r ≡ sameNext (now («cut_at» .entry)) count p ⌝ }
 {
@@ -29,7 +29,7 @@ fn same_next(cut_at: &[usize], count: usize, p: usize) -> bool
 }
 
 // The piece on segment s between the split's start part a and its split vertex b. Where the two agree there is no view, and so no piece.
-fn piece(s: usize, a: Vertex, b: Vertex, t: Tolerance) -> Candidate
+pub fn piece(s: usize, a: Vertex, b: Vertex, t: Tolerance) -> Candidate
     ensures { λ r. ⌜ r ≡ pieceOf s a b t ⌝ }
 {
     let end = point::pos(b);
@@ -40,7 +40,7 @@ fn piece(s: usize, a: Vertex, b: Vertex, t: Tolerance) -> Candidate
 }
 
 // The candidate of a walk.
-fn walk_candidate(outline: &[f64], vc: usize, w: Walk, t: Tolerance) -> Candidate
+pub fn walk_candidate(outline: &[f64], vc: usize, w: Walk, t: Tolerance) -> Candidate
     requires { ⌜ WalkReady (now outline) vc w ⌝ }
     ensures { λ r. ⌜ r ≡ walked (now (outline .entry)) vc w t ⌝ }
 {

@@ -4,7 +4,7 @@ ghost use Rattle.candidate.specs.Steps.{Among, NextPlace, segmentsOn, Se
 use outline::read;
 
 // Where a walk ends: its traverse count, the segment there, and that segment's first cut.
-pub(crate) struct Next {
+pub struct Next {
     pub traverse: usize,
     pub index: usize,
     pub cut: usize,
@@ -35,7 +35,7 @@ fn traverse_count(vc: usize, s: usize, to: usize) -> usize
 }
 
 // Where the walk from the cut at place p, its segment's last, ends. The cuts go by segment, so the next segment that has one is that of the next place.
-pub(crate) fn next_cut(cut_at: &[usize], vc: usize, count: usize, p: usize) -> Next
+pub fn next_cut(cut_at: &[usize], vc: usize, count: usize, p: usize) -> Next
     requires { ⌜ LastCut vc (now «cut_at») count p ⌝ }
     ensures { λ r. ⌜ NextCut vc (now («cut_at» .entry)) count p r ⌝ }
 {

@@ -1,18 +1,16 @@
 -- Document 02, K11: "asking inside", by K8's winding numbers ("inside is any but 0") of the other outline. The host's test is at the midpoint of a candidate's two vertices, and
 -- K8's probes "come in doubled coordinates": the doubled midpoint is the sum of the two.
-use Prim.Native.Nat.{ℕ, _+_, _*_, _≤_, _<_}
+use Prim.Native.Nat.{ℕ, _+_, _*_}
 use mathlib.Core.Bool.{_||_}
 use mathlib.Core.List.{List, [], _∷_}
-use lib.ListN.{length}
 use lib.IntN.{ℤ, pos, _+ℤ_}
 use lib.Signed.{ltZ}
 use lib.Ieee.{Float}
 use Rattle.basis.specs.Choice.{codeOf}
-use Rattle.basis.specs.Sizes.{mostCandidates}
 use Rattle.basis.specs.Items.{firstItems}
+use Rattle.outline.specs.declared.point.Vertex.{Vertex}
 use Rattle.outline.specs.Outline.{vertexAt}
 use Rattle.straight.specs.Plane.{Spot, spots, winding}
-use Rattle.straight.specs.Ready.{Outline}
 use Rattle.straight_cut.specs.Microdegrees.{valueOf}
 
 -- yes is 1: the winding number is above 0 or below it
@@ -31,18 +29,10 @@ midAt probe k =
 unfoldable pub insideAt : List ℤ → List Float → ℕ → ℕ
 insideAt other probe k = insideCode (winding (spots other) (midAt probe k))
 
+-- the same of the two vertices themselves
+unfoldable pub insideOf : List ℤ → Vertex → Vertex → ℕ
+insideOf other a b = insideCode (winding (spots other) (record { x = valueOf (a .x) +ℤ valueOf (b .x); y = valueOf (a .y) +ℤ valueOf (b .y) }))
+
 -- the answers of so many candidates
 unfoldable pub insidesOf : List ℤ → List Float → ℕ → List ℕ
 insidesOf other probe count = firstItems (λ k. insideAt other probe k ∷ []) count
-
--- ---- what a caller has shown
-pub record InsideFit (other : List ℤ) (vc : ℕ) (probe : List Float) (k : ℕ) : Type 0 where
-  pub outline : Outline other vc
-  pub few : k < mostCandidates
-  pub there : 6 * k + 6 ≤ length probe
-
-pub record InsideRoom (other : List ℤ) (vc : ℕ) (probe : List Float) (count : ℕ) (room : List ℕ) : Type 0 where
-  pub outline : Outline other vc
-  pub few : count ≤ mostCandidates
-  pub there : 6 * count ≤ length probe
-  pub fits : count ≤ length room

@@ -1,10 +1,10 @@
 -- Laws by which the inside answers are written.
-use Prim.Native.Nat.{ℕ, _+_, _*_, _≤_, _<_, zero-le}
+use Prim.Native.Nat.{ℕ, _+_, _*_, _<_}
 use mathlib.Core.Bool.{Bool, true, false, _||_}
 use mathlib.Core.Path.{_≡_, refl, sym, ap, subst, _∙_}
 use mathlib.Core.List.{List, [], _∷_}
 use native.Mathlib.Omega.{arith}
-use lib.ListN.{length, set}
+use lib.ListN.{length, getD}
 use lib.IntN.{ℤ, pos, _+ℤ_}
 use lib.Signed.{ltZ}
 use lib.Ieee.{Float}
@@ -12,17 +12,18 @@ use mir.Syntax.{w64}
 use mir.Val.{SFits, toZ, ofZ}
 use mir.Facts.{toZ-ofZ}
 use Rattle.basis.specs.Choice.{codeOf}
-use Rattle.basis.specs.Room.{roomOf}
-use Rattle.basis.specs.ItemLaws.{Filling, items-length, fill-none, fill-more, fill-end}
+use Rattle.basis.specs.Items.{firstItems}
+use Rattle.basis.specs.ItemLaws.{items-length}
 use Rattle.outline.specs.declared.point.Vertex.{Vertex}
 use Rattle.outline.specs.Outline.{vertexAt}
 use Rattle.whole.specs.Fit.{Near}
 use Rattle.whole.specs.FitLaws.{abs-add, fit, as-near}
-use Rattle.straight.specs.Plane.{Spot, spots, winding}
+use Rattle.straight.specs.Plane.{spots, winding}
 use Rattle.straight.specs.Ready.{Outline, Probed}
 use Rattle.straight_cut.specs.Microdegrees.{valueOf}
 use Rattle.straight_cut.specs.MicrodegreesLaws.{value-near}
-use Rattle.straight_cut.specs.Inside.{insideCode, midAt, insideAt, insidesOf, InsideFit, InsideRoom}
+use Rattle.straight_cut.specs.SplitsLaws.{items-at}
+use Rattle.straight_cut.specs.Inside.{insideCode, insideOf, insideAt, insidesOf}
 
 -- ---- the code of a winding number, which is read back as v
 module _ (w v : ℤ) (same : v ≡ w) (a : Bool) (above : a ≡ ltZ (pos 0) v) where
@@ -59,53 +60,22 @@ mid-fits a b e f = subst (SFits w64) (sym (λ i. e i +ℤ f i)) (mid-fit a b)
 pub mid-read : (a b : Float) {r s : ℤ} → r ≡ valueOf a → s ≡ valueOf b → toZ w64 (ofZ w64 (r +ℤ s)) ≡ valueOf a +ℤ valueOf b
 mid-read a b e f = toZ-ofZ (mid-fits a b e f) ∙ (λ i. e i +ℤ f i)
 
--- a probe that is known by its parts
-module _ (other : List ℤ) (vc : ℕ) (probe : List Float) (k : ℕ) (a b : Vertex) (e : a ≡ vertexAt probe (2 * k)) (g : b ≡ vertexAt probe (2 * k + 1)) (x y : ℤ)
-    (p : x ≡ valueOf (a .x) +ℤ valueOf (b .x)) (q : y ≡ valueOf (a .y) +ℤ valueOf (b .y)) where
-  pub probed : InsideFit other vc probe k → Probed other vc x y
-  probed f = record { outline = f .outline; x-ok = as-near p (mid-near (a .x) (b .x)); y-ok = as-near q (mid-near (a .y) (b .y)) }
+-- the answer, from the doubled midpoint
+module _ (other : List ℤ) (vc : ℕ) (a b : Vertex) (x y : ℤ) (p : x ≡ valueOf (a .x) +ℤ valueOf (b .x)) (q : y ≡ valueOf (a .y) +ℤ valueOf (b .y)) where
+  pub probed : Outline other vc → Probed other vc x y
+  probed f = record { outline = f; x-ok = as-near p (mid-near (a .x) (b .x)); y-ok = as-near q (mid-near (a .y) (b .y)) }
 
-  pub inside-is : (w r : ℤ) (n : ℕ) → w ≡ winding (spots other) (record { x = x; y = y }) → r ≡ w → n ≡ insideCode r → n ≡ insideAt other probe k
-  unfolding insideAt
-  inside-is w r n h z m =
-      let s : record { x = x; y = y } ≡ midAt probe k =
-      (λ i. record {
-        x = (p ∙ ap (λ (v : Vertex). valueOf (v .x) +ℤ valueOf (b .x)) e ∙ ap (λ (v : Vertex). valueOf (vertexAt probe (2 * k) .x) +ℤ valueOf (v .x)) g) i;
-        y = (q ∙ ap (λ (v : Vertex). valueOf (v .y) +ℤ valueOf (b .y)) e ∙ ap (λ (v : Vertex). valueOf (vertexAt probe (2 * k) .y) +ℤ valueOf (v .y)) g) i;
-      }) in
-      m ∙ ap insideCode (z ∙ h ∙ ap (λ (t : Spot). winding (spots other) t) s)
+  pub inside-is : (w r : ℤ) (n : ℕ) → w ≡ winding (spots other) (record { x = x; y = y }) → r ≡ w → n ≡ insideCode r → n ≡ insideOf other a b
+  unfolding insideOf
+  inside-is w r n h z m = m ∙ ap insideCode (z ∙ h ∙ (λ i. winding (spots other) (record { x = p i; y = q i })))
 
--- ---- answer after answer
-pub record Asking (other : List ℤ) (probe : List Float) (count : ℕ) (entry room : List ℕ) (k : ℕ) : Type 0 where
-  pub ahead : k ≤ count
-  pub filling : Filling (λ j. insideAt other probe j ∷ []) 1 entry room k
+-- ---- the answers of a list
+pub insides-length : (other : List ℤ) (probe : List Float) (count : ℕ) → length (insidesOf other probe count) ≡ count
+unfolding insidesOf
+insides-length other probe count = items-length (λ j. insideAt other probe j ∷ []) 1 (λ n. refl) count ∙ omega arith
 
-module _ (other : List ℤ) (probe : List Float) where
-  pub insides-length : (count : ℕ) → length (insidesOf other probe count) ≡ count
-  unfolding insidesOf
-  insides-length count = items-length (λ j. insideAt other probe j ∷ []) 1 (λ n. refl) count ∙ omega arith
-
-  module _ (count : ℕ) (entry : List ℕ) where
-    pub ask-none : Asking other probe count entry entry 0
-    ask-none = record { ahead = zero-le; filling = fill-none (λ j. insideAt other probe j ∷ []) 1 (λ n. refl) entry }
-
-    module _ (vc : ℕ) (room : List ℕ) (k : ℕ) (s : Asking other probe count entry room k) (f : InsideRoom other vc probe count entry) (h : k < count) where
-      pub ask-fit : InsideFit other vc probe k
-      ask-fit = record { outline = f .outline; few = omega (arith, f .few); there = omega (arith, f .there) }
-
-      pub ask-room : k < length room
-      ask-room = omega (arith, f .fits, s .filling .long)
-
-      pub ask-more : (a : ℕ) → a ≡ insideAt other probe k → Asking other probe count entry (set room k a) (k + 1)
-      ask-more a e =
-          let one : k ≡ 1 * k = omega arith in
-          record {
-            ahead = omega arith;
-            filling = fill-more (λ j. insideAt other probe j ∷ []) 1 (λ n. refl) entry room (set room k a) k (s .filling) (omega (arith, f .fits)) (ap (λ (v : ℕ). set room k v) e ∙ ap (λ (j : ℕ). set room j (insideAt other probe k)) one);
-          }
-
-    pub ask-end : (room : List ℕ) (k : ℕ) → Asking other probe count entry room k → count ≤ k → room ≡ roomOf 0 1 count (insidesOf other probe count) entry
-    unfolding insidesOf
-    ask-end room k s h = fill-end (λ j. insideAt other probe j ∷ []) 1 (λ n. refl) entry 0 room k count (s .filling) (omega (arith, s .ahead))
-
-pub ruleset asking = (ask-none, ask-fit, ask-room, ask-more, ask-end)
+pub insides-at : (other : List ℤ) (probe : List Float) (count k : ℕ) → k < count → getD (insidesOf other probe count) k 0 ≡ insideOf other (vertexAt probe (2 * k)) (vertexAt probe (2 * k + 1))
+unfolding insidesOf insideAt insideOf
+insides-at other probe count k h =
+    let e : k ≡ 1 * k + 0 = omega arith in
+    ap (λ (i : ℕ). getD (firstItems (λ j. insideAt other probe j ∷ []) count) i 0) e ∙ items-at (λ j. insideAt other probe j ∷ []) 1 (λ n. refl) 0 count k 0 h (omega arith)

@@ -1,3 +1,3 @@
-pub mod Cutting
-pub mod Telling
 pub mod Staying
+pub mod Walking
+pub mod Fronting

@@ -1,128 +1,206 @@
--- Laws by which one outline's slices are found: its candidates with editions and answers, those that stay, lists of three sizes.
-use Prim.Native.Nat.{ℕ, _+_, _*_, _≤_}
-use mathlib.Core.Path.{_≡_, sym, ap, subst, _∙_}
-use mathlib.Core.List.{List}
+-- What stays place after place is what pruning keeps of the candidates' lists.
+use Prim.Native.Nat.{ℕ, zero, suc, _+_, _*_, _≤_, _<_, zero-le}
+use mathlib.Core.Bool.{cond}
+use mathlib.Core.Path.{_≡_, refl, sym, ap, _∙_}
+use mathlib.Core.List.{List, [], _∷_, _++_, flatMap, append-nil}
+use native.Mathlib.Nat.{add-zero}
+use native.Mathlib.Numerals.{add-one}
 use native.Mathlib.Omega.{arith}
-use lib.ListN.{length, take, replicate, length-replicate}
-use lib.Ieee.{Float}
-use Rattle.basis.specs.Number.{+0}
-use Rattle.basis.specs.Sizes.{mostCandidates}
-use Rattle.basis.specs.Room.{roomOf, Stretch}
-use Rattle.basis.specs.RoomLaws.{room-front}
-use Rattle.cut.specs.Cuts.{Given, cutCount}
-use Rattle.cut_entries.specs.CutRows.{FewCuts}
-use Rattle.candidate.specs.Candidates.{candNumbers, candShapes, probeNumbers, candidatesOf, numbersOf, shapeOf, probeOf}
-use Rattle.candidate.specs.Ready.{Rooms, rooms, Written}
-use Rattle.candidate_write.specs.ItemLaws.{flat-length, wide-numbers, wide-shapes, wide-probes}
-use Rattle.candidate_write.specs.CandidateTheorems.{count-most}
-use Rattle.slice.specs.Ready as slice
+use lib.Dec.{eqb}
+use lib.ListN.{length, getD, replicate, length-append, List·getD-append, getD-replicate}
+use lib.Seq.{getD-append-add}
+use lib.IntN.{ℤ}
+use lib.Ieee.{Float, nan}
+use Rattle.outline.specs.declared.point.Vertex.{Vertex}
+use Rattle.outline.specs.Points.{vertexNumbers}
+use Rattle.outline.specs.Outline.{vertexAt}
+use Rattle.view.specs.declared.data.ViewData.{ViewData}
+use Rattle.view.specs.View.{viewNumbers}
+use Rattle.slice.specs.Slice as slice
+use Rattle.slice.specs.Slice.{shapeAt}
+use Rattle.candidate.specs.declared.at_cut.Candidate.{Candidate}
+use Rattle.candidate.specs.declared.at_cut.Candidate.the-variants.{Nothing, Slice}
+use Rattle.candidate.specs.Candidates.{Given, candidateAt, kept, candidatesTo, candidatesOf, candCount, numbersOf, shapeOf, probeOf}
+use Rattle.candidate_write.specs.ItemLaws.{wide-numbers, wide-shapes, wide-probes, flat-more, flat-length}
+use Rattle.cut.specs.Cuts as cuts
 use Rattle.prune.specs.declared.mode.Part.{Part}
-use Rattle.prune.specs.Prune.{Cands, keptTo}
-use Rattle.prune_write.specs.Ready.{Wrote}
+use Rattle.prune.specs.Prune.{Cands, cands, candCodes, candSlice, keptTo}
 use Rattle.straight_cut.specs.Microdegrees.{wholesOf}
-use Rattle.straight_cut.specs.Inside.{insidesOf}
-use Rattle.straight_cut.specs.InsideLaws.{insides-length}
-use Rattle.straight_side.specs.Side.{alongStraight, sideCount, sideCands}
-use Rattle.straight_side.specs.Ready.{CandsRoom, AskRoom, Lists, fronts, Both, SideRoom, Sided, FrontKeep, KeptRoom, KeptWith, KeptFew}
-use Rattle.straight_side.proofs.Cutting.{front-length, front-long}
+use Rattle.straight_cut.specs.Inside.{insideOf, insidesOf}
+use Rattle.straight_cut.specs.InsideLaws.{insides-at}
+use Rattle.straight_side.specs.Side.{alongStraight, sideCount, sideCands, viewCodes, viewShape, staysOf, staysTo}
 
--- ---- all of one outline
-module _ (g : Given) (other : List Float) (vc : ℕ) (probe : List Float) (l : Lists) (k : SideRoom g other vc probe l) where
-  pub side-cands : CandsRoom g (rooms (l .at) (l .cand) probe)
-  side-cands = record { accepted = k .both .accepted; roomy = record { at = k .atRoom; cand = k .candRoom; probe = k .probeRoom } }
+-- ---- a list with an item behind it: before the seam nothing is new, behind it stands the item
+seam : {A : Type 0} (xs ys : List A) (k j i : ℕ) (d : A) → length xs ≡ k → i ≡ k + j → getD (xs ++ ys) i d ≡ getD ys j d
+seam xs ys k j i d l e = let q : i ≡ length xs + j = omega arith in ap (λ (m : ℕ). getD (xs ++ ys) m d) q ∙ getD-append-add xs ys j d
 
-  pub side-few : FewCuts (cutCount g)
-  side-few = let c = k .both .accepted .ready in record { few = omega (arith, c .fewHits, c .fewLaps) }
-
-  module _ (m : ℕ) (left : Rooms) (w : Written (alongStraight g) (rooms (l .at) (l .cand) probe) m left) where
-    few-made : m ≤ cutCount g
-    few-made = omega (arith, w .counted, count-most (alongStraight g))
-
-    probes-long : length (probeNumbers (alongStraight g)) ≡ 6 * m
-    unfolding candidatesOf
-    probes-long = let a = alongStraight g in flat-length 6 probeOf wide-probes a (a .count) ∙ ap (λ (j : ℕ). 6 * j) (sym (w .counted))
-
-    probes : take (6 * m) (left .probe) ≡ probeNumbers (alongStraight g)
-    unfolding candidatesOf
-    probes = room-front +0 6 (cutCount g) (probeNumbers (alongStraight g)) probe (left .probe) (6 * m) (w .probe) probes-long
-
-    pub side-ask : AskRoom other vc (left .probe) m (l .inside)
-    side-ask =
-        let c = k .both .accepted .ready in
-        record {
-          whole = k .both .whole;
-          few = omega (arith, few-made, c .fewHits, c .fewLaps);
-          there = front-long (6 * m) (left .probe) (ap length probes ∙ probes-long);
-          fits = omega (arith, few-made, k .insideRoom);
-        }
-
-    pub side-stretch : Stretch (l .edition) m (cutCount g)
-    side-stretch = record { ordered = few-made; inside = k .editionRoom }
-
-    pub sided : (edition : ℕ) (ed ins : List ℕ) → ins ≡ roomOf 0 1 m (insidesOf (wholesOf other vc) (take (6 * m) (left .probe)) m) (l .inside)
-        → ed ≡ roomOf 0 1 (cutCount g) (replicate m edition) (l .edition)
-        → Sided g other vc edition m (record { at = left .at; cand = left .cand; edition = ed; inside = ins })
-    unfolding sideCands candidatesOf
-    sided edition ed ins p q =
-        let a = alongStraight g in
-        let n = w .counted in
-        let at : take (2 * m) (left .at) ≡ candNumbers a =
-        room-front 0 2 (cutCount g) (candNumbers a) (l .at) (left .at) (2 * m) (w .at) (flat-length 2 numbersOf wide-numbers a (a .count) ∙ ap (λ (j : ℕ). 2 * j) (sym n)) in
-        let cand : take (6 * m) (left .cand) ≡ candShapes a =
-        room-front +0 6 (cutCount g) (candShapes a) (l .cand) (left .cand) (6 * m) (w .cand) (flat-length 6 shapeOf wide-shapes a (a .count) ∙ ap (λ (j : ℕ). 6 * j) (sym n)) in
-        let dated : take m ed ≡ replicate m edition = room-front 0 1 (cutCount g) (replicate m edition) (l .edition) ed m q (length-replicate m edition) in
-        let told : take m ins ≡ insidesOf (wholesOf other vc) (take (6 * m) (left .probe)) m =
-        room-front 0 1 m (insidesOf (wholesOf other vc) (take (6 * m) (left .probe)) m) (l .inside) ins m p (insides-length (wholesOf other vc) (take (6 * m) (left .probe)) m) in
-        let c = k .both .accepted .ready in
-        let la : 2 * m ≤ length (left .at) = front-long (2 * m) (left .at) (ap length at ∙ flat-length 2 numbersOf wide-numbers a (a .count) ∙ ap (λ (j : ℕ). 2 * j) (sym n)) in
-        let lc : 6 * m ≤ length (left .cand) = front-long (6 * m) (left .cand) (ap length cand ∙ flat-length 6 shapeOf wide-shapes a (a .count) ∙ ap (λ (j : ℕ). 6 * j) (sym n)) in
-        let le : m ≤ length ed = front-long m ed (ap length dated ∙ length-replicate m edition) in
-        let li : m ≤ length ins = front-long m ins (ap length told ∙ insides-length (wholesOf other vc) (take (6 * m) (left .probe)) m) in
-        record {
-          counted = n;
-          few = few-made;
-          fit = record { few = omega (arith, few-made, c .fewHits, c .fewLaps); at = sym (front-length _ _ la); shape = sym (front-length _ _ lc); edition = sym (front-length _ _ le); inside = sym (front-length _ _ li) };
-          longAt = la;
-          longCand = lc;
-          longEdition = le;
-          longInside = li;
-          holds = rw (at, cand, dated, told, probes, n);
-        }
-
--- ---- those that stay
-module _ (g : Given) (other : List Float) (vc : ℕ) (probe : List Float) (l l′ : Lists) (room : slice.Rooms) (m : ℕ) (k : KeptWith g other vc probe l room m) (edition r : ℕ) (s : Sided g other vc edition r l′) where
-  pub kept-front : FrontKeep l′ r room m
-  kept-front =
-      let f = s .few in
-      record {
-        longAt = s .longAt;
-        longCand = s .longCand;
-        longEdition = s .longEdition;
-        longInside = s .longInside;
-        fit =
+module _ (xs ys : List Float) where
+  shape-before : (k : ℕ) → 6 * k + 5 < length xs → shapeAt (xs ++ ys) k ≡ shapeAt xs k
+  unfolding shapeAt
+  shape-before k h =
+      (λ t. record {
+        «updated_start» =
             record {
-              cands = s .fit;
-              low = k .ok .low;
-              roomy = record { at = omega (arith, k .ok .roomy .at); shape = omega (arith, k .ok .roomy .shape); edition = omega (arith, k .ok .roomy .edition) };
+              x = List·getD-append xs ys nan (6 * k) (omega arith) t;
+              y = List·getD-append xs ys nan (6 * k + 1) (omega arith) t;
+              bulge = List·getD-append xs ys nan (6 * k + 2) (omega arith) t;
             };
-      }
+        «end_bulge» = List·getD-append xs ys nan (6 * k + 3) (omega arith) t;
+        «end_point» = record { x = List·getD-append xs ys nan (6 * k + 4) (omega arith) t; y = List·getD-append xs ys nan (6 * k + 5) (omega arith) t };
+      })
 
-  pub kept-wrote : (part : Part) (room′ : slice.Rooms) (n : ℕ) → Wrote (keptTo (fronts r l′) part r) r room m n room′ → Wrote (keptTo (sideCands g other vc edition) part (sideCount g)) (sideCount g) room m n room′
-  kept-wrote part room′ n w =
-      subst (λ (j : ℕ). Wrote (keptTo (sideCands g other vc edition) part j) j room m n room′) (s .counted)
-      (subst (λ (c : Cands). Wrote (keptTo c part r) r room m n room′) (s .holds) w)
+  vertex-before : (i : ℕ) → 3 * i + 2 < length xs → vertexAt (xs ++ ys) i ≡ vertexAt xs i
+  unfolding vertexAt
+  vertex-before i h =
+      (λ t. record {
+        x = List·getD-append xs ys nan (3 * i) (omega arith) t;
+        y = List·getD-append xs ys nan (3 * i + 1) (omega arith) t;
+        bulge = List·getD-append xs ys nan (3 * i + 2) (omega arith) t;
+      })
 
--- ---- lists for so many candidates serve a call that has no more cuts, and lists for the most serve every call
-module _ (g : Given) (other : List Float) (vc : ℕ) (probe : List Float) (l : Lists) (room : slice.Rooms) (m : ℕ) where
-  pub few-cands : (most : ℕ) → KeptFew most g other vc room m → length probe ≡ 6 * most → length (l .at) ≡ 2 * most → length (l .cand) ≡ 6 * most → length (l .edition) ≡ most → length (l .inside) ≡ most
-      → KeptWith g other vc probe l room m
-  few-cands most f a b c d e =
-      let h = f .few in
-      record { ok = f .ok; side = record { both = f .ok .both; probeRoom = omega arith; atRoom = omega arith; candRoom = omega arith; editionRoom = omega arith; insideRoom = omega arith } }
+  vertex-behind : (n j i : ℕ) (v : Vertex) → length xs ≡ n → 3 * i ≡ n + j → getD ys j nan ≡ v .x → getD ys (j + 1) nan ≡ v .y → getD ys (j + 2) nan ≡ v .bulge → vertexAt (xs ++ ys) i ≡ v
+  unfolding vertexAt
+  vertex-behind n j i v l e x y z =
+      (λ t. record {
+        x = (seam xs ys n j (3 * i) nan l e ∙ x) t;
+        y = (seam xs ys n (j + 1) (3 * i + 1) nan l (omega arith) ∙ y) t;
+        bulge = (seam xs ys n (j + 2) (3 * i + 2) nan l (omega arith) ∙ z) t;
+      })
 
-  pub most-cands : KeptRoom g other vc room m → length probe ≡ 6 * mostCandidates → length (l .at) ≡ 2 * mostCandidates → length (l .cand) ≡ 6 * mostCandidates → length (l .edition) ≡ mostCandidates
-      → length (l .inside) ≡ mostCandidates → KeptWith g other vc probe l room m
-  most-cands ok =
-      let h = ok .both .accepted .ready .fewHits in
-      let k = ok .both .accepted .ready .fewLaps in
-      few-cands mostCandidates (record { ok = ok; few = omega arith })
+shape-behind : (xs : List Float) (n : ℕ) (v : ViewData) → length xs ≡ 6 * n → shapeAt (xs ++ viewNumbers v) n ≡ viewShape v
+unfolding shapeAt
+shape-behind xs n v l =
+    let ys = viewNumbers v in
+    (λ t. record {
+      «updated_start» =
+          record {
+            x = seam xs ys (6 * n) 0 (6 * n) nan l (omega arith) t;
+            y = seam xs ys (6 * n) 1 (6 * n + 1) nan l refl t;
+            bulge = seam xs ys (6 * n) 2 (6 * n + 2) nan l refl t;
+          };
+      «end_bulge» = seam xs ys (6 * n) 3 (6 * n + 3) nan l refl t;
+      «end_point» = record { x = seam xs ys (6 * n) 4 (6 * n + 4) nan l refl t; y = seam xs ys (6 * n) 5 (6 * n + 5) nan l refl t };
+    })
+
+-- ---- what is kept of the first n goes by the first n alone
+kept-same : (c d : Cands) (part : Part) (n : ℕ) → ((k : ℕ) → k < n → getD (d .inside) k 0 ≡ getD (c .inside) k 0) → ((k : ℕ) → k < n → candSlice d part k ≡ candSlice c part k) → keptTo d part n ≡ keptTo c part n
+unfolding keptTo
+kept-same c d part zero f g = refl
+kept-same c d part (suc n) f g =
+    let h = kept-same c d part n (λ k l. f k (omega arith)) (λ k l. g k (omega arith)) in
+    let p = f n (omega arith) in
+    let q = g n (omega arith) in
+    (λ i. h i ++ cond (eqb (p i) (part .keep)) (q i ∷ []) [])
+
+module _ (other : List ℤ) (edition : ℕ) (part : Part) where
+  -- the candidates' lists
+  abbrev listed : List ℕ → List Float → List Float → ℕ → Cands
+  listed at shape probe n = cands at shape (replicate n edition) (insidesOf other probe n)
+
+  -- one candidate more
+  module _ (at : List ℕ) (shape probe : List Float) (n : ℕ) (la : length at ≡ 2 * n) (ls : length shape ≡ 6 * n) (lp : length probe ≡ 6 * n) (v : ViewData) (a b : Vertex) where
+    abbrev at⁺ : List ℕ
+    at⁺ = at ++ (v .«start_index» ∷ v .«end_index_offset» ∷ [])
+
+    abbrev shape⁺ : List Float
+    shape⁺ = shape ++ viewNumbers v
+
+    abbrev probe⁺ : List Float
+    probe⁺ = probe ++ (vertexNumbers a ++ vertexNumbers b)
+
+    inside-before : (k : ℕ) → k < n → getD (insidesOf other probe⁺ (suc n)) k 0 ≡ getD (insidesOf other probe n) k 0
+    inside-before k h =
+        let ys = vertexNumbers a ++ vertexNumbers b in
+        let e = vertex-before probe ys (2 * k) (omega arith) in
+        let f = vertex-before probe ys (2 * k + 1) (omega arith) in
+        insides-at other probe⁺ (suc n) k (omega arith) ∙ (λ i. insideOf other (e i) (f i)) ∙ sym (insides-at other probe n k h)
+
+    inside-behind : getD (insidesOf other probe⁺ (suc n)) n 0 ≡ insideOf other a b
+    inside-behind =
+        let ys = vertexNumbers a ++ vertexNumbers b in
+        let e = vertex-behind probe ys (6 * n) 0 (2 * n) a lp (omega arith) refl refl refl in
+        let f = vertex-behind probe ys (6 * n) 3 (2 * n + 1) b lp (omega arith) refl refl refl in
+        insides-at other probe⁺ (suc n) n (omega arith) ∙ (λ i. insideOf other (e i) (f i))
+
+    slice-before : (k : ℕ) → k < n → candSlice (listed at⁺ shape⁺ probe⁺ (suc n)) part k ≡ candSlice (listed at shape probe n) part k
+    unfolding candCodes
+    slice-before k h =
+        let ys = v .«start_index» ∷ v .«end_index_offset» ∷ [] in
+        let e = shape-before shape (viewNumbers v) k (omega arith) in
+        let f = getD-replicate (suc n) k edition 0 (omega arith) ∙ sym (getD-replicate n k edition 0 h) in
+        (λ i. record {
+          codes =
+              record {
+                source = part .source;
+                inverted = part .inverted;
+                start = List·getD-append at ys 0 (2 * k) (omega arith) i;
+                offset = List·getD-append at ys 0 (2 * k + 1) (omega arith) i;
+              };
+          shape = e i;
+          edition = f i;
+        })
+
+    slice-behind : candSlice (listed at⁺ shape⁺ probe⁺ (suc n)) part n ≡ record { codes = viewCodes part v; shape = viewShape v; edition = edition }
+    unfolding candCodes
+    slice-behind =
+        let ys = v .«start_index» ∷ v .«end_index_offset» ∷ [] in
+        let e = shape-behind shape n v ls in
+        let f = getD-replicate (suc n) n edition 0 (omega arith) in
+        (λ i. record {
+          codes =
+              record {
+                source = part .source;
+                inverted = part .inverted;
+                start = seam at ys (2 * n) 0 (2 * n) 0 la (omega arith) i;
+                offset = seam at ys (2 * n) 1 (2 * n + 1) 0 la refl i;
+              };
+          shape = e i;
+          edition = f i;
+        })
+
+    kept-one : keptTo (listed at⁺ shape⁺ probe⁺ (suc n)) part (suc n) ≡ keptTo (listed at shape probe n) part n ++ staysOf other edition part (Slice v a b)
+    unfolding keptTo staysOf
+    kept-one =
+        let h = kept-same (listed at shape probe n) (listed at⁺ shape⁺ probe⁺ (suc n)) part n inside-before slice-before in
+        (λ i. h i ++ cond (eqb (inside-behind i) (part .keep)) (slice-behind i ∷ []) [])
+
+  -- one place more, whatever it gives
+  kept-next : (at : List ℕ) (shape probe : List Float) (n : ℕ) → length at ≡ 2 * n → length shape ≡ 6 * n → length probe ≡ 6 * n → (c : Candidate)
+      → keptTo (listed (at ++ numbersOf c) (shape ++ shapeOf c) (probe ++ probeOf c) (n + length (kept c))) part (n + length (kept c)) ≡ keptTo (listed at shape probe n) part n ++ staysOf other edition part c
+  kept-next at shape probe n la ls lp Nothing =
+      unfold staysOf in
+      (λ i. keptTo (listed (append-nil at i) (append-nil shape i) (append-nil probe i) (add-zero n i)) part (add-zero n i)) ∙ sym (append-nil (keptTo (listed at shape probe n) part n))
+  kept-next at shape probe n la ls lp (Slice v a b) =
+      ap (λ (m : ℕ). keptTo (listed (at ++ (v .«start_index» ∷ v .«end_index_offset» ∷ [])) (shape ++ viewNumbers v) (probe ++ (vertexNumbers a ++ vertexNumbers b)) m) part m) (add-one n)
+      ∙ kept-one at shape probe n la ls lp v a b
+
+  module _ (g : Given) where
+    abbrev upTo : ℕ → Cands
+    upTo p = listed (flatMap numbersOf (candidatesTo g p)) (flatMap shapeOf (candidatesTo g p)) (flatMap probeOf (candidatesTo g p)) (length (candidatesTo g p))
+
+    counted : (p : ℕ) → length (candidatesTo g (suc p)) ≡ length (candidatesTo g p) + length (kept (candidateAt g p))
+    unfolding candidatesTo
+    counted p = length-append (candidatesTo g p) (kept (candidateAt g p))
+
+    stays-next : (p : ℕ) → staysTo other edition part g (suc p) ≡ staysTo other edition part g p ++ staysOf other edition part (candidateAt g p)
+    unfolding staysTo
+    stays-next p = refl
+
+    kept-places : (p : ℕ) → keptTo (upTo p) part (length (candidatesTo g p)) ≡ staysTo other edition part g p
+    kept-places zero = unfold candidatesTo keptTo staysTo in refl
+    kept-places (suc p) =
+        let c = candidateAt g p in
+        let x = flat-more 2 numbersOf wide-numbers g p in
+        let y = flat-more 6 shapeOf wide-shapes g p in
+        let z = flat-more 6 probeOf wide-probes g p in
+        let n = counted p in
+        let next =
+        kept-next (flatMap numbersOf (candidatesTo g p)) (flatMap shapeOf (candidatesTo g p)) (flatMap probeOf (candidatesTo g p)) (length (candidatesTo g p)) (flat-length 2 numbersOf wide-numbers g p)
+        (flat-length 6 shapeOf wide-shapes g p) (flat-length 6 probeOf wide-probes g p) c in
+        (λ i. keptTo (listed (x i) (y i) (z i) (n i)) part (n i)) ∙ next ∙ ap (λ (l : List slice.Slice). l ++ staysOf other edition part c) (kept-places p) ∙ sym (stays-next p)
+
+-- ---- of one outline
+pub stays-kept : (g : cuts.Given) (other : List Float) (vc edition : ℕ) (part : Part)
+    → staysTo (wholesOf other vc) edition part (alongStraight g) (alongStraight g .count) ≡ keptTo (sideCands g other vc edition) part (sideCount g)
+unfolding sideCands candidatesOf
+stays-kept g other vc edition part = sym (kept-places (wholesOf other vc) edition part (alongStraight g) (alongStraight g .count))

@@ -1,428 +1,276 @@
 // The slices of one outline: those of its candidates that stay.
 ghost use mathlib.Core.Path.{_≡_};
 ghost use Rattle.cut.specs.Cuts.{given};
+ghost use Prim.Native.Nat.{_+_, _*_};
 ghost use Rattle.slice.specs.Ready.{rooms};
-ghost use Rattle.prune.specs.Prune.{keptTo};
-ghost use Rattle.prune_write.specs.Ready.{Wrote};
-ghost use Rattle.straight_side.specs.Side.{sideCount, sideCands};
-ghost use Rattle.straight_side.specs.Ready.{listsOf, fronts, SideRoom, Sided, FrontKeep, KeptRoom, KeptWith, KeptFew};
-use crate::asking;
-use crate::slicing;
+ghost use Rattle.cut_entries.specs.CutRows.{FewCuts};
+ghost use Rattle.straight_side.specs.Ready.{KeptRoom, KeptWith, KeptFew, Kept, Fits};
+use crate::along;
 use basis::sizes::MOST_CANDIDATES;
-use candidate_write::write as candidates;
+use basis::sizes::MOST_VERTICES;
 use cut::arrival::Case;
 use prune::mode::Part;
-use prune_write::write;
+use straight_cut::microdegrees;
 
-// The candidates of one outline in front of their lists, with an edition and an inside answer for each. Says how many there are.
-fn side(
-    outline: &[f64],
-    other: &[f64],
-    other_vc: usize,
-    hit_at: &[usize],
-    hit: &[f64],
-    lap_at: &[usize],
-    lap: &[f64],
-    s: Case,
-    edition: u32,
-    probe: &mut [f64],
-    cand_at: &mut [usize],
-    cand: &mut [f64],
-    cand_edition: &mut [u32],
-    inside: &mut [u8],
-) -> usize
-    requires { ⌜ SideRoom (given (now outline) (now «hit_at») (now hit) (now «lap_at») (now lap) s) (now other) «other_vc» (now probe) (listsOf (now «cand_at») (now cand) (now «cand_edition») (now inside)) ⌝ }
-    ensures { λ r. ⌜ Sided (given (now (outline .entry)) (now («hit_at» .entry)) (now (hit .entry)) (now («lap_at» .entry)) (now (lap .entry)) s) (now (other .entry)) «other_vc» edition r (listsOf (now («cand_at» .exit)) (now (cand .exit)) (now («cand_edition» .exit)) (now (inside .exit))) ⌝ }
-{
-    let m = slicing::candidates(outline, hit_at, hit, lap_at, lap, s, cand_at, cand, probe);
-    asking::asked(other, other_vc, probe, m, inside);
-    candidates::write_editions(cand_edition, m, s.hits + 2 * s.laps, edition);
-    m
+// The numbers of one outline's turn: its cuts, the other outline's vertex count, its edition, how its candidates become slices, and from which slice number on.
+pub struct Side {
+    pub cuts: Case,
+    pub other_vc: usize,
+    pub edition: u32,
+    pub part: Part,
+    pub from: usize,
 }
 
-// Writes those that stay of the first candidates of the lists, as slices from number m on, and says where they end.
-fn keep(
-    cand_at: &[usize],
-    cand: &[f64],
-    cand_edition: &[u32],
-    inside: &[u8],
-    count: usize,
-    part: Part,
-    slice_at: &mut [usize],
-    slice: &mut [f64],
-    slice_edition: &mut [u32],
-    m: usize,
-) -> usize
-    requires { ⌜ FrontKeep (listsOf (now «cand_at») (now cand) (now «cand_edition») (now inside)) count (rooms (now «slice_at») (now slice) (now «slice_edition»)) m ⌝ }
-    ensures { λ r. ⌜ Wrote (keptTo (fronts count (listsOf (now («cand_at» .entry)) (now (cand .entry)) (now («cand_edition» .entry)) (now (inside .entry)))) part count) count (rooms (now («slice_at» .entry)) (now (slice .entry)) (now («slice_edition» .entry))) m r (rooms (now («slice_at» .exit)) (now (slice .exit)) (now («slice_edition» .exit))) ⌝ }
-{
-    let numbers = 2 * count;
-    let shapes = 6 * count;
-    write::write_kept(
-        &cand_at[..numbers],
-        &cand[..shapes],
-        &cand_edition[..count],
-        &inside[..count],
-        count,
-        part,
-        slice_at,
-        slice,
-        slice_edition,
-        m,
-    )
-}
-
-// Writes the slices of one outline from number m on, by lists for its candidates, and says where they end.
+// Writes the slices of one outline, and says where they end. The lists lent beside the rooms are for the order of the cuts, the cuts in it, and the other outline in whole
+// microdegrees.
 fn kept_with(
     outline: &[f64],
     other: &[f64],
-    other_vc: usize,
     hit_at: &[usize],
     hit: &[f64],
     lap_at: &[usize],
     lap: &[f64],
-    s: Case,
-    edition: u32,
-    part: Part,
-    probe: &mut [f64],
-    cand_at: &mut [usize],
-    cand: &mut [f64],
-    cand_edition: &mut [u32],
-    inside: &mut [u8],
+    side: Side,
+    order: &mut [usize],
+    cut_at: &mut [usize],
+    cut: &mut [f64],
+    wholes: &mut [i64],
     slice_at: &mut [usize],
     slice: &mut [f64],
     slice_edition: &mut [u32],
-    m: usize,
 ) -> usize
-    requires { ⌜ KeptWith (given (now outline) (now «hit_at») (now hit) (now «lap_at») (now lap) s) (now other) «other_vc» (now probe) (listsOf (now «cand_at») (now cand) (now «cand_edition») (now inside)) (rooms (now «slice_at») (now slice) (now «slice_edition»)) m ⌝ }
-    ensures { λ r. ⌜ Wrote (keptTo (sideCands (given (now (outline .entry)) (now («hit_at» .entry)) (now (hit .entry)) (now («lap_at» .entry)) (now (lap .entry)) s) (now (other .entry)) «other_vc» edition) part (sideCount (given (now (outline .entry)) (now («hit_at» .entry)) (now (hit .entry)) (now («lap_at» .entry)) (now (lap .entry)) s))) (sideCount (given (now (outline .entry)) (now («hit_at» .entry)) (now (hit .entry)) (now («lap_at» .entry)) (now (lap .entry)) s)) (rooms (now («slice_at» .entry)) (now (slice .entry)) (now («slice_edition» .entry))) m r (rooms (now («slice_at» .exit)) (now (slice .exit)) (now («slice_edition» .exit))) ⌝ }
+    requires { ⌜ KeptWith (given (now outline) (now «hit_at») (now hit) (now «lap_at») (now lap) (side .cuts)) (now other) side (now order) (now «cut_at») (now cut) (now wholes) (rooms (now «slice_at») (now slice) (now «slice_edition»)) ⌝ }
+    ensures { λ r. ⌜ Kept (given (now (outline .entry)) (now («hit_at» .entry)) (now (hit .entry)) (now («lap_at» .entry)) (now (lap .entry)) (side .cuts)) (now (other .entry)) side (rooms (now («slice_at» .entry)) (now (slice .entry)) (now («slice_edition» .entry))) r (rooms (now («slice_at» .exit)) (now (slice .exit)) (now («slice_edition» .exit))) ⌝ }
 {
-    let count = side(
+    let s = side.cuts;
+    let part = side.part;
+    cut_order::write::write_order(outline, hit_at, hit, lap_at, lap, s, order, cut_at, cut);
+    microdegrees::write_wholes(other, side.other_vc, wholes);
+    along::walk_fronts(
         outline,
-        other,
-        other_vc,
-        hit_at,
-        hit,
-        lap_at,
-        lap,
+        cut_at,
+        cut,
         s,
-        edition,
-        probe,
-        cand_at,
-        cand,
-        cand_edition,
-        inside,
-    );
-    keep(
-        cand_at,
-        cand,
-        cand_edition,
-        inside,
-        count,
+        wholes,
+        side.other_vc,
+        side.edition,
         part,
         slice_at,
         slice,
         slice_edition,
-        m,
+        side.from,
     )
 }
 
-// The same by lists for 8 candidates, which cost little to set up; by lists for 16; by lists for 64; and by lists for the most.
-fn kept_least(
-    outline: &[f64],
-    other: &[f64],
-    other_vc: usize,
-    hit_at: &[usize],
-    hit: &[f64],
-    lap_at: &[usize],
-    lap: &[f64],
-    s: Case,
-    edition: u32,
-    part: Part,
-    slice_at: &mut [usize],
-    slice: &mut [f64],
-    slice_edition: &mut [u32],
-    m: usize,
-) -> usize
-    requires { ⌜ KeptFew 8 (given (now outline) (now «hit_at») (now hit) (now «lap_at») (now lap) s) (now other) «other_vc» (rooms (now «slice_at») (now slice) (now «slice_edition»)) m ⌝ }
-    ensures { λ r. ⌜ Wrote (keptTo (sideCands (given (now (outline .entry)) (now («hit_at» .entry)) (now (hit .entry)) (now («lap_at» .entry)) (now (lap .entry)) s) (now (other .entry)) «other_vc» edition) part (sideCount (given (now (outline .entry)) (now («hit_at» .entry)) (now (hit .entry)) (now («lap_at» .entry)) (now (lap .entry)) s))) (sideCount (given (now (outline .entry)) (now («hit_at» .entry)) (now (hit .entry)) (now («lap_at» .entry)) (now (lap .entry)) s)) (rooms (now («slice_at» .entry)) (now (slice .entry)) (now («slice_edition» .entry))) m r (rooms (now («slice_at» .exit)) (now (slice .exit)) (now («slice_edition» .exit))) ⌝ }
-{
-    let mut probe = [0.0f64; 48];
-    let mut cand_at = [0usize; 16];
-    let mut cand = [0.0f64; 48];
-    let mut cand_edition = [0u32; 8];
-    let mut inside = [0u8; 8];
-    kept_with(
-        outline,
-        other,
-        other_vc,
-        hit_at,
-        hit,
-        lap_at,
-        lap,
-        s,
-        edition,
-        part,
-        &mut probe,
-        &mut cand_at,
-        &mut cand,
-        &mut cand_edition,
-        &mut inside,
-        slice_at,
-        slice,
-        slice_edition,
-        m,
-    )
-}
-
-fn kept_small(
-    outline: &[f64],
-    other: &[f64],
-    other_vc: usize,
-    hit_at: &[usize],
-    hit: &[f64],
-    lap_at: &[usize],
-    lap: &[f64],
-    s: Case,
-    edition: u32,
-    part: Part,
-    slice_at: &mut [usize],
-    slice: &mut [f64],
-    slice_edition: &mut [u32],
-    m: usize,
-) -> usize
-    requires { ⌜ KeptFew 16 (given (now outline) (now «hit_at») (now hit) (now «lap_at») (now lap) s) (now other) «other_vc» (rooms (now «slice_at») (now slice) (now «slice_edition»)) m ⌝ }
-    ensures { λ r. ⌜ Wrote (keptTo (sideCands (given (now (outline .entry)) (now («hit_at» .entry)) (now (hit .entry)) (now («lap_at» .entry)) (now (lap .entry)) s) (now (other .entry)) «other_vc» edition) part (sideCount (given (now (outline .entry)) (now («hit_at» .entry)) (now (hit .entry)) (now («lap_at» .entry)) (now (lap .entry)) s))) (sideCount (given (now (outline .entry)) (now («hit_at» .entry)) (now (hit .entry)) (now («lap_at» .entry)) (now (lap .entry)) s)) (rooms (now («slice_at» .entry)) (now (slice .entry)) (now («slice_edition» .entry))) m r (rooms (now («slice_at» .exit)) (now (slice .exit)) (now («slice_edition» .exit))) ⌝ }
-{
-    let mut probe = [0.0f64; 96];
-    let mut cand_at = [0usize; 32];
-    let mut cand = [0.0f64; 96];
-    let mut cand_edition = [0u32; 16];
-    let mut inside = [0u8; 16];
-    kept_with(
-        outline,
-        other,
-        other_vc,
-        hit_at,
-        hit,
-        lap_at,
-        lap,
-        s,
-        edition,
-        part,
-        &mut probe,
-        &mut cand_at,
-        &mut cand,
-        &mut cand_edition,
-        &mut inside,
-        slice_at,
-        slice,
-        slice_edition,
-        m,
-    )
-}
-
+// The same by lists for 16 cuts and 32 vertices, which cost little to set up; by lists for 64 and 128; and by lists for the most.
 fn kept_few(
     outline: &[f64],
     other: &[f64],
-    other_vc: usize,
     hit_at: &[usize],
     hit: &[f64],
     lap_at: &[usize],
     lap: &[f64],
-    s: Case,
-    edition: u32,
-    part: Part,
+    side: Side,
     slice_at: &mut [usize],
     slice: &mut [f64],
     slice_edition: &mut [u32],
-    m: usize,
 ) -> usize
-    requires { ⌜ KeptFew 64 (given (now outline) (now «hit_at») (now hit) (now «lap_at») (now lap) s) (now other) «other_vc» (rooms (now «slice_at») (now slice) (now «slice_edition»)) m ⌝ }
-    ensures { λ r. ⌜ Wrote (keptTo (sideCands (given (now (outline .entry)) (now («hit_at» .entry)) (now (hit .entry)) (now («lap_at» .entry)) (now (lap .entry)) s) (now (other .entry)) «other_vc» edition) part (sideCount (given (now (outline .entry)) (now («hit_at» .entry)) (now (hit .entry)) (now («lap_at» .entry)) (now (lap .entry)) s))) (sideCount (given (now (outline .entry)) (now («hit_at» .entry)) (now (hit .entry)) (now («lap_at» .entry)) (now (lap .entry)) s)) (rooms (now («slice_at» .entry)) (now (slice .entry)) (now («slice_edition» .entry))) m r (rooms (now («slice_at» .exit)) (now (slice .exit)) (now («slice_edition» .exit))) ⌝ }
+    requires { ⌜ KeptFew 16 32 (given (now outline) (now «hit_at») (now hit) (now «lap_at») (now lap) (side .cuts)) (now other) side (rooms (now «slice_at») (now slice) (now «slice_edition»)) ⌝ }
+    ensures { λ r. ⌜ Kept (given (now (outline .entry)) (now («hit_at» .entry)) (now (hit .entry)) (now («lap_at» .entry)) (now (lap .entry)) (side .cuts)) (now (other .entry)) side (rooms (now («slice_at» .entry)) (now (slice .entry)) (now («slice_edition» .entry))) r (rooms (now («slice_at» .exit)) (now (slice .exit)) (now («slice_edition» .exit))) ⌝ }
 {
-    let mut probe = [0.0f64; 384];
-    let mut cand_at = [0usize; 128];
-    let mut cand = [0.0f64; 384];
-    let mut cand_edition = [0u32; 64];
-    let mut inside = [0u8; 64];
+    let mut order = [0usize; 16];
+    let mut cut_at = [0usize; 48];
+    let mut cut = [0.0f64; 32];
+    let mut wholes = [0i64; 64];
     kept_with(
         outline,
         other,
-        other_vc,
         hit_at,
         hit,
         lap_at,
         lap,
-        s,
-        edition,
-        part,
-        &mut probe,
-        &mut cand_at,
-        &mut cand,
-        &mut cand_edition,
-        &mut inside,
+        side,
+        &mut order,
+        &mut cut_at,
+        &mut cut,
+        &mut wholes,
         slice_at,
         slice,
         slice_edition,
-        m,
+    )
+}
+
+fn kept_some(
+    outline: &[f64],
+    other: &[f64],
+    hit_at: &[usize],
+    hit: &[f64],
+    lap_at: &[usize],
+    lap: &[f64],
+    side: Side,
+    slice_at: &mut [usize],
+    slice: &mut [f64],
+    slice_edition: &mut [u32],
+) -> usize
+    requires { ⌜ KeptFew 64 128 (given (now outline) (now «hit_at») (now hit) (now «lap_at») (now lap) (side .cuts)) (now other) side (rooms (now «slice_at») (now slice) (now «slice_edition»)) ⌝ }
+    ensures { λ r. ⌜ Kept (given (now (outline .entry)) (now («hit_at» .entry)) (now (hit .entry)) (now («lap_at» .entry)) (now (lap .entry)) (side .cuts)) (now (other .entry)) side (rooms (now («slice_at» .entry)) (now (slice .entry)) (now («slice_edition» .entry))) r (rooms (now («slice_at» .exit)) (now (slice .exit)) (now («slice_edition» .exit))) ⌝ }
+{
+    let mut order = [0usize; 64];
+    let mut cut_at = [0usize; 192];
+    let mut cut = [0.0f64; 128];
+    let mut wholes = [0i64; 256];
+    kept_with(
+        outline,
+        other,
+        hit_at,
+        hit,
+        lap_at,
+        lap,
+        side,
+        &mut order,
+        &mut cut_at,
+        &mut cut,
+        &mut wholes,
+        slice_at,
+        slice,
+        slice_edition,
     )
 }
 
 fn kept_many(
     outline: &[f64],
     other: &[f64],
-    other_vc: usize,
     hit_at: &[usize],
     hit: &[f64],
     lap_at: &[usize],
     lap: &[f64],
-    s: Case,
-    edition: u32,
-    part: Part,
+    side: Side,
     slice_at: &mut [usize],
     slice: &mut [f64],
     slice_edition: &mut [u32],
-    m: usize,
 ) -> usize
-    requires { ⌜ KeptRoom (given (now outline) (now «hit_at») (now hit) (now «lap_at») (now lap) s) (now other) «other_vc» (rooms (now «slice_at») (now slice) (now «slice_edition»)) m ⌝ }
-    ensures { λ r. ⌜ Wrote (keptTo (sideCands (given (now (outline .entry)) (now («hit_at» .entry)) (now (hit .entry)) (now («lap_at» .entry)) (now (lap .entry)) s) (now (other .entry)) «other_vc» edition) part (sideCount (given (now (outline .entry)) (now («hit_at» .entry)) (now (hit .entry)) (now («lap_at» .entry)) (now (lap .entry)) s))) (sideCount (given (now (outline .entry)) (now («hit_at» .entry)) (now (hit .entry)) (now («lap_at» .entry)) (now (lap .entry)) s)) (rooms (now («slice_at» .entry)) (now (slice .entry)) (now («slice_edition» .entry))) m r (rooms (now («slice_at» .exit)) (now (slice .exit)) (now («slice_edition» .exit))) ⌝ }
+    requires { ⌜ KeptRoom (given (now outline) (now «hit_at») (now hit) (now «lap_at») (now lap) (side .cuts)) (now other) side (rooms (now «slice_at») (now slice) (now «slice_edition»)) ⌝ }
+    ensures { λ r. ⌜ Kept (given (now (outline .entry)) (now («hit_at» .entry)) (now (hit .entry)) (now («lap_at» .entry)) (now (lap .entry)) (side .cuts)) (now (other .entry)) side (rooms (now («slice_at» .entry)) (now (slice .entry)) (now («slice_edition» .entry))) r (rooms (now («slice_at» .exit)) (now (slice .exit)) (now («slice_edition» .exit))) ⌝ }
 {
-    let mut probe = [0.0f64; 6 * MOST_CANDIDATES];
-    let mut cand_at = [0usize; 2 * MOST_CANDIDATES];
-    let mut cand = [0.0f64; 6 * MOST_CANDIDATES];
-    let mut cand_edition = [0u32; MOST_CANDIDATES];
-    let mut inside = [0u8; MOST_CANDIDATES];
+    let mut order = [0usize; MOST_CANDIDATES];
+    let mut cut_at = [0usize; 3 * MOST_CANDIDATES];
+    let mut cut = [0.0f64; 2 * MOST_CANDIDATES];
+    let mut wholes = [0i64; 2 * MOST_VERTICES];
     kept_with(
         outline,
         other,
-        other_vc,
         hit_at,
         hit,
         lap_at,
         lap,
-        s,
-        edition,
-        part,
-        &mut probe,
-        &mut cand_at,
-        &mut cand,
-        &mut cand_edition,
-        &mut inside,
+        side,
+        &mut order,
+        &mut cut_at,
+        &mut cut,
+        &mut wholes,
         slice_at,
         slice,
         slice_edition,
-        m,
     )
 }
 
-// Writes the slices of one outline from number m on, and says where they end.
-pub fn kept(
+// Whether lists for so many cuts and so many vertices will do.
+fn fits(side: Side, cuts: usize, vertices: usize) -> bool
+    requires { ⌜ FewCuts (side .cuts .hits + 2 * side .cuts .laps) ⌝ }
+    ensures { λ r. ⌜ Fits side cuts vertices r ⌝ }
+{
+    if side.cuts.hits + 2 * side.cuts.laps <= cuts {
+        if side.other_vc <= vertices {
+            return true;
+        }
+    }
+    false
+}
+
+// Writes the slices of an outline with more cuts or vertices than the smallest lists hold.
+fn kept_more(
     outline: &[f64],
     other: &[f64],
-    other_vc: usize,
     hit_at: &[usize],
     hit: &[f64],
     lap_at: &[usize],
     lap: &[f64],
-    s: Case,
-    edition: u32,
-    part: Part,
+    side: Side,
     slice_at: &mut [usize],
     slice: &mut [f64],
     slice_edition: &mut [u32],
-    m: usize,
 ) -> usize
-    requires { ⌜ KeptRoom (given (now outline) (now «hit_at») (now hit) (now «lap_at») (now lap) s) (now other) «other_vc» (rooms (now «slice_at») (now slice) (now «slice_edition»)) m ⌝ }
-    ensures { λ r. ⌜ Wrote (keptTo (sideCands (given (now (outline .entry)) (now («hit_at» .entry)) (now (hit .entry)) (now («lap_at» .entry)) (now (lap .entry)) s) (now (other .entry)) «other_vc» edition) part (sideCount (given (now (outline .entry)) (now («hit_at» .entry)) (now (hit .entry)) (now («lap_at» .entry)) (now (lap .entry)) s))) (sideCount (given (now (outline .entry)) (now («hit_at» .entry)) (now (hit .entry)) (now («lap_at» .entry)) (now (lap .entry)) s)) (rooms (now («slice_at» .entry)) (now (slice .entry)) (now («slice_edition» .entry))) m r (rooms (now («slice_at» .exit)) (now (slice .exit)) (now («slice_edition» .exit))) ⌝ }
+    requires { ⌜ KeptRoom (given (now outline) (now «hit_at») (now hit) (now «lap_at») (now lap) (side .cuts)) (now other) side (rooms (now «slice_at») (now slice) (now «slice_edition»)) ⌝ }
+    ensures { λ r. ⌜ Kept (given (now (outline .entry)) (now («hit_at» .entry)) (now (hit .entry)) (now («lap_at» .entry)) (now (lap .entry)) (side .cuts)) (now (other .entry)) side (rooms (now («slice_at» .entry)) (now (slice .entry)) (now («slice_edition» .entry))) r (rooms (now («slice_at» .exit)) (now (slice .exit)) (now («slice_edition» .exit))) ⌝ }
 {
-    if s.hits > 64 {
-        return kept_many(
+    if fits(side, 64, 128) {
+        return kept_some(
             outline,
             other,
-            other_vc,
             hit_at,
             hit,
             lap_at,
             lap,
-            s,
-            edition,
-            part,
+            side,
             slice_at,
             slice,
             slice_edition,
-            m,
         );
     }
-    let count = s.hits + 2 * s.laps;
-    if count > 64 {
-        return kept_many(
-            outline,
-            other,
-            other_vc,
-            hit_at,
-            hit,
-            lap_at,
-            lap,
-            s,
-            edition,
-            part,
-            slice_at,
-            slice,
-            slice_edition,
-            m,
-        );
-    }
-    if count > 16 {
-        return kept_few(
-            outline,
-            other,
-            other_vc,
-            hit_at,
-            hit,
-            lap_at,
-            lap,
-            s,
-            edition,
-            part,
-            slice_at,
-            slice,
-            slice_edition,
-            m,
-        );
-    }
-    if count > 8 {
-        return kept_small(
-            outline,
-            other,
-            other_vc,
-            hit_at,
-            hit,
-            lap_at,
-            lap,
-            s,
-            edition,
-            part,
-            slice_at,
-            slice,
-            slice_edition,
-            m,
-        );
-    }
-    kept_least(
+    kept_many(
         outline,
         other,
-        other_vc,
         hit_at,
         hit,
         lap_at,
         lap,
-        s,
-        edition,
-        part,
+        side,
         slice_at,
         slice,
         slice_edition,
-        m,
+    )
+}
+
+// Writes the slices of one outline, and says where they end.
+pub fn kept(
+    outline: &[f64],
+    other: &[f64],
+    hit_at: &[usize],
+    hit: &[f64],
+    lap_at: &[usize],
+    lap: &[f64],
+    side: Side,
+    slice_at: &mut [usize],
+    slice: &mut [f64],
+    slice_edition: &mut [u32],
+) -> usize
+    requires { ⌜ KeptRoom (given (now outline) (now «hit_at») (now hit) (now «lap_at») (now lap) (side .cuts)) (now other) side (rooms (now «slice_at») (now slice) (now «slice_edition»)) ⌝ }
+    ensures { λ r. ⌜ Kept (given (now (outline .entry)) (now («hit_at» .entry)) (now (hit .entry)) (now («lap_at» .entry)) (now (lap .entry)) (side .cuts)) (now (other .entry)) side (rooms (now («slice_at» .entry)) (now (slice .entry)) (now («slice_edition» .entry))) r (rooms (now («slice_at» .exit)) (now (slice .exit)) (now («slice_edition» .exit))) ⌝ }
+{
+    if fits(side, 16, 32) {
+        return kept_few(
+            outline,
+            other,
+            hit_at,
+            hit,
+            lap_at,
+            lap,
+            side,
+            slice_at,
+            slice,
+            slice_edition,
+        );
+    }
+    kept_more(
+        outline,
+        other,
+        hit_at,
+        hit,
+        lap_at,
+        lap,
+        side,
+        slice_at,
+        slice,
+        slice_edition,
     )
 }

@@ -1,21 +1,22 @@
 -- Laws by which the slices of both outlines are written: what each outline needs, and that both with the overlaps make the call of `mask_prune`.
 use Prim.Native.Nat.{ℕ, _+_, _*_, _≤_, zero-le}
 use mathlib.Core.Path.{_≡_, sym, subst}
-use mathlib.Core.List.{List}
 use native.Mathlib.Omega.{arith}
+use Rattle.cut.specs.Cuts as cuts
 use Rattle.candidate_write.specs.CandidateTheorems.{count-most}
-use Rattle.slice.specs.Slice.{Slice}
 use Rattle.slice.specs.Ready.{Rooms, Roomy}
 use Rattle.prune.specs.declared.call.Call.{Call}
+use Rattle.prune.specs.declared.mode.Part.{Part}
 use Rattle.prune.specs.declared.mode.Parts.{Parts}
 use Rattle.prune.specs.declared.counts.Ends.{Ends}
 use Rattle.prune.specs.declared.counts.Pruned.{Pruned}
 use Rattle.prune.specs.Prune.{keptTo, partsFor, overlaps}
 use Rattle.prune_write.specs.Ready.{Wrote, BothWritten, FinishFit, Finished, WrittenTo}
 use Rattle.prune_write.specs.WriteLaws.{both-of, written-to}
+use Rattle.straight_side.specs.declared.keeping.Side.{Side}
 use Rattle.straight_side.specs.Side.{alongStraight, sideCount}
-use Rattle.straight_side.specs.Ready.{KeptRoom}
-use Rattle.straight_slices.specs.Slices.{Given, firstCuts, secondCuts, firstCands, secondCands, pruning, mostCall, needAll}
+use Rattle.straight_side.specs.Ready.{KeptRoom, Kept}
+use Rattle.straight_slices.specs.Slices.{Given, firstCuts, secondCuts, firstSide, secondSide, firstCands, secondCands, pruning, mostCall, needAll}
 use Rattle.straight_slices.specs.Ready.{SidesRoom, Accepted}
 
 -- there are no more candidates than cuts
@@ -27,29 +28,48 @@ second-few g = count-most (alongStraight (secondCuts g))
 
 -- ---- one outline behind the other
 module _ (g : Given) (room : Rooms) (k : SidesRoom g room) where
-  pub first-room : KeptRoom (firstCuts g) (g .outline2) (g .job .vc2) room 0
-  first-room =
-      let r = k .roomy in
-      record {
-        both = k .first;
-        low = zero-le;
-        roomy = record { at = omega (arith, r .at); shape = omega (arith, r .shape); edition = omega (arith, r .edition) };
-      }
+  -- the cuts of either outline by what its turn says
+  abbrev ofFirst : Side → cuts.Given
+  ofFirst s = cuts.given (g .outline1) (g .hitAt) (g .hit) (g .lapAt) (g .lap) (s .cuts)
 
-  pub second-room : (s : List Slice) (n : ℕ) (room₁ : Rooms) → Wrote s (sideCount (firstCuts g)) room 0 n room₁ → KeptRoom (secondCuts g) (g .outline1) (g .job .vc1) room₁ n
-  second-room s n room₁ w =
-      let r = k .roomy in
-      let f = first-few g in
-      let c = k .first .accepted .ready in
-      record {
-        both = k .second;
-        low = omega (arith, w .few, c .fewHits, c .fewLaps);
-        roomy = record { at = omega (arith, r .at, w .few, w .size-at); shape = omega (arith, r .shape, w .few, w .size-shape); edition = omega (arith, r .edition, w .few, w .size-edition) };
-      }
+  abbrev ofSecond : Side → cuts.Given
+  ofSecond s = cuts.given (g .outline2) (g .hitAt) (g .hit) (g .lapAt) (g .lap) (s .cuts)
 
-  pub both-made : (l₁ l₂ : Rooms) (a b : ℕ) (p : Parts) → p ≡ partsFor (pruning g .call) → Wrote (keptTo (firstCands g) (p .first) (sideCount (firstCuts g))) (sideCount (firstCuts g)) room 0 a l₁
-      → Wrote (keptTo (secondCands g) (p .second) (sideCount (secondCuts g))) (sideCount (secondCuts g)) l₁ a b l₂ → BothWritten (pruning g .call) (firstCands g) (secondCands g) room (record { first = a; second = b }) l₂
-  both-made l₁ l₂ a b p e x y = both-of (pruning g .call) (firstCands g) (secondCands g) room l₁ a p l₂ b e x y
+  module _ (p : Part) (one : Side) (is : one ≡ firstSide (g .job) p) where
+    pub first-room : KeptRoom (ofFirst one) (g .outline2) one room
+    first-room =
+        let r = k .roomy in
+        subst (λ (s : Side). KeptRoom (ofFirst s) (g .outline2) s room) (sym is)
+        (record {
+          both = k .first;
+          low = zero-le;
+          roomy = record { at = omega (arith, r .at); shape = omega (arith, r .shape); edition = omega (arith, r .edition) };
+        })
+
+    module _ (n : ℕ) (room₁ : Rooms) (x₀ : Kept (ofFirst one) (g .outline2) one room n room₁) where
+      x : Kept (firstCuts g) (g .outline2) (firstSide (g .job) p) room n room₁
+      x = subst (λ (s : Side). Kept (ofFirst s) (g .outline2) s room n room₁) is x₀
+
+      module _ (q : Part) (two : Side) (is₂ : two ≡ secondSide (g .job) q n) where
+        pub second-room : KeptRoom (ofSecond two) (g .outline1) two room₁
+        second-room =
+            let r = k .roomy in
+            let f = first-few g in
+            let c = k .first .accepted .ready in
+            subst (λ (s : Side). KeptRoom (ofSecond s) (g .outline1) s room₁) (sym is₂)
+            (record {
+              both = k .second;
+              low = omega (arith, x .few, c .fewHits, c .fewLaps);
+              roomy = record { at = omega (arith, r .at, x .few, x .size-at); shape = omega (arith, r .shape, x .few, x .size-shape); edition = omega (arith, r .edition, x .few, x .size-edition) };
+            })
+
+        pub both-made : (ps : Parts) → ps ≡ partsFor (pruning g .call) → p ≡ ps .first → q ≡ ps .second → (b : ℕ) (room₂ : Rooms) → Kept (ofSecond two) (g .outline1) two room₁ b room₂
+            → BothWritten (pruning g .call) (firstCands g) (secondCands g) room (record { first = n; second = b }) room₂
+        both-made ps e u v b room₂ y₀ =
+            let y : Kept (secondCuts g) (g .outline1) (secondSide (g .job) q n) room₁ b room₂ = subst (λ (s : Side). Kept (ofSecond s) (g .outline1) s room₁ b room₂) is₂ y₀ in
+            both-of (pruning g .call) (firstCands g) (secondCands g) room room₁ n ps room₂ b e
+            (subst (λ (z : Part). Wrote (keptTo (firstCands g) z (sideCount (firstCuts g))) (sideCount (firstCuts g)) room 0 n room₁) u x)
+            (subst (λ (z : Part). Wrote (keptTo (secondCands g) z (sideCount (secondCuts g))) (sideCount (secondCuts g)) room₁ n b room₂) v y)
 
 -- ---- then the overlaps twice, and zero up to the need
 module _ (g : Given) (call : Call) (l l₁ : Rooms) (kept : Ends) (k : Accepted g call l) (w : BothWritten (pruning g .call) (firstCands g) (secondCands g) l kept l₁) where

@@ -7,9 +7,11 @@ use Rattle.cut.specs.declared.arrival.Case.{Case}
 use Rattle.cut.specs.Cuts as cuts
 use Rattle.cut.specs.Cuts.{caseOf}
 use Rattle.prune.specs.declared.call.Call.{Call}
+use Rattle.prune.specs.declared.mode.Part.{Part}
 use Rattle.prune.specs.Prune as prune
 use Rattle.prune.specs.Prune.{callOf, overlaps, needOf}
 use Rattle.straight_slices.specs.declared.job.Job.{Job}
+use Rattle.straight_side.specs.declared.keeping.Side.{Side}
 use Rattle.straight_side.specs.Side.{sideCount, sideCands}
 
 -- the numbers, of the entry's parameters in their order
@@ -43,6 +45,13 @@ firstCuts g = cuts.given (g .outline1) (g .hitAt) (g .hit) (g .lapAt) (g .lap) (
 
 abbrev pub secondCuts : Given → cuts.Given
 secondCuts g = cuts.given (g .outline2) (g .hitAt) (g .hit) (g .lapAt) (g .lap) (secondCase (g .job))
+
+-- the turn of each outline: its cuts beside the other outline, and from which slice number on
+abbrev pub firstSide : Job → Part → Side
+firstSide j part = record { cuts = firstCase j; «other_vc» = j .vc2; edition = j .edition1; part = part; from = 0 }
+
+abbrev pub secondSide : Job → Part → ℕ → Side
+secondSide j part from = record { cuts = secondCase j; «other_vc» = j .vc1; edition = j .edition2; part = part; from = from }
 
 -- their candidates, each asked whether it is inside the OTHER outline
 abbrev pub firstCands : Given → prune.Cands

@@ -3,7 +3,7 @@ ghost use mathlib.Core.Path.{_≡_};
 ghost use mathlib.Core.List.{[]};
 ghost use Rattle.slice.specs.Ready.{rooms};
 ghost use Rattle.prune_write.specs.Ready.{BothWritten, WrittenTo};
-ghost use Rattle.straight_slices.specs.Slices.{given, firstCands, secondCands, pruning, needAll};
+ghost use Rattle.straight_slices.specs.Slices.{given, firstSide, secondSide, firstCands, secondCands, pruning, needAll};
 ghost use Rattle.straight_slices.specs.Ready.{SidesRoom, Accepted};
 use crate::job::Job;
 use cut::arrival::Case;
@@ -11,8 +11,52 @@ use prune::call::Call;
 use prune::counts::Ends;
 use prune::counts::Pruned;
 use prune::mode;
+use prune::mode::Part;
 use prune_write::write;
-use straight_side::keeping;
+use straight_side::keeping::Side;
+use straight_side::keeping::kept;
+
+// The turn of outline 1: its slices stand in front.
+fn first_side(job: Job, part: Part) -> Side
+    ensures { λ r. ⌜ r ≡ firstSide job part ⌝ }
+{
+    let tolerance = job.tolerance;
+    let cuts = Case {
+        vc: job.vc1,
+        source: 1,
+        hits: job.hits,
+        laps: job.laps,
+        tolerance,
+    };
+    Side {
+        cuts,
+        other_vc: job.vc2,
+        edition: job.edition1,
+        part,
+        from: 0,
+    }
+}
+
+// The turn of outline 2: its slices stand behind those of outline 1.
+fn second_side(job: Job, part: Part, from: usize) -> Side
+    ensures { λ r. ⌜ r ≡ secondSide job part from ⌝ }
+{
+    let tolerance = job.tolerance;
+    let cuts = Case {
+        vc: job.vc2,
+        source: 2,
+        hits: job.hits,
+        laps: job.laps,
+        tolerance,
+    };
+    Side {
+        cuts,
+        other_vc: job.vc1,
+        edition: job.edition2,
+        part,
+        from,
+    }
+}
 
 // What stays of both outlines, from the front, and where each ends. The overlaps' editions are not looked at here.
 fn both_sides(
@@ -31,54 +75,31 @@ fn both_sides(
     ensures { λ r. ⌜ BothWritten (pruning (given job (now (outline1 .entry)) (now (outline2 .entry)) (now («hit_at» .entry)) (now (hit .entry)) (now («lap_at» .entry)) (now (lap .entry)) []) .call) (firstCands (given job (now (outline1 .entry)) (now (outline2 .entry)) (now («hit_at» .entry)) (now (hit .entry)) (now («lap_at» .entry)) (now (lap .entry)) [])) (secondCands (given job (now (outline1 .entry)) (now (outline2 .entry)) (now («hit_at» .entry)) (now (hit .entry)) (now («lap_at» .entry)) (now (lap .entry)) [])) (rooms (now («slice_at» .entry)) (now (slice .entry)) (now («slice_edition» .entry))) r (rooms (now («slice_at» .exit)) (now (slice .exit)) (now («slice_edition» .exit))) ⌝ }
 {
     let parts = mode::parts_of(job.mode, job.opposing == 1);
-    let first = parts.first;
-    let second = parts.second;
-    let tolerance = job.tolerance;
-    let one = Case {
-        vc: job.vc1,
-        source: 1,
-        hits: job.hits,
-        laps: job.laps,
-        tolerance,
-    };
-    let two = Case {
-        vc: job.vc2,
-        source: 2,
-        hits: job.hits,
-        laps: job.laps,
-        tolerance,
-    };
-    let a = keeping::kept(
+    let one = first_side(job, parts.first);
+    let a = kept(
         outline1,
         outline2,
-        job.vc2,
         hit_at,
         hit,
         lap_at,
         lap,
         one,
-        job.edition1,
-        first,
         slice_at,
         slice,
         slice_edition,
-        0,
     );
-    let b = keeping::kept(
+    let two = second_side(job, parts.second, a);
+    let b = kept(
         outline2,
         outline1,
-        job.vc1,
         hit_at,
         hit,
         lap_at,
         lap,
         two,
-        job.edition2,
-        second,
         slice_at,
         slice,
         slice_edition,
-        a,
     );
     Ends {
         first: a,

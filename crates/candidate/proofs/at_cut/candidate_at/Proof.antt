@@ -1,6 +1,6 @@
 use Rattle.basis.specs.Choice.{cases}
 use Rattle.candidate.specs.Candidates.{candidateAt}
-use Rattle.candidate.proofs.Placing.{places, place-last}
+use Rattle.candidate.specs.PlaceLaws.{places, place-last}
 use borrow.Author.Needs.{needs}
 use Rattle.candidate.proofs.at_cut.candidate_at.Statement.{statement}
 use Rattle.candidate.proofs.at_cut.candidate_at.Tie as tie

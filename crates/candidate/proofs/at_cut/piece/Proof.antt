@@ -1,4 +1,4 @@
-use Rattle.candidate.proofs.Placing.{pieces}
+use Rattle.candidate.specs.PlaceLaws.{pieces}
 use borrow.Author.Needs.{needs}
 use Rattle.candidate.proofs.at_cut.piece.Statement.{statement}
 use Rattle.candidate.proofs.at_cut.piece.Tie as tie

@@ -1,4 +1,4 @@
-use Rattle.candidate.proofs.Placing.{walk-read}
+use Rattle.candidate.specs.PlaceLaws.{walk-read}
 use borrow.Author.Needs.{needs}
 use Rattle.candidate.proofs.at_cut.walk_by.Statement.{statement}
 use Rattle.candidate.proofs.at_cut.walk_by.Tie as tie

@@ -1,4 +1,4 @@
-use Rattle.candidate.proofs.Placing.{walks}
+use Rattle.candidate.specs.PlaceLaws.{walks}
 use borrow.Author.Needs.{needs}
 use Rattle.candidate.proofs.at_cut.walk_candidate.Statement.{statement}
 use Rattle.candidate.proofs.at_cut.walk_candidate.Tie as tie
