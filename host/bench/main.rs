@@ -2,7 +2,7 @@
 //!
 //! `bench FILE.svg` prints tables of ratios, and writes the plot of times against sizes to the file.
 //! `bench straight` prints only the tables of straight masks.
-//! `bench once` and `bench once straight` are what they start, some times over; `bench once stitch` times the stitch alone.
+//! `bench once` and `bench once straight` are what they start, some times over; `bench once STAGE` times one stage alone.
 //! `bench repeat STAGE INPUT SIZE` makes one of our calls again and again, for a profiler.
 
 mod ours;
@@ -30,7 +30,7 @@ use std::hint::black_box;
 use std::process::Command;
 use std::time::{Duration, Instant};
 use tables::Table;
-use timing::measure;
+use timing::{measure, measure_growth};
 
 /// How many processes time all stages, one after the other.
 const PROCESSES: usize = 7;
@@ -40,6 +40,9 @@ const FIRST_MINUS_SECOND: u32 = 2;
 /// The most intersections are 512; with the most overlaps there are 768 cuts.
 const CUT_SIZES: [usize; 6] = [4, 16, 64, 256, 512, MOST_CUTS];
 const MOST_CUTS: usize = 768;
+/// Sizes whose time is put beside the time at twice the size.
+const CUT_GROWTH: [usize; 5] = [4, 16, 64, 128, 256];
+const SLICE_GROWTH: [usize; 6] = [4, 16, 64, 256, 512, MOST_SLICES / 2];
 const SLICE_SIZES: [usize; 6] = [4, 16, 64, 256, 1024, MOST_SLICES];
 const MOST_SLICES: usize = 1792;
 /// The slices of a star are as many as its corners, of which an outline has at most so many.
@@ -60,7 +63,18 @@ struct Input {
 impl Input {
     fn new(outlines: Outlines, cuts: usize) -> Input {
         let shared = scan::Shared::find(&outlines, TOLERANCE);
-        let pair = shared.pair(&outlines);
+        Input::of(&outlines, shared, cuts)
+    }
+
+    /// The same with the intersections listed in a shuffled order.
+    fn shuffled(outlines: Outlines, cuts: usize) -> Input {
+        let mut shared = scan::Shared::find(&outlines, TOLERANCE);
+        shared.shuffle();
+        Input::of(&outlines, shared, cuts)
+    }
+
+    fn of(outlines: &Outlines, shared: scan::Shared, cuts: usize) -> Input {
+        let pair = shared.pair(outlines);
         assert_eq!(
             pair.cuts(),
             cuts,
@@ -118,6 +132,53 @@ fn families() -> [Family; 3] {
     ]
 }
 
+type MakeInput = fn(usize) -> Input;
+
+/// Shapes by name: the outline that is looked at, how it is made, and the smallest size.
+const SHAPES: [(&str, usize, MakeInput, usize); 5] = [
+    (
+        "comb, shuffled",
+        1,
+        |n| Input::shuffled(shapes::comb(n), n),
+        4,
+    ),
+    (
+        "comb from the other side",
+        1,
+        |n| Input::new(shapes::other_comb(n), n),
+        4,
+    ),
+    (
+        "two vertical sides",
+        1,
+        |n| Input::new(shapes::upright_comb(n), n),
+        4,
+    ),
+    (
+        "all on one line",
+        1,
+        |n| Input::new(shapes::one_line_comb(n), n),
+        4,
+    ),
+    (
+        "two rings of equal radii",
+        0,
+        |n| Input::new(shapes::two_rings(n), n),
+        16,
+    ),
+];
+
+fn more_families() -> [Family; 5] {
+    SHAPES.map(|(name, outline, make, least)| {
+        let sizes = CUT_SIZES[..5].iter().filter(|size| **size >= least);
+        Family {
+            name,
+            outline,
+            inputs: sizes.map(|size| (*size, make(*size))).collect(),
+        }
+    })
+}
+
 fn check_order(input: &Input, outline: usize, room: &CutRoom) {
     let theirs = input.shared.listed_order(&input.order, outline);
     assert_eq!(theirs.len(), input.pair.cuts());
@@ -140,6 +201,25 @@ fn cut_order(families: &[Family]) {
             ]);
             tables::tell(tables::ORDER, family.name, *size, times.ratio(0, 1));
             plot::tell(plot::ORDER, family.name, *size, &times);
+        }
+    }
+}
+
+/// How the time of a cut order grows with the number of cuts.
+fn cut_order_growth() {
+    let star: MakeInput = |n| Input::new(shapes::star(n), n);
+    let comb: MakeInput = |n| Input::new(shapes::comb(n), n);
+    let mut all = vec![("star", 0, star, 4), ("comb", 1, comb, 4)];
+    all.extend(SHAPES);
+    for (name, outline, make, least) in all {
+        for size in CUT_GROWTH.into_iter().filter(|size| *size >= least) {
+            let inputs = [size, 2 * size].map(make);
+            let [mut room1, mut room2] = [size, 2 * size].map(CutRoom::new);
+            let times = measure_growth(&mut [
+                &mut || ours::cut_order(black_box(&inputs[0].pair), outline, &mut room1),
+                &mut || ours::cut_order(black_box(&inputs[1].pair), outline, &mut room2),
+            ]);
+            tables::tell(tables::ORDER_GROWTH, name, size, times.ratio(1, 0));
         }
     }
 }
@@ -441,19 +521,52 @@ fn stitch() {
     }
 }
 
+/// How the time of a stitch grows with the number of slices.
+fn stitch_growth() {
+    for (name, make, most) in JOBS {
+        for size in SLICE_GROWTH.into_iter().filter(|size| 2 * size <= most) {
+            let jobs = [size, 2 * size].map(make);
+            let [mut room1, mut room2] = jobs.each_ref().map(|job| StitchRoom::new(&job.slices));
+            let record = Record::new(TOLERANCE, 0.0);
+            let ours = |job: &Job, room: &mut StitchRoom| {
+                let slices = black_box(&job.slices);
+                done(ours::stitch(
+                    &job.outlines,
+                    slices,
+                    job.selector,
+                    &record,
+                    room,
+                ));
+            };
+            let times = measure_growth(&mut [&mut || ours(&jobs[0], &mut room1), &mut || {
+                ours(&jobs[1], &mut room2);
+            }]);
+            tables::tell(tables::STITCH_GROWTH, name, size, times.ratio(1, 0));
+        }
+    }
+}
+
+/// Areas of which two of five are below 2.
+fn areas_of(loops: usize) -> Vec<f64> {
+    (0..loops).map(|i| (i * 7 % 5) as f64).collect()
+}
+
+/// A plain loop over the areas, which looks for no refusal: the numbers of those that stay, into a list that has the room already.
+fn plain_area_pass(areas: &[f64], limit: f64, list: &mut Vec<usize>) {
+    list.clear();
+    let stays = |(i, area): (usize, &f64)| (!(area.abs() < limit)).then_some(i);
+    list.extend(areas.iter().enumerate().filter_map(stays));
+    black_box(list);
+}
+
 fn area_pass() {
     for size in SLICE_SIZES {
-        let areas: Vec<f64> = (0..size).map(|i| (i * 7 % 5) as f64).collect();
+        let areas = areas_of(size);
         let (mut kept, mut list) = (vec![0; size], Vec::with_capacity(size));
         let record = Record::new(TOLERANCE, 2.0);
         let times = measure(&mut [
             &mut || done(ours::area_pass(black_box(&areas), &record, &mut kept)),
-            &mut || {
-                list.clear();
-                let areas = black_box(&areas).iter().enumerate();
-                list.extend(areas.filter(|(_, area)| **area >= 2.0).map(|(i, _)| i));
-                black_box(&list);
-            },
+            &mut || plain_area_pass(black_box(&areas), black_box(2.0), &mut list),
         ]);
         assert_eq!(kept[..list.len()], list);
         tables::tell(tables::AREA, "two of five dropped", size, times.ratio(0, 1));
@@ -576,6 +689,18 @@ fn repeat(stage: &str, input: &str, size: usize, calls: Option<usize>) {
         _ => panic!("the inputs are star, comb and arcs, and in whole numbers wave and whole"),
     };
     let many = |call: &mut dyn FnMut()| call_again(calls, call);
+    if stage.ends_with("area") {
+        let (areas, record) = (areas_of(size), Record::new(TOLERANCE, 2.0));
+        let (mut kept, mut list) = (vec![0; size], Vec::with_capacity(size));
+        match stage {
+            "area" => many(&mut || done(ours::area_pass(black_box(&areas), &record, &mut kept))),
+            "rust-area" => {
+                many(&mut || plain_area_pass(black_box(&areas), black_box(2.0), &mut list));
+            }
+            _ => panic!("there is no stage {stage}"),
+        }
+        return;
+    }
     if stage.ends_with("stitch") {
         let job = pruned(make(size), UNION);
         let mut room = StitchRoom::new(&job.slices);
@@ -623,12 +748,17 @@ fn repeat(stage: &str, input: &str, size: usize, calls: Option<usize>) {
 
 /// Times every stage, and tells each ratio and time in a line.
 fn time_all() {
-    let families = families();
+    let (families, more) = (families(), more_families());
     cut_order(&families[..2]);
+    cut_order(&more);
+    cut_order_growth();
     candidates(&families);
+    candidates(&more);
     prune(&families);
+    prune(&more);
     straight();
     stitch();
+    stitch_growth();
     area_pass();
     view_vertices();
 }
@@ -670,6 +800,7 @@ fn told(stage: Option<&str>) -> (Vec<Table>, [plot::Panel; 4]) {
 fn compare(to: &str) {
     let (tables, panels) = told(None);
     tables::print_goal(&tables);
+    tables::print_above(&tables);
     tables.iter().for_each(Table::print);
     tables::print_spread(&tables);
     std::fs::write(to, plot::svg(&panels)).expect("the plot cannot be written");
@@ -695,11 +826,16 @@ fn main() {
         ["once"] => time_all(),
         ["once", "straight"] => straight(),
         ["once", "stitch"] => stitch(),
+        ["once", "area"] => area_pass(),
+        ["once", "growth"] => {
+            cut_order_growth();
+            stitch_growth();
+        }
         ["straight"] => compare_straight(),
         [to] => compare(to),
         _ => panic!(
-            "usage: bench FILE.svg, bench [once] straight, bench once [stitch], or bench repeat STAGE \
-             INPUT SIZE [CALLS]"
+            "usage: bench FILE.svg, bench [once] straight, bench once [stitch | area | growth], or \
+             bench repeat STAGE INPUT SIZE [CALLS]"
         ),
     }
 }

@@ -83,6 +83,32 @@ pub fn flat_comb(cuts: usize) -> Outlines {
     [comb, band(right + 1.0)]
 }
 
+/// The comb from the other side: the band is outline 1.
+pub fn other_comb(crossings: usize) -> Outlines {
+    let [comb, band] = comb(crossings);
+    [band, comb]
+}
+
+/// The comb turned by a quarter: the band's two vertical sides have all its cuts.
+pub fn upright_comb(crossings: usize) -> Outlines {
+    let turned = |v: &[f64]| [-v[1], v[0], v[2]];
+    comb(crossings).map(|outline| outline.chunks_exact(3).flat_map(turned).collect())
+}
+
+/// A comb whose teeth end inside of a high band: one line of the band has all its cuts.
+pub fn one_line_comb(crossings: usize) -> Outlines {
+    let [comb, mut band] = comb(2 * crossings);
+    for corner in [0, 1] {
+        band[3 * corner + 1] = -5.0;
+    }
+    [comb, band]
+}
+
+/// Two rings of equal radii, of which each edge crosses two of the other.
+pub fn two_rings(crossings: usize) -> Outlines {
+    [0.0, 0.3].map(|turn| ring(crossings / 2, turn, 0.0, |_| 100.0))
+}
+
 /// Outlines in whole microdegrees, whose crossings are whole too.
 fn whole(outlines: Outlines) -> Outlines {
     outlines.map(|numbers| numbers.iter().map(|n| n * 65_536.0).collect())
@@ -221,16 +247,21 @@ fn chain_by(order: &[usize], point: impl Fn(usize) -> [f64; 2]) -> Slices {
     slices
 }
 
-/// One chain of all slices, listed in a shuffled order.
-pub fn shuffled(count: usize) -> Slices {
-    let mut order: Vec<usize> = (0..count).collect();
+/// A list shuffled, in each run the same way.
+pub fn shuffle<T>(list: &mut [T]) {
     let mut seed = 0x9e37_79b9_7f4a_7c15_u64;
-    for i in (1..count).rev() {
+    for i in (1..list.len()).rev() {
         seed = seed
             .wrapping_mul(6364136223846793005)
             .wrapping_add(1442695040888963407);
-        order.swap(i, (seed >> 33) as usize % (i + 1));
+        list.swap(i, (seed >> 33) as usize % (i + 1));
     }
+}
+
+/// One chain of all slices, listed in a shuffled order.
+pub fn shuffled(count: usize) -> Slices {
+    let mut order: Vec<usize> = (0..count).collect();
+    shuffle(&mut order);
     chain_by(&order, |i| on_circle(i, count))
 }
 
@@ -276,10 +307,4 @@ pub fn beside_one_start(count: usize) -> Slices {
     }
     slices.starts = [count; 3];
     slices
-}
-
-/// The comb from the other side: the band is outline 1.
-pub fn other_comb(crossings: usize) -> Outlines {
-    let [comb, band] = comb(crossings);
-    [band, comb]
 }

@@ -1,12 +1,13 @@
 //! Tables of ratios: a line for each input, a column for each size, a ratio from each process.
 
 use super::timing::middle;
-use super::{CUT_SIZES, SLICE_SIZES};
+use super::{CUT_GROWTH, CUT_SIZES, SLICE_GROWTH, SLICE_SIZES};
 
-/// Up to this size no stage is to be slower than the original.
-const GOAL: usize = 64;
+/// From this size on a stage is to take half of the original's time or less.
+const LARGE: usize = 256;
 
 pub const ORDER: &str = "Cut order";
+pub const ORDER_GROWTH: &str = "Growth of the cut order: our time at 2n cuts over our time at n";
 pub const CANDIDATES_ALONE: &str = "Candidates, `mask_candidates` alone: the splits handed in";
 pub const CANDIDATES: &str = "Candidates, the same work: splits and midpoints on both sides";
 pub const CANDIDATES_ALL: &str = "Candidates, with the cut order that a host asks for first";
@@ -20,20 +21,25 @@ pub const STRAIGHT_THREE: &str =
 pub const THREE: &str = "The three calls in turn beside the Rust's slicing and pruning";
 pub const STITCH_LIST: &str = "Stitch, the index a plain list";
 pub const STITCH_TREE: &str = "Stitch, the index a packed tree";
+pub const STITCH_GROWTH: &str = "Growth of the stitch: our time at 2n slices over our time at n";
 pub const AREA: &str = "Area pass, beside a plain Rust loop";
 pub const VERTEX: &str = "One vertex of a view";
 pub const VERTICES: &str = "All vertices of a whole view, `mask_view_vertices`";
 pub const VERTICES_SINGLY: &str = "The same by `mask_view_vertex`, one call for each vertex";
 
 /// The tables that the goal is about, with the names of their stages.
-const STAGES: [(&str, &str); 8] = [
+const STAGES: [(&str, &str); 12] = [
     ("cut order", ORDER),
     ("candidates, the entry alone", CANDIDATES_ALONE),
     ("candidates, the same work", CANDIDATES),
+    ("candidates, with the cut order", CANDIDATES_ALL),
     ("prune, the same work", PRUNE),
+    ("prune, as a host calls", PRUNE_ALL),
     ("straight masks, one call", STRAIGHT),
     ("stitch, the index a plain list", STITCH_LIST),
     ("stitch, the index a packed tree", STITCH_TREE),
+    ("area pass", AREA),
+    ("one vertex of a view", VERTEX),
     ("all vertices of a view", VERTICES),
 ];
 
@@ -62,6 +68,7 @@ pub fn all() -> Vec<Table> {
     let of_slices = |title| table(title, "slices", &SLICE_SIZES);
     vec![
         of_cuts(ORDER),
+        table(ORDER_GROWTH, "n", &CUT_GROWTH),
         of_cuts(CANDIDATES_ALONE),
         of_cuts(CANDIDATES),
         of_cuts(CANDIDATES_ALL),
@@ -73,6 +80,7 @@ pub fn all() -> Vec<Table> {
         of_cuts(THREE),
         of_slices(STITCH_LIST),
         of_slices(STITCH_TREE),
+        table(STITCH_GROWTH, "n", &SLICE_GROWTH),
         table(AREA, "loops", &SLICE_SIZES),
         of_vertices(VERTEX),
         of_vertices(VERTICES),
@@ -147,29 +155,51 @@ impl Table {
         }
     }
 
-    /// The cell with the largest ratio up to the goal's size.
-    fn worst(&self) -> &Cell {
-        let small = self.cells.iter().filter(|cell| cell.size <= GOAL);
-        small
+    /// Of the cells from a size on: how many are above a bound, of how many, and the largest.
+    fn goal(&self, from: usize, bound: f64) -> String {
+        let cells: Vec<&Cell> = self.cells.iter().filter(|cell| cell.size >= from).collect();
+        let above = cells.iter().filter(|cell| cell.middle() > bound).count();
+        let largest = cells
+            .iter()
             .max_by(|a, b| a.middle().total_cmp(&b.middle()))
-            .unwrap()
+            .unwrap();
+        let (shown, input, size) = (largest.shown(), &largest.input, largest.size);
+        format!("{shown} | {input}, {size} | {above} of {}", cells.len())
     }
 }
 
-/// For each stage its largest ratio up to the goal's size, and whether that is at most 1.
-pub fn print_goal(tables: &[Table]) {
-    println!("\nUp to {GOAL} cuts, slices or vertices no slower than the Rust:\n");
-    println!("| stage | largest ratio | at | reached |\n|---|---|---|---|");
-    for (stage, title) in STAGES {
+fn judged(tables: &[Table]) -> impl Iterator<Item = (&'static str, &Table)> {
+    STAGES.into_iter().map(|(stage, title)| {
         let table = tables.iter().find(|t| t.title == title).unwrap();
-        let cell = table.worst();
-        let reached = match cell {
-            cell if cell.middle() <= 1.0 => "yes",
-            cell if cell.lowest() <= 1.0 => "about level",
-            _ => "no",
-        };
-        let (shown, input, size) = (cell.shown(), &cell.input, cell.size);
-        println!("| {stage} | {shown} | {input}, {size} | {reached} |");
+        (stage, table)
+    })
+}
+
+/// For each stage its largest ratio, at any size and at a large one, and how many are above the goal.
+pub fn print_goal(tables: &[Table]) {
+    println!("\nThe goal: no ratio above 1, and from {LARGE} on none above a half.\n");
+    println!("| stage | largest ratio | at | above 1 | largest from {LARGE} on | at | above 0.5 |");
+    println!("|{}", "---|".repeat(7));
+    for (stage, table) in judged(tables) {
+        let (any, large) = (table.goal(0, 1.0), table.goal(LARGE, 0.5));
+        println!("| {stage} | {any} | {large} |");
+    }
+}
+
+/// Every ratio above 1 of the stages that the goal is about.
+pub fn print_above(tables: &[Table]) {
+    println!("\nAbove 1:\n\n| stage | input | ratios by size |\n|---|---|---|");
+    for (stage, table) in judged(tables) {
+        for input in table.inputs() {
+            let cells = table.cells.iter().filter(|cell| cell.input == input);
+            let above = cells.filter(|cell| cell.middle() > 1.0);
+            let shown: Vec<String> = above
+                .map(|cell| format!("{:.2} at {}", cell.middle(), cell.size))
+                .collect();
+            if !shown.is_empty() {
+                println!("| {stage} | {input} | {} |", shown.join(", "));
+            }
+        }
     }
 }
 

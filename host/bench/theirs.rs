@@ -50,6 +50,11 @@ impl Shared {
         }
     }
 
+    /// The intersections listed in a shuffled order.
+    pub fn shuffle(&mut self) {
+        super::shapes::shuffle(&mut self.info.intersects);
+    }
+
     /// The same as flat lists.
     pub fn pair(&self, outlines: &[Vec<f64>; 2]) -> Pair {
         let mut pair = Pair {

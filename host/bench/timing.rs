@@ -6,7 +6,9 @@ use std::time::{Duration, Instant};
 /// How long a batch of calls is to take.
 const BATCH: Duration = Duration::from_micros(150);
 /// How long all batches of one case may take, about.
-const CASE: Duration = Duration::from_millis(250);
+const CASE: Duration = Duration::from_millis(140);
+/// The same where only our own side is timed, at two sizes.
+const GROWTH: Duration = Duration::from_millis(50);
 const LEAST_ROUNDS: usize = 15;
 
 /// Nanoseconds of a call, by side and round.
@@ -56,11 +58,19 @@ fn calls_in_a_batch(side: &mut dyn FnMut()) -> usize {
 }
 
 pub fn measure(sides: &mut [&mut dyn FnMut()]) -> Times {
+    measure_for(CASE, sides)
+}
+
+pub fn measure_growth(sides: &mut [&mut dyn FnMut()]) -> Times {
+    measure_for(GROWTH, sides)
+}
+
+fn measure_for(case: Duration, sides: &mut [&mut dyn FnMut()]) -> Times {
     let calls: Vec<usize> = sides.iter_mut().map(|s| calls_in_a_batch(*s)).collect();
     let mut times = vec![Vec::new(); sides.len()];
     let start = Instant::now();
     for round in 0.. {
-        if round >= LEAST_ROUNDS && start.elapsed() > CASE {
+        if round >= LEAST_ROUNDS && start.elapsed() > case {
             break;
         }
         for turn in 0..sides.len() {

@@ -5,7 +5,7 @@ use mathlib.Core.List.{List}
 use native.Mathlib.Omega.{arith}
 use lib.ListN.{length}
 use lib.Ieee.{Float}
-use borrow.Author.Tests.{ltb-false}
+use borrow.Author.Tests.{ltb-false, not-false}
 use Rattle.basis.specs.Sizes.{mostSlices}
 use Rattle.basis.specs.RefuseLaws.{clear, length-ok, answer-no, answer-yes}
 use Rattle.basis.specs.declared.answer.CountAnswer.{CountAnswer}
@@ -14,14 +14,14 @@ use Rattle.area.specs.Area.{Roomy, Kept}
 use Rattle.area_entries.specs.AreaEntry.{areaRows, areaRefusal, AreaLeft}
 
 module _ (areas : List Float) (loops : ℕ) (limit : Float) (kept : List ℕ) where
-  pub area-accepted : (number : ℕ) → number ≡ areaRefusal areas loops limit (length kept) → number ≡ 0 → Roomy areas kept
+  pub area-accepted : (number : ℕ) → number ≡ areaRefusal areas loops limit (length kept) → number ≡ 0 → Roomy areas limit kept
   unfolding areaRefusal
   area-accepted number e z =
       let ok = clear (areaRows areas loops limit (length kept)) tt (sym e ∙ z) in
       let n : length areas ≡ 1 * loops = length-ok 1 (length areas) loops (search ok) in
       let few : loops ≤ mostSlices = ltb-false mostSlices loops (search ok) in
       let room : loops ≤ length kept = ltb-false (length kept) loops (search ok) in
-      record { fits = omega arith; few = omega arith }
+      record { fits = omega arith; few = omega arith; all-finite = not-false _ (search ok); good = not-false _ (search ok) }
 
   pub area-refused : (number : ℕ) (r : CountAnswer) → number ≡ areaRefusal areas loops limit (length kept) → (number ≡ 0 → ⊥) → r ≡ countRefused number → AreaLeft areas loops limit kept r kept
   area-refused number r e h q =

@@ -12,12 +12,13 @@ use borrow.Author.Tests.{lt-ltb, le-ltb, eqb-true, eqb-false, ne-eqb}
 use Rattle.basis.specs.Sizes.{mostSlices}
 use Rattle.select.specs.Select.{noNumber}
 use Rattle.basis.specs.Choice.{by-test, clash, and-left, and-right}
+use Rattle.stitch_cell.specs.Lower.{lesserOf}
 use Rattle.stitch_cell.specs.CellLaws.{cell-mono, cell-under}
 use Rattle.stitch_links.specs.declared.layout.Layout.{Layout}
 use Rattle.stitch_links.specs.declared.look.Query.{Query}
 use Rattle.stitch_links.specs.declared.look.Cells.{Cells}
 use Rattle.stitch_run.specs.Run.{free}
-use Rattle.stitch_links.specs.Slices.{xOf, yOf, groupOf, listOf, columnOf, lineOf, homeOf, startsIn, meetsOf, hitOf, lesserOf, lowestOf, cellsOf}
+use Rattle.stitch_links.specs.Slices.{xOf, yOf, groupOf, listOf, columnOf, lineOf, homeOf, startsIn, meetsOf, hitOf, lowestOf, cellsOf}
 use Rattle.stitch_links.specs.Links.{Found, Block}
 use Rattle.stitch_links.specs.Ready.{Fit}
 

@@ -8,11 +8,12 @@ use lib.ListN.{length}
 use lib.Ieee.{Float}
 use Rattle.select.specs.Select.{noNumber}
 use Rattle.stitch_cell.specs.CellLaws.{cell-under}
+use Rattle.stitch_cell.specs.Lower.{lesserOf}
 use Rattle.stitch_links.specs.declared.layout.Layout.{Layout}
 use Rattle.stitch_links.specs.declared.look.Query.{Query}
 use Rattle.stitch_links.specs.declared.look.Cells.{Cells}
 use Rattle.stitch_run.specs.Run.{free}
-use Rattle.stitch_links.specs.Slices.{listOf, homeOf, hitOf, lesserOf, cellsOf}
+use Rattle.stitch_links.specs.Slices.{listOf, homeOf, hitOf, cellsOf}
 use Rattle.stitch_links.specs.Links.{Linked, Found, Looked, Block}
 use Rattle.stitch_links.specs.Ready.{Lookable, OnList, Row, Rows, Asked, Lowest}
 use Rattle.stitch_links.specs.LoopLaws.{list-under}

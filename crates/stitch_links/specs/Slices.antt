@@ -51,9 +51,6 @@ meetsOf points w q j = startsIn points q j && eqb (groupOf w j) (q .group)
 abbrev pub hitOf : List Float → List Bool → Layout → Query → ℕ → Bool
 hitOf points visited w q j = free visited (q .first) j && meetsOf points w q j
 
-unfoldable pub lesserOf : ℕ → ℕ → ℕ
-lesserOf a b = cond (ltb b a) b a
-
 -- the lowest number below n that passes, or noNumber: the plain definition
 unfoldable pub lowestOf : (ℕ → Bool) → ℕ → ℕ
 lowestOf p zero = noNumber

@@ -2,7 +2,7 @@
 ghost use mathlib.Core.Path.{_≡_};
 ghost use Prim.Native.Nat.{_+_};
 ghost use Rattle.stitch_run.specs.Run.{free};
-ghost use Rattle.stitch_links.specs.Slices.{homeOf, startsIn, meetsOf, hitOf, lesserOf, cellsOf, queryOf};
+ghost use Rattle.stitch_links.specs.Slices.{homeOf, startsIn, meetsOf, hitOf, cellsOf, queryOf};
 ghost use Rattle.stitch_links.specs.Links.{Looked, Block};
 ghost use Rattle.stitch_links.specs.Ready.{There, Marked, OnList, Row, Rows, Sides, Asked, Lowest};
 use crate::layout;
@@ -11,6 +11,7 @@ use basis::number::Tolerance;
 use outline::point::Point;
 use select::best::NO_NUMBER;
 use stitch_cell::cell;
+use stitch_cell::lower;
 
 // What is looked for: starts in a box, slices of a group, unvisited or the chain's first.
 pub struct Query {
@@ -59,12 +60,6 @@ fn meets(points: &[f64], w: Layout, q: Query, j: usize) -> bool
         return false;
     }
     layout::group_of(w, j) == q.group
-}
-
-fn lesser(a: usize, b: usize) -> usize
-    ensures { λ r. ⌜ r ≡ lesserOf a b ⌝ }
-{
-    if b < a { b } else { a }
 }
 
 // On one list: the lowest slice that is looked for. What is not free is taken off.
@@ -119,7 +114,7 @@ fn row(
     while cy <= y1 {
         let h = layout::list_of(w.lists, cx, cy, q.group);
         let r = first_on(points, visited, link, w, q, h);
-        best = lesser(best, r);
+        best = lower::lesser(best, r);
         cy += 1;
     }
     best
@@ -142,7 +137,7 @@ fn search(
     let mut cx = c.x0;
     while cx <= last {
         let r = row(points, visited, link, w, q, cx, c.y0, c.y1);
-        best = lesser(best, r);
+        best = lower::lesser(best, r);
         cx += 1;
     }
     best

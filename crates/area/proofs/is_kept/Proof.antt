@@ -4,7 +4,7 @@ use Rattle.area.proofs.is_kept.Statement.{statement}
 use Rattle.area.proofs.is_kept.Tie as tie
 
 returns : tie.Need-returns
-returns c = kept-by _ _ _ (c .magnitude .ensures)
+returns c = search (needs, kept-by)
 
 pub is-kept-spec : {M : Type 1} → statement M
 is-kept-spec = tie.close (tie.spec

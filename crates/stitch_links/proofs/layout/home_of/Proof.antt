@@ -5,7 +5,7 @@ use Rattle.stitch_links.proofs.layout.home_of.Tie as tie
 
 returns : tie.Need-returns
 unfolding homeOf
-returns c = cc
+returns c = rw (c .list-of .ensures, c .before .group-of .ensures, c .before .before .cell2 .ensures, c .before .before .before .before .cell .ensures)
 
 pub home-of-spec : {M : Type 1} → statement M
 home-of-spec =

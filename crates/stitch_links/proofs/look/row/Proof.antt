@@ -21,7 +21,9 @@ first-on-requires : tie.Need-first-on-requires Inv-loop μ-loop
 first-on-requires c κs = swept-list _ _ _ _ _ _ _ _ _ _ _ (c .before .before .before .loop .inv) _ _ _ (c .before .list-of .ensures)
 
 add-cy : tie.Need-add-cy Inv-loop μ-loop
-add-cy c = omega (arith, c .before .before .before .before .before .before .before .before .before .before .before .pre .low, c .before .before .before .before .before .before .loop-test .taken)
+add-cy c =
+    let turn = c .before .before .before .before .before .before in
+    omega (arith, turn .before .before .before .before .before .pre .low, turn .loop-test .taken)
 
 loop-less : tie.Need-loop-less Inv-loop μ-loop
 loop-less c = omega (arith, c .before .before .before .before .before .before .loop-test .taken)

@@ -19,7 +19,9 @@ row-requires : tie.Need-row-requires Inv-loop μ-loop
 row-requires c κs = record { ready = (c .before .before .loop .inv .1) .ready; low = c .before .before .before .before .before .before .pre .low }
 
 add-cx : tie.Need-add-cx Inv-loop μ-loop
-add-cx c = omega (arith, c .before .before .before .before .before .before .before .before .before .before .pre .lowX, c .before .before .before .before .before .loop-test .taken, c .before .before .before .before .before .before .loop .inv .0)
+add-cx c =
+    let turn = c .before .before .before .before .before in
+    omega (arith, turn .before .before .before .before .before .pre .lowX, turn .loop-test .taken, turn .before .loop .inv .0)
 
 loop-less : tie.Need-loop-less Inv-loop μ-loop
 loop-less c = omega (arith, c .before .before .before .before .before .loop-test .taken)

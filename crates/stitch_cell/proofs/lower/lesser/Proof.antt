@@ -1,8 +1,8 @@
 use Rattle.basis.specs.Choice.{cases}
-use Rattle.stitch_links.specs.Slices.{lesserOf}
+use Rattle.stitch_cell.specs.Lower.{lesserOf}
 use borrow.Author.Needs.{needs}
-use Rattle.stitch_links.proofs.look.lesser.Statement.{statement}
-use Rattle.stitch_links.proofs.look.lesser.Tie as tie
+use Rattle.stitch_cell.proofs.lower.lesser.Statement.{statement}
+use Rattle.stitch_cell.proofs.lower.lesser.Tie as tie
 
 returns : tie.Need-returns
 unfolding lesserOf
