@@ -8,7 +8,7 @@ use stitch_round::step;
 use stitch_run::plan::Plan;
 
 // What is finished: vertices of the loops, loops, chains, rounds.
-pub(crate) struct Tally {
+pub struct Tally {
     pub done: usize,
     pub loops: usize,
     pub chains: usize,
@@ -94,7 +94,7 @@ fn take_turn(
 }
 
 // Every slice has its turn. Says what is finished at the end.
-pub(crate) fn take_turns(
+pub fn take_turns(
     visited: &mut [bool],
     link: &mut [usize],
     room: &mut [f64],

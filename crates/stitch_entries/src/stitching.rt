@@ -12,7 +12,7 @@ use crate::faults::Lengths;
 use basis::number::Tolerance;
 use select::class::Starts;
 use slice::edition;
-use stitch::write;
+use stitch_lists::write;
 use stitch_run::plan::Plan;
 
 // Numbers 1 to 8.

@@ -1,8 +1,11 @@
 // Replays the recorded answers of the original, data/vectors.bin, through the exported entries. oracle/RECORD.md says what stands in the file.
 mod bits;
 mod case;
+mod cuts;
 mod lists;
+mod pruning;
 mod starts;
+mod stitching;
 mod tally;
 mod views;
 mod words;

@@ -2,10 +2,10 @@ use mathlib.Core.Path.{refl}
 use native.Mathlib.Omega.{arith}
 use lib.ListN.{length-replicate}
 use Rattle.basis.specs.Number.{+0}
-use Rattle.stitch.proofs.Writing.{marks-length, tabled-of}
+use Rattle.stitch_lists.proofs.Writing.{marks-length, tabled-of}
 use borrow.Author.Needs.{needs}
-use Rattle.stitch.proofs.write.write_scanned.Statement.{statement}
-use Rattle.stitch.proofs.write.write_scanned.Tie as tie
+use Rattle.stitch_lists.proofs.write.write_scanned.Statement.{statement}
+use Rattle.stitch_lists.proofs.write.write_scanned.Tie as tie
 
 slice-aggregate-write-with-2 : tie.Need-slice-aggregate-write-with-2
 slice-aggregate-write-with-2 c =

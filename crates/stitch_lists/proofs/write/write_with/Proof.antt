@@ -1,7 +1,7 @@
-use Rattle.stitch.proofs.Writing.{rest-fit, written-of, begin-turns, need-fit}
+use Rattle.stitch_lists.proofs.Writing.{rest-fit, written-of, begin-turns, need-fit}
 use borrow.Author.Needs.{needs}
-use Rattle.stitch.proofs.write.write_with.Statement.{statement}
-use Rattle.stitch.proofs.write.write_with.Tie as tie
+use Rattle.stitch_lists.proofs.write.write_with.Statement.{statement}
+use Rattle.stitch_lists.proofs.write.write_with.Tie as tie
 
 take-turns-requires : tie.Need-take-turns-requires
 take-turns-requires c κs =

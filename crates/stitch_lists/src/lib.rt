@@ -1,0 +1,2 @@
+// The stitch with working lists of its own, in three sizes.
+pub mod write;
