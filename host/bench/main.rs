@@ -621,12 +621,16 @@ fn repeat(stage: &str, input: &str, size: usize, calls: Option<usize>) {
     }
 }
 
+/// Times what comes before the stitch.
+fn cuts(families: &[Family]) {
+    cut_order(&families[..2]);
+    candidates(families);
+    prune(families);
+}
+
 /// Times every stage, and tells each ratio and time in a line.
 fn time_all() {
-    let families = families();
-    cut_order(&families[..2]);
-    candidates(&families);
-    prune(&families);
+    cuts(&families());
     straight();
     stitch();
     area_pass();
@@ -693,13 +697,14 @@ fn main() {
             repeat(stage, input, number(size), Some(number(calls)));
         }
         ["once"] => time_all(),
+        ["once", "cuts"] => cuts(&families()),
         ["once", "straight"] => straight(),
         ["once", "stitch"] => stitch(),
         ["straight"] => compare_straight(),
         [to] => compare(to),
         _ => panic!(
-            "usage: bench FILE.svg, bench [once] straight, bench once [stitch], or bench repeat STAGE \
-             INPUT SIZE [CALLS]"
+            "usage: bench FILE.svg, bench [once] straight, bench once [cuts | stitch], or bench repeat \
+             STAGE INPUT SIZE [CALLS]"
         ),
     }
 }
