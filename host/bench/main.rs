@@ -746,8 +746,8 @@ fn repeat(stage: &str, input: &str, size: usize, calls: Option<usize>) {
     }
 }
 
-/// Times every stage, and tells each ratio and time in a line.
-fn time_all() {
+/// Times what comes before the stitch.
+fn cuts() {
     let (families, more) = (families(), more_families());
     cut_order(&families[..2]);
     cut_order(&more);
@@ -756,6 +756,11 @@ fn time_all() {
     candidates(&more);
     prune(&families);
     prune(&more);
+}
+
+/// Times every stage, and tells each ratio and time in a line.
+fn time_all() {
+    cuts();
     straight();
     stitch();
     stitch_growth();
@@ -824,6 +829,7 @@ fn main() {
             repeat(stage, input, number(size), Some(number(calls)));
         }
         ["once"] => time_all(),
+        ["once", "cuts"] => cuts(),
         ["once", "straight"] => straight(),
         ["once", "stitch"] => stitch(),
         ["once", "area"] => area_pass(),
@@ -834,7 +840,7 @@ fn main() {
         ["straight"] => compare_straight(),
         [to] => compare(to),
         _ => panic!(
-            "usage: bench FILE.svg, bench [once] straight, bench once [stitch | area | growth], or \
+            "usage: bench FILE.svg, bench [once] straight, bench once [cuts | stitch | area | growth], or \
              bench repeat STAGE INPUT SIZE [CALLS]"
         ),
     }

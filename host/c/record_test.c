@@ -150,30 +150,14 @@ static uint32_t stitch_refused(int same)
     for (int o = 0; o < 2; o++)
         if (c.vc[o] < LEAST_VERTICES || c.vc[o] > TAKEN_VERTICES)
             return 2;
-    if (c.selector > 1)
+    if (c.selector > 1 || unknown_slice_code(c.slice_at, c.slices))
         return 3;
-    for (size_t i = 0; i < c.slices; i++)
-        if (c.slice_at[4 * i] < 1 || c.slice_at[4 * i] > 2 || c.slice_at[4 * i + 1] > 1)
-            return 3;
     if (!right_tolerances(c.tolerance) || (same && c.tolerance.x != c.tolerance.y))
         return 4;
     if (!small_list(c.outline[0], c.outline_len[0]) ||
         !small_list(c.outline[1], c.outline_len[1]) || !small_list(c.slice, c.slice_len))
         return 5;
-    for (size_t i = 0; i < c.slices; i++)
-        if (c.slice_at[4 * i + 2] >= c.vc[c.slice_at[4 * i] - 1])
-            return 6;
-    for (size_t i = 0; i < c.slices; i++)
-        if (c.slice_at[4 * i + 3] > c.vc[c.slice_at[4 * i] - 1])
-            return 7;
-    if (c.starts.pline2 > c.starts.pline1_overlapping ||
-        c.starts.pline1_overlapping > c.starts.pline2_overlapping ||
-        c.starts.pline2_overlapping > c.slices)
-        return 8;
-    for (size_t i = 0; i < c.slices; i++)
-        if (c.slice_edition[i] != c.edition[c.slice_at[4 * i] - 1])
-            return 14;
-    return 0;
+    return slices_refused(c.slice_at, c.slice_edition, c.slices, c.vc, c.edition, c.starts);
 }
 
 /* "12 (unknown version) first, then the stitch's own 1 to 8 and 14 .., then 9" */

@@ -271,6 +271,7 @@ static unsigned chosen[2][4][4]; /* selector, class, choice that was taken (3: n
 
 static uint32_t refused(void)
 {
+    uint32_t number;
     if (!right_length(c.outline_len[0], 3, c.vc[0]) ||
         !right_length(c.outline_len[1], 3, c.vc[1]) || !right_length(c.slice_at_len, 4, c.slices) ||
         !right_length(c.slice_len, 6, c.slices) || c.slice_edition_len != c.slices ||
@@ -279,11 +280,8 @@ static uint32_t refused(void)
     for (int o = 0; o < 2; o++)
         if (c.vc[o] < LEAST_VERTICES || c.vc[o] > MOST_VERTICES)
             return 2;
-    if (c.selector > 1)
+    if (c.selector > 1 || unknown_slice_code(c.slice_at, c.slices))
         return 3;
-    for (size_t i = 0; i < c.slices; i++)
-        if (c.slice_at[4 * i] < 1 || c.slice_at[4 * i] > 2 || c.slice_at[4 * i + 1] > 1)
-            return 3;
     if (!known(&c.named))
         return 16;
     if (!right_tolerances(c.tolerance))
@@ -291,19 +289,9 @@ static uint32_t refused(void)
     if (!small_list(c.outline[0], c.outline_len[0]) ||
         !small_list(c.outline[1], c.outline_len[1]) || !small_list(c.slice, c.slice_len))
         return 5;
-    for (size_t i = 0; i < c.slices; i++)
-        if (c.slice_at[4 * i + 2] >= c.vc[c.slice_at[4 * i] - 1])
-            return 6;
-    for (size_t i = 0; i < c.slices; i++)
-        if (c.slice_at[4 * i + 3] > c.vc[c.slice_at[4 * i] - 1])
-            return 7;
-    if (c.starts.pline2 > c.starts.pline1_overlapping ||
-        c.starts.pline1_overlapping > c.starts.pline2_overlapping ||
-        c.starts.pline2_overlapping > c.slices)
-        return 8;
-    for (size_t i = 0; i < c.slices; i++)
-        if (c.slice_edition[i] != c.edition[c.slice_at[4 * i] - 1])
-            return 14;
+    number = slices_refused(c.slice_at, c.slice_edition, c.slices, c.vc, c.edition, c.starts);
+    if (number)
+        return number;
     if (c.room_len < 3 * vertices_needed() || c.ends_len < c.slices || c.chain_len < c.slices ||
         c.chain_ends_len < c.slices || c.chain_how_len < c.slices)
         return 9;

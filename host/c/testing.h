@@ -92,6 +92,36 @@ static inline int right_length(size_t len, size_t width, size_t count)
     return len % width == 0 && len / width == count;
 }
 
+/* "an unknown mode, selector, source or yes/no code": of slices, their source and inverted. */
+static inline int unknown_slice_code(const size_t *slice_at, size_t slices)
+{
+    for (size_t i = 0; i < slices; i++)
+        if (slice_at[4 * i] < 1 || slice_at[4 * i] > 2 || slice_at[4 * i + 1] > 1)
+            return 1;
+    return 0;
+}
+
+/* What slices are refused for behind the numbers: 6, 7, 8, 14, or nothing. */
+static inline uint32_t slices_refused(const size_t *slice_at, const uint32_t *slice_edition,
+                                      size_t slices, const size_t *vc, const uint32_t *edition,
+                                      mask_starts starts)
+{
+    for (size_t i = 0; i < slices; i++)
+        if (slice_at[4 * i + 2] >= vc[slice_at[4 * i] - 1])
+            return 6;
+    for (size_t i = 0; i < slices; i++)
+        if (slice_at[4 * i + 3] > vc[slice_at[4 * i] - 1])
+            return 7;
+    if (starts.pline2 > starts.pline1_overlapping ||
+        starts.pline1_overlapping > starts.pline2_overlapping ||
+        starts.pline2_overlapping > slices)
+        return 8;
+    for (size_t i = 0; i < slices; i++)
+        if (slice_edition[i] != edition[slice_at[4 * i] - 1])
+            return 14;
+    return 0;
+}
+
 /* The two tolerances of request K6: of x and of y. */
 typedef struct axes {
     double x, y;

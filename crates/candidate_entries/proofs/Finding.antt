@@ -27,7 +27,9 @@ use Rattle.candidate_write.specs.CandidateTheorems.{count-most}
 use Rattle.cut_entries.specs.CutRows.{listRows, valueRows, indexRows}
 use Rattle.cut_entries.specs.CutRowsLaws.{few-passed}
 use Rattle.candidate_entries.specs.declared.slicing.Lengths.{Lengths}
-use Rattle.candidate_entries.specs.Candidates.{alongCuts, Lent, roomsOf, lengths, laterRows, candidatesRefusal, candNumber, Sliced, Accepted, Roomed, Dated, frontsOf, InFront, FoundRoom, Few}
+use Rattle.candidate_entries.specs.declared.slicing.Tried.{Tried}
+use Rattle.candidate_entries.specs.declared.slicing.Tried.the-variants.{Cut, Not}
+use Rattle.candidate_entries.specs.Candidates.{alongCuts, Tries, Lent, roomsOf, lengths, laterRows, candidatesRefusal, candNumber, Sliced, Accepted, Roomed, Dated, frontsOf, InFront, FoundRoom, Few}
 use Rattle.candidate_entries.specs.CandidatesLaws.{along, along-sound, cand-pass, cand-accepted, editions-roomy}
 
 -- ---- the table in parts
@@ -91,12 +93,19 @@ module _ (g : Given) (splits : List Float) (l : Rooms) (sorted cutAt : List ℕ)
       let k = ok .along .accepted .ready .fewLaps in
       few-lists mostCandidates (record { ok = ok; few = omega arith })
 
-  pub hint-room : FoundRoom g splits l sorted cutAt cut → Hinted g cut
-  hint-room r = record { accepted = r .ok .along .accepted; room = r .pointRoom }
+  pub sort-room : FoundRoom g splits l sorted cutAt cut → WriteRoom g sorted cutAt cut
+  sort-room r = record { roomy = record { accepted = r .ok .along .accepted; numberRoom = r .numberRoom; pointRoom = r .pointRoom }; long = r .sortedLong }
 
-  -- the list for the points may hold anything
-  pub sort-room : (cut' : List Float) → FoundRoom g splits l sorted cutAt cut → length cut' ≡ length cut → WriteRoom g sorted cutAt cut'
-  sort-room cut' r e = record { roomy = record { accepted = r .ok .along .accepted; numberRoom = r .numberRoom; pointRoom = omega (arith, r .pointRoom) }; long = r .sortedLong }
+-- a list for the points of so many cuts
+module _ (g : Given) (splits : List Float) (l : Rooms) (cut : List Float) where
+  pub few-points : (most : ℕ) → Few most g splits l → length cut ≡ 2 * most → Hinted g cut
+  few-points most f e = let h = f .few in record { accepted = f .ok .along .accepted; room = omega arith }
+
+  pub most-points : Accepted g splits l → length cut ≡ 2 * mostCandidates → Hinted g cut
+  most-points ok =
+      let h = ok .along .accepted .ready .fewHits in
+      let k = ok .along .accepted .ready .fewLaps in
+      few-points mostCandidates (record { ok = ok; few = omega arith })
 
 -- the front of a list is as long as it is said to be
 pub front-length : {A : Type 0} (n : ℕ) (l : List A) → n ≤ length l → n ≡ length (take n l)
@@ -127,4 +136,20 @@ module _ (o : List Float) (ha : List ℕ) (h : List Float) (la : List ℕ) (l : 
   pub along-written : (left : Rooms) (r : ℕ) → Written (frontsOf o a' b' splits s) lent r left → Written (alongCuts g splits) lent r left
   along-written left r q = subst (λ (x : slices.Given). Written x lent r left) same q
 
-pub ruleset fronts = (hint-room, sort-room, in-front, along-written)
+-- ---- what came of the order that is told
+module _ (g : Given) (splits : List Float) (l left : Rooms) (r : Tried) (t : Tries g splits l r left) where
+  pub tried-cut : (m : ℕ) → r ≡ Cut m → Written (alongCuts g splits) l m left
+  tried-cut m e = subst (λ (x : Tried). Tries g splits l x left) e t
+
+  kept : r ≡ Not → left ≡ l
+  kept e = subst (λ (x : Tried). Tries g splits l x left) e t
+
+  pub tried-not : r ≡ Not → Accepted g splits l → Accepted g splits left
+  tried-not e a = subst (λ (x : Rooms). Accepted g splits x) (sym (kept e)) a
+
+  pub tried-then : (m : ℕ) (last : Rooms) → r ≡ Not → Written (alongCuts g splits) left m last → Written (alongCuts g splits) l m last
+  tried-then m last e w = subst (λ (x : Rooms). Written (alongCuts g splits) x m last) (kept e) w
+
+pub ruleset trying = (tried-cut, tried-not, tried-then)
+
+pub ruleset fronts = (sort-room, in-front, along-written)

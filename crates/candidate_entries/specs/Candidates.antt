@@ -20,6 +20,8 @@ use Rattle.candidate.specs.Candidates as slices
 use Rattle.candidate.specs.Ready.{Rooms, rooms, Roomy, Ready, Written}
 use Rattle.cut_entries.specs.CutRows.{listRows, valueRows, indexRows, FewCuts}
 use Rattle.candidate_entries.specs.declared.slicing.Lengths.{Lengths}
+use Rattle.candidate_entries.specs.declared.slicing.Tried.{Tried}
+use Rattle.candidate_entries.specs.declared.slicing.Tried.the-variants.{Cut, Not}
 
 -- what the slices are cut from: the cuts in their order, and the splits along them
 abbrev pub alongCuts : Given → List Float → slices.Given
@@ -122,3 +124,8 @@ pub record FoundRoom (g : Given) (splits : List Float) (l : Rooms) (sorted cutAt
 pub record Few (most : ℕ) (g : Given) (splits : List Float) (l : Rooms) : Type 0 where
   pub ok : Accepted g splits l
   pub few : cutCount g ≤ most
+
+-- the order that is told was tried: the candidates were written along it, or nothing was
+abbrev pub Tries : Given → List Float → Rooms → Tried → Rooms → Type 0
+Tries g splits l (Cut m) left = Written (alongCuts g splits) l m left
+Tries g splits l Not left = left ≡ l

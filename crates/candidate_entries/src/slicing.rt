@@ -6,7 +6,7 @@ ghost use Rattle.basis.specs.Refuse.{firstFrom};
 ghost use Rattle.cut.specs.Cuts.{given, caseOf};
 ghost use Rattle.candidate.specs.Ready.{rooms, Written};
 ghost use Rattle.cut_entries.specs.CutRows.{FewCuts};
-ghost use Rattle.candidate_entries.specs.Candidates.{alongCuts, lent, frontsOf, InFront, splitLengthRows, splitRows, candRoomRows, laterRows, candidatesRefusal, Accepted, Roomed, Dated, Sliced, FoundRoom, Few};
+ghost use Rattle.candidate_entries.specs.Candidates.{alongCuts, lent, frontsOf, InFront, splitLengthRows, splitRows, candRoomRows, laterRows, candidatesRefusal, Accepted, Roomed, Dated, Sliced, FoundRoom, Few, Tries};
 use basis::answer;
 use basis::answer::CountAnswer;
 use basis::number;
@@ -24,6 +24,12 @@ pub struct Lengths {
     pub cand: usize,
     pub probe: usize,
     pub edition: usize,
+}
+
+// What came of the order that is told: so many candidates, or nothing, as it is not the order.
+pub enum Tried {
+    Cut(usize),
+    Not,
 }
 
 // Number 1, of the splits, for so many cuts.
@@ -127,7 +133,6 @@ fn found_with(
     hit: &[f64],
     lap_at: &[usize],
     lap: &[f64],
-    told: &[usize],
     splits: &[f64],
     s: Case,
     order: &mut [usize],
@@ -140,9 +145,6 @@ fn found_with(
     requires { ⌜ FoundRoom (given (now outline) (now «hit_at») (now hit) (now «lap_at») (now lap) s) (now splits) (rooms (now «cand_at») (now cand) (now probe)) (now order) (now «cut_at») (now cut) ⌝ }
     ensures { λ r. ⌜ Written (alongCuts (given (now (outline .entry)) (now («hit_at» .entry)) (now (hit .entry)) (now («lap_at» .entry)) (now (lap .entry)) s) (now (splits .entry))) (rooms (now («cand_at» .entry)) (now (cand .entry)) (now (probe .entry))) r (rooms (now («cand_at» .exit)) (now (cand .exit)) (now (probe .exit))) ⌝ }
 {
-    if along::is_along(outline, hit_at, hit, lap_at, lap, s, told, cut) {
-        return walked(outline, told, cut, splits, s, cand_at, cand, probe);
-    }
     cut_order::write::write_order(outline, hit_at, hit, lap_at, lap, s, order, cut_at, cut);
     walked(outline, cut_at, cut, splits, s, cand_at, cand, probe)
 }
@@ -154,7 +156,6 @@ fn found_small(
     hit: &[f64],
     lap_at: &[usize],
     lap: &[f64],
-    told: &[usize],
     splits: &[f64],
     s: Case,
     cand_at: &mut [usize],
@@ -173,7 +174,6 @@ fn found_small(
         hit,
         lap_at,
         lap,
-        told,
         splits,
         s,
         &mut order,
@@ -191,7 +191,6 @@ fn found_few(
     hit: &[f64],
     lap_at: &[usize],
     lap: &[f64],
-    told: &[usize],
     splits: &[f64],
     s: Case,
     cand_at: &mut [usize],
@@ -210,7 +209,6 @@ fn found_few(
         hit,
         lap_at,
         lap,
-        told,
         splits,
         s,
         &mut order,
@@ -228,7 +226,6 @@ fn found_more(
     hit: &[f64],
     lap_at: &[usize],
     lap: &[f64],
-    told: &[usize],
     splits: &[f64],
     s: Case,
     cand_at: &mut [usize],
@@ -247,7 +244,6 @@ fn found_more(
         hit,
         lap_at,
         lap,
-        told,
         splits,
         s,
         &mut order,
@@ -265,7 +261,6 @@ fn found_many(
     hit: &[f64],
     lap_at: &[usize],
     lap: &[f64],
-    told: &[usize],
     splits: &[f64],
     s: Case,
     cand_at: &mut [usize],
@@ -284,7 +279,6 @@ fn found_many(
         hit,
         lap_at,
         lap,
-        told,
         splits,
         s,
         &mut order,
@@ -296,14 +290,13 @@ fn found_many(
     )
 }
 
-// The candidates of an accepted call that has more than 64 cuts, or fewer.
+// The candidates of an accepted call, by lists for 256 cuts or for the most.
 fn found_beyond(
     outline: &[f64],
     hit_at: &[usize],
     hit: &[f64],
     lap_at: &[usize],
     lap: &[f64],
-    told: &[usize],
     splits: &[f64],
     s: Case,
     cand_at: &mut [usize],
@@ -320,7 +313,6 @@ fn found_beyond(
             hit,
             lap_at,
             lap,
-            told,
             splits,
             s,
             cand_at,
@@ -334,7 +326,6 @@ fn found_beyond(
         hit,
         lap_at,
         lap,
-        told,
         splits,
         s,
         cand_at,
@@ -350,7 +341,6 @@ fn found(
     hit: &[f64],
     lap_at: &[usize],
     lap: &[f64],
-    told: &[usize],
     splits: &[f64],
     s: Case,
     cand_at: &mut [usize],
@@ -368,7 +358,6 @@ fn found(
             hit,
             lap_at,
             lap,
-            told,
             splits,
             s,
             cand_at,
@@ -383,7 +372,6 @@ fn found(
             hit,
             lap_at,
             lap,
-            told,
             splits,
             s,
             cand_at,
@@ -397,7 +385,189 @@ fn found(
         hit,
         lap_at,
         lap,
+        splits,
+        s,
+        cand_at,
+        cand,
+        probe,
+    )
+}
+
+// The candidates of an accepted call along the order that is told, by a list for the points of 8 cuts; of 64; and of the most.
+fn told_small(
+    outline: &[f64],
+    hit_at: &[usize],
+    hit: &[f64],
+    lap_at: &[usize],
+    lap: &[f64],
+    told: &[usize],
+    splits: &[f64],
+    s: Case,
+    cand_at: &mut [usize],
+    cand: &mut [f64],
+    probe: &mut [f64],
+) -> Tried
+    requires { ⌜ Few 8 (given (now outline) (now «hit_at») (now hit) (now «lap_at») (now lap) s) (now splits) (rooms (now «cand_at») (now cand) (now probe)) ⌝ }
+    ensures { λ r. ⌜ Tries (given (now (outline .entry)) (now («hit_at» .entry)) (now (hit .entry)) (now («lap_at» .entry)) (now (lap .entry)) s) (now (splits .entry)) (rooms (now («cand_at» .entry)) (now (cand .entry)) (now (probe .entry))) r (rooms (now («cand_at» .exit)) (now (cand .exit)) (now (probe .exit))) ⌝ }
+{
+    let mut cut = [0.0f64; 16];
+    if along::is_along(outline, hit_at, hit, lap_at, lap, s, told, &mut cut) {
+        return Tried::Cut(walked(outline, told, &cut, splits, s, cand_at, cand, probe));
+    }
+    Tried::Not
+}
+
+fn told_few(
+    outline: &[f64],
+    hit_at: &[usize],
+    hit: &[f64],
+    lap_at: &[usize],
+    lap: &[f64],
+    told: &[usize],
+    splits: &[f64],
+    s: Case,
+    cand_at: &mut [usize],
+    cand: &mut [f64],
+    probe: &mut [f64],
+) -> Tried
+    requires { ⌜ Few 64 (given (now outline) (now «hit_at») (now hit) (now «lap_at») (now lap) s) (now splits) (rooms (now «cand_at») (now cand) (now probe)) ⌝ }
+    ensures { λ r. ⌜ Tries (given (now (outline .entry)) (now («hit_at» .entry)) (now (hit .entry)) (now («lap_at» .entry)) (now (lap .entry)) s) (now (splits .entry)) (rooms (now («cand_at» .entry)) (now (cand .entry)) (now (probe .entry))) r (rooms (now («cand_at» .exit)) (now (cand .exit)) (now (probe .exit))) ⌝ }
+{
+    let mut cut = [0.0f64; 128];
+    if along::is_along(outline, hit_at, hit, lap_at, lap, s, told, &mut cut) {
+        return Tried::Cut(walked(outline, told, &cut, splits, s, cand_at, cand, probe));
+    }
+    Tried::Not
+}
+
+fn told_many(
+    outline: &[f64],
+    hit_at: &[usize],
+    hit: &[f64],
+    lap_at: &[usize],
+    lap: &[f64],
+    told: &[usize],
+    splits: &[f64],
+    s: Case,
+    cand_at: &mut [usize],
+    cand: &mut [f64],
+    probe: &mut [f64],
+) -> Tried
+    requires { ⌜ Accepted (given (now outline) (now «hit_at») (now hit) (now «lap_at») (now lap) s) (now splits) (rooms (now «cand_at») (now cand) (now probe)) ⌝ }
+    ensures { λ r. ⌜ Tries (given (now (outline .entry)) (now («hit_at» .entry)) (now (hit .entry)) (now («lap_at» .entry)) (now (lap .entry)) s) (now (splits .entry)) (rooms (now («cand_at» .entry)) (now (cand .entry)) (now (probe .entry))) r (rooms (now («cand_at» .exit)) (now (cand .exit)) (now (probe .exit))) ⌝ }
+{
+    let mut cut = [0.0f64; 2 * MOST_CANDIDATES];
+    if along::is_along(outline, hit_at, hit, lap_at, lap, s, told, &mut cut) {
+        return Tried::Cut(walked(outline, told, &cut, splits, s, cand_at, cand, probe));
+    }
+    Tried::Not
+}
+
+// The same, by the list that fits.
+fn found_told(
+    outline: &[f64],
+    hit_at: &[usize],
+    hit: &[f64],
+    lap_at: &[usize],
+    lap: &[f64],
+    told: &[usize],
+    splits: &[f64],
+    s: Case,
+    cand_at: &mut [usize],
+    cand: &mut [f64],
+    probe: &mut [f64],
+) -> Tried
+    requires { ⌜ Accepted (given (now outline) (now «hit_at») (now hit) (now «lap_at») (now lap) s) (now splits) (rooms (now «cand_at») (now cand) (now probe)) ⌝ }
+    ensures { λ r. ⌜ Tries (given (now (outline .entry)) (now («hit_at» .entry)) (now (hit .entry)) (now («lap_at» .entry)) (now (lap .entry)) s) (now (splits .entry)) (rooms (now («cand_at» .entry)) (now (cand .entry)) (now (probe .entry))) r (rooms (now («cand_at» .exit)) (now (cand .exit)) (now (probe .exit))) ⌝ }
+{
+    let count = s.hits + 2 * s.laps;
+    if told.len() != 3 * count {
+        return Tried::Not;
+    }
+    if count <= 8 {
+        return told_small(
+            outline,
+            hit_at,
+            hit,
+            lap_at,
+            lap,
+            told,
+            splits,
+            s,
+            cand_at,
+            cand,
+            probe,
+        );
+    }
+    if count <= 64 {
+        return told_few(
+            outline,
+            hit_at,
+            hit,
+            lap_at,
+            lap,
+            told,
+            splits,
+            s,
+            cand_at,
+            cand,
+            probe,
+        );
+    }
+    told_many(
+        outline,
+        hit_at,
+        hit,
+        lap_at,
+        lap,
         told,
+        splits,
+        s,
+        cand_at,
+        cand,
+        probe,
+    )
+}
+
+// The candidates of an accepted call: along the order that is told, or, where that is not the order, along the order that is found.
+fn sought(
+    outline: &[f64],
+    hit_at: &[usize],
+    hit: &[f64],
+    lap_at: &[usize],
+    lap: &[f64],
+    told: &[usize],
+    splits: &[f64],
+    s: Case,
+    cand_at: &mut [usize],
+    cand: &mut [f64],
+    probe: &mut [f64],
+) -> usize
+    requires { ⌜ Accepted (given (now outline) (now «hit_at») (now hit) (now «lap_at») (now lap) s) (now splits) (rooms (now «cand_at») (now cand) (now probe)) ⌝ }
+    ensures { λ r. ⌜ Written (alongCuts (given (now (outline .entry)) (now («hit_at» .entry)) (now (hit .entry)) (now («lap_at» .entry)) (now (lap .entry)) s) (now (splits .entry))) (rooms (now («cand_at» .entry)) (now (cand .entry)) (now (probe .entry))) r (rooms (now («cand_at» .exit)) (now (cand .exit)) (now (probe .exit))) ⌝ }
+{
+    let tried = found_told(
+        outline,
+        hit_at,
+        hit,
+        lap_at,
+        lap,
+        told,
+        splits,
+        s,
+        cand_at,
+        cand,
+        probe,
+    );
+    if let Tried::Cut(m) = tried {
+        return m;
+    }
+    found(
+        outline,
+        hit_at,
+        hit,
+        lap_at,
+        lap,
         splits,
         s,
         cand_at,
@@ -425,7 +595,7 @@ fn dated(
     requires { ⌜ Roomed (given (now outline) (now «hit_at») (now hit) (now «lap_at») (now lap) s) (now splits) (lent (now «cand_at») (now cand) (now probe) (now «cand_edition»)) ⌝ }
     ensures { λ r. ⌜ Dated (given (now (outline .entry)) (now («hit_at» .entry)) (now (hit .entry)) (now («lap_at» .entry)) (now (lap .entry)) s) (now (splits .entry)) edition (lent (now («cand_at» .entry)) (now (cand .entry)) (now (probe .entry)) (now («cand_edition» .entry))) r (lent (now («cand_at» .exit)) (now (cand .exit)) (now (probe .exit)) (now («cand_edition» .exit))) ⌝ }
 {
-    let m = found(
+    let m = sought(
         outline,
         hit_at,
         hit,

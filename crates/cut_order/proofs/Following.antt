@@ -58,6 +58,18 @@ or-cases : (a b : Bool) → (a || b) ≡ true → a ≡ false → b ≡ true
 or-cases true b h k = absurd (true≢false k)
 or-cases false b h k = h
 
+module _ (i : ℕ) (last key : Key) (b : Bool) (told : b ≡ sooner (last .segment) (key .segment) (last .distance) (key .distance)) where
+  pub goes-before : b ≡ true → true ≡ goesOn i last key
+  unfolding goesOn goesBy
+  goes-before t = let e = sym told ∙ t in by-test (eqb i 0) (λ z. rw z) (λ z. rw (z, e))
+
+  pub goes-else : (d r : Bool) → (i ≡ 0 → ⊥) → b ≡ false → d ≡ sooner (key .segment) (last .segment) (key .distance) (last .distance) → r ≡ (ltb (last .arrival) (key .arrival) && not d)
+      → r ≡ goesOn i last key
+  unfolding goesOn goesBy
+  goes-else d r z t u e = let f = sym told ∙ t in let n = ne-eqb i 0 z in rw (n, f, sym u) e
+
+pub ruleset going = (goes-before, goes-else)
+
 module _ (g : Given) where
   goes-told : (x y : ℕ) → goesBy (keyBy (g .outline) (cutOf g x) x) (keyBy (g .outline) (cutOf g y) y) ≡ true → Goes (earlier g) x y
   unfolding goesBy keyBy earlier

@@ -47,9 +47,14 @@ fn is_sooner(a: usize, b: usize, x: f64, y: f64) -> bool
 fn goes_on(i: usize, last: Key, key: Key) -> bool
     ensures { λ r. ⌜ r ≡ goesOn i last key ⌝ }
 {
-    let before = is_sooner(last.segment, key.segment, last.distance, key.distance);
-    let behind = is_sooner(key.segment, last.segment, key.distance, last.distance);
-    (i == 0) | (before | ((last.arrival < key.arrival) & !behind))
+    if i == 0 {
+        return true;
+    }
+    if is_sooner(last.segment, key.segment, last.distance, key.distance) {
+        return true;
+    }
+    (last.arrival < key.arrival)
+        & !is_sooner(key.segment, last.segment, key.distance, last.distance)
 }
 
 // What is said at place i is the cut, and it goes on from the one in front of it.

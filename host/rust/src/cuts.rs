@@ -555,9 +555,7 @@ mod tests {
             ]
         });
         assert_eq!(found[0], found[1]);
-        let [plain, along] = &calls[..] else {
-            panic!("two calls are made");
-        };
+        let (plain, along) = (&calls[0], &calls[1]);
         assert_eq!(along.entry, "candidates_along");
         assert_eq!(along.lent("cut_at"), Lent::Counts(vec![1, 1, 0]));
         for name in [

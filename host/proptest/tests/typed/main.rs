@@ -330,7 +330,23 @@ fn histories_of_a_store() {
 #[test]
 fn whole_outlines() {
     let x = prop_oneof![12 => -400_000_000i64..400_000_001, 40 => -6i64..7, 1 => any::<i64>()];
-    let one = prop_oneof![30 => vec((x, -6i64..7), 2..20), 1 => vec((-6i64..7, -6i64..7), 0..2), 1 => vec((-6i64..7, -6i64..7), 1022..1027)];
+    // The largest square, run round so often that its area takes two words.
+    let most = 400_000_000i64;
+    let corners = [(-most, -most), (most, -most), (most, most), (-most, most)];
+    let round_and_round = (20usize..250, any::<bool>()).prop_map(move |(turns, back)| {
+        let round: Vec<(i64, i64)> = corners.repeat(turns);
+        if back {
+            round.into_iter().rev().collect()
+        } else {
+            round
+        }
+    });
+    let one = prop_oneof![
+        30 => vec((x, -6i64..7), 2..20),
+        2 => round_and_round,
+        1 => vec((-6i64..7, -6i64..7), 0..2),
+        1 => vec((-6i64..7, -6i64..7), 1022..1027)
+    ];
     let many = prop_oneof![30 => 1usize..5, 1 => 4095usize..4098];
     for_drawn((vec(one, 0..4), -14i64..15, prop_oneof![20 => -14i64..15, 1 => any::<i64>()], many), |(outlines, x, y, many)| {
         let whole: Vec<WholeOutline> = outlines.iter().map(|vertices| WholeOutline::new(vertices)).collect();

@@ -3,12 +3,11 @@ use borrow.Author.Needs.{needs}
 use Rattle.cut_order.proofs.along.key_of.Statement.{statement}
 use Rattle.cut_order.proofs.along.key_of.Tie as tie
 
-distance-of-requires : tie.Need-distance-of-requires
-distance-of-requires c κs = search needs
-
 returns : tie.Need-returns
 unfolding keyBy
 returns c = cc
 
 pub key-of-spec : {M : Type 1} → statement M
-key-of-spec = tie.close (tie.spec distance-of-requires returns)
+key-of-spec = tie.close (tie.spec
+    (λ c κs. search needs)
+    returns)

@@ -27,7 +27,8 @@ write-both-requires c κs =
 
 finish-requires : tie.Need-finish-requires
 finish-requires c κs =
-    let kept = c .before .before .before .before .before .before .before .before .before in
+    let after = c .before .before .before .before .before .before .before .before in
+    let kept = after .before in
     let second = kept .before .before .before .before in
     let lent = second .before in
     let need = lent .before in
@@ -38,7 +39,8 @@ finish-requires c κs =
 returns-3 : tie.Need-returns-3
 returns-3 c =
     let done = c .before .before .before .before .before .before .before in
-    let kept = done .before .before .before .before .before .before .before .before .before .before in
+    let after = done .before .before .before .before .before .before .before .before in
+    let kept = after .before .before in
     let second = kept .before .before .before .before in
     let lent = second .before in
     let need = lent .before in

@@ -7,8 +7,10 @@ returns : tie.Need-returns
 returns c =
     let cleared = c .before .before .before .before .before .before .before in
     let need = cleared .before in
-    let wrote = need .before .before .before .before .before .before .before .before .before .before in
-    let begun = wrote .before .before .before .before .before .before .before .before .before .before in
+    let after = need .before .before .before .before .before .before .before .before in
+    let wrote = after .before .before in
+    let params = wrote .before .before .before .before .before .before .before .before in
+    let begun = params .before .before in
     finished-of _ _ _ _ _ _ _ _ _ (begun .pre) (wrote .write-twice .ensures) (need .need-of .ensures) (cleared .clear-rest .ensures) (c .pruned-at .ensures)
 
 pub finish-spec : {M : Type 1} → statement M

@@ -5,8 +5,11 @@ use Rattle.prune_write.proofs.write.write_both.Tie as tie
 
 write-kept-requires-2 : tie.Need-write-kept-requires-2
 write-kept-requires-2 c κs =
-    let kept = c .before .before .before .before .before .before .before .before .before in
-    let begun = kept .before .before .before .before .before .before .before .before .before .before .before .before .before .before .before .before .before .before .before in
+    let after = c .before .before .before .before .before .before .before .before in
+    let kept = after .before in
+    let params = kept .before .before .before .before .before .before .before .before in
+    let lists = params .before .before .before .before .before .before .before .before in
+    let begun = lists .before .before .before in
     both-next _ _ _ _ _ _ _ (begun .pre) (kept .write-kept .ensures)
 
 returns : tie.Need-returns
