@@ -19,11 +19,11 @@ use Rattle.outline.specs.Outline.{vertexAt}
 use Rattle.whole.specs.Fit.{Near}
 use Rattle.whole.specs.FitLaws.{abs-add, fit, as-near}
 use Rattle.straight.specs.Plane.{spots, winding}
-use Rattle.straight.specs.Ready.{Outline, Probed}
+use Rattle.straight.specs.Ready.{Probed}
 use Rattle.straight_cut.specs.Microdegrees.{valueOf}
 use Rattle.straight_cut.specs.MicrodegreesLaws.{value-near}
 use Rattle.straight_cut.specs.SplitsLaws.{items-at}
-use Rattle.straight_cut.specs.Inside.{insideCode, insideOf, insideAt, insidesOf}
+use Rattle.straight_cut.specs.Inside.{insideCode, insideOf, insideAt, insidesOf, InsideFit}
 
 -- ---- the code of a winding number, which is read back as v
 module _ (w v : ℤ) (same : v ≡ w) (a : Bool) (above : a ≡ ltZ (pos 0) v) where
@@ -62,8 +62,8 @@ mid-read a b e f = toZ-ofZ (mid-fits a b e f) ∙ (λ i. e i +ℤ f i)
 
 -- the answer, from the doubled midpoint
 module _ (other : List ℤ) (vc : ℕ) (a b : Vertex) (x y : ℤ) (p : x ≡ valueOf (a .x) +ℤ valueOf (b .x)) (q : y ≡ valueOf (a .y) +ℤ valueOf (b .y)) where
-  pub probed : Outline other vc → Probed other vc x y
-  probed f = record { outline = f; x-ok = as-near p (mid-near (a .x) (b .x)); y-ok = as-near q (mid-near (a .y) (b .y)) }
+  pub probed : InsideFit other vc a b → Probed other vc x y
+  probed f = record { outline = f .outline; x-ok = as-near p (mid-near (a .x) (b .x)); y-ok = as-near q (mid-near (a .y) (b .y)) }
 
   pub inside-is : (w r : ℤ) (n : ℕ) → w ≡ winding (spots other) (record { x = x; y = y }) → r ≡ w → n ≡ insideCode r → n ≡ insideOf other a b
   unfolding insideOf

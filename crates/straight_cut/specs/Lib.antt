@@ -2,8 +2,10 @@ pub mod Microdegrees
 pub mod MicrodegreesLaws
 pub mod Straight
 pub mod StraightLaws
+pub mod KnownLaws
 pub mod Splits
 pub mod SplitsLaws
 pub mod Inside
 pub mod InsideLaws
+pub mod ProbeLaws
 pub mod CutExamples

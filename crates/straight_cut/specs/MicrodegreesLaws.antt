@@ -10,17 +10,17 @@ use native.Mathlib.Nat.{le-trans}
 use lib.ListN.{length, getD, set}
 use lib.Seq.{sets}
 use lib.IntN.{ℤ, pos, negsuc}
-use lib.Ieee.{Float, fin, binary64, le, lt, eq, ofInt, toSigned, inFloat}
+use lib.Ieee.{Float, nan, fin, binary64, le, lt, eq, ofInt, toSigned, inFloat}
 use Rattle.basis.specs.Choice.{by-test, and-left, and-right}
 use Rattle.basis.specs.Room.{roomOf}
-use Rattle.basis.specs.All.{All, all-both}
+use Rattle.basis.specs.All.{All, all-both, all-at}
 use Rattle.basis.specs.Items.{firstItems}
 use Rattle.outline.specs.Outline.{vertexAt}
 use Rattle.basis.specs.ItemLaws.{Filling, items-length, fill-none, fill-more, fill-end}
 use Rattle.whole.specs.Fit.{Near}
 use Rattle.straight_entries.specs.Range.{inReach}
 use Rattle.straight_entries.specs.RangeLaws.{reach-near}
-use Rattle.straight_cut.specs.Microdegrees.{reach, isWhole, valueOf, wholeVertex, wholesOf, WholesFit, WholesRoom}
+use Rattle.straight_cut.specs.Microdegrees.{reach, isWhole, valueOf, readable, wholeVertex, wholesOf, WholesFit, WholesRoom}
 
 -- ---- whether it is whole
 and-no : (t : Bool) → t && false ≡ false
@@ -69,10 +69,6 @@ module _ (x : Float) where
     unfolding valueOf
     value-yes z t q = q ∙ sym (λ i. cond ((sym e ∙ t) i) (toSigned 63 x) (pos 0))
 
-    pub value-no : b ≡ false → pos 0 ≡ valueOf x
-    unfolding valueOf
-    value-no t = sym (λ i. cond ((sym e ∙ t) i) (toSigned 63 x) (pos 0))
-
 -- the value is within 400,000,000, whatever x is
 pub value-near : (x : Float) → Near 400000000 (valueOf x)
 unfolding valueOf isWhole
@@ -94,7 +90,15 @@ module _ (o : List Float) (vc : ℕ) (entry : List ℤ) where
   wholes-none = record { ahead = zero-le; filling = fill-none (wholeVertex o) 2 (λ n. refl) entry }
 
   pub wholes-fit : (room : List ℤ) (i : ℕ) → Wholes o vc entry room i → WholesRoom o vc entry → i < vc → WholesFit o i room (2 * i)
-  wholes-fit room i w k h = record { there = omega (arith, k .whole .triples); fits = omega (arith, w .filling .long, k .fits) }
+  unfolding vertexAt
+  wholes-fit room i w k h =
+      let t : length o ≡ 3 * vc = k .whole .triples in
+      record {
+        there = omega arith;
+        x-ok = all-at readable o (3 * i) nan (k .all) (omega arith);
+        y-ok = all-at readable o (3 * i + 1) nan (k .all) (omega arith);
+        fits = omega (arith, w .filling .long, k .fits);
+      }
 
   pub wholes-more : (room room' : List ℤ) (i : ℕ) → Wholes o vc entry room i → WholesRoom o vc entry → i < vc → room' ≡ sets room (2 * i) (wholeVertex o i) → Wholes o vc entry room' (i + 1)
   wholes-more room room' i w k h e = record { ahead = omega arith; filling = fill-more (wholeVertex o) 2 (λ n. refl) entry room room' i (w .filling) (omega (arith, k .fits)) e }

@@ -58,7 +58,7 @@ module _ (o : List Float) (cutAt : List ℕ) (cut : List Float) where
   running-flat p = by-test (ltb 0 p && eqb (segmentAt cutAt (p - 1)) (segmentAt cutAt p)) (λ e. rw e) (λ e. rw e)
 
   -- behind a cut of the same segment it is that cut
-  running-next : (count p : ℕ) → sameNext cutAt count p ≡ true → runningAt o cutAt cut (p + 1) ≡ cutVertex cut p
+  pub running-next : (count p : ℕ) → sameNext cutAt count p ≡ true → runningAt o cutAt cut (p + 1) ≡ cutVertex cut p
   unfolding runningAt sameNext
   running-next count p e =
       let q : p + 1 - 1 ≡ p = omega arith in

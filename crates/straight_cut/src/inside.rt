@@ -1,9 +1,8 @@
 // The inside answer: the winding number of the other outline round the doubled midpoint of a candidate's two vertices.
 ghost use mathlib.Core.Path.{_≡_};
 ghost use lib.IntN.{_+ℤ_};
-ghost use Rattle.straight.specs.Ready.{Outline};
 ghost use Rattle.straight_cut.specs.Microdegrees.{valueOf};
-ghost use Rattle.straight_cut.specs.Inside.{insideCode, insideOf};
+ghost use Rattle.straight_cut.specs.Inside.{insideCode, insideOf, KnownTwo, InsideFit};
 use crate::microdegrees;
 use outline::point::Vertex;
 use straight::sum;
@@ -24,14 +23,15 @@ fn code_of(w: i64) -> u8
 
 // The midpoint of two numbers of microdegrees, doubled: their sum.
 fn doubled_mid(a: f64, b: f64) -> i64
+    requires { ⌜ KnownTwo a b ⌝ }
     ensures { λ r. ⌜ r ≡ valueOf a +ℤ valueOf b ⌝ }
 {
-    microdegrees::value_of(a) + microdegrees::value_of(b)
+    microdegrees::known_value(a) + microdegrees::known_value(b)
 }
 
 // Whether the midpoint of the two vertices is inside the outline: 1 or 0.
 pub fn inside_of(other: &[i64], vc: usize, a: Vertex, b: Vertex) -> u8
-    requires { ⌜ Outline (now other) vc ⌝ }
+    requires { ⌜ InsideFit (now other) vc a b ⌝ }
     ensures { λ r. ⌜ r ≡ insideOf (now (other .entry)) a b ⌝ }
 {
     let x = doubled_mid(a.x, b.x);

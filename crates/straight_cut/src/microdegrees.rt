@@ -1,12 +1,13 @@
 // Whole microdegrees that came as an f64, exactly.
 ghost use mathlib.Core.Path.{_≡_};
+ghost use mathlib.Core.Bool.{true};
 ghost use lib.ListN.{set};
 ghost use lib.Seq.{sets};
 ghost use Rattle.basis.specs.Room.{roomOf, RoomFor};
 ghost use lib.IntN.{pos};
 ghost use lib.Ieee.{binary64, ofInt};
 ghost use Rattle.whole.specs.Fit.{Near};
-ghost use Rattle.straight_cut.specs.Microdegrees.{isWhole, valueOf, wholeVertex, wholesOf, WholesFit, WholesRoom};
+ghost use Rattle.straight_cut.specs.Microdegrees.{isWhole, valueOf, readable, wholeVertex, wholesOf, WholesFit, WholesRoom};
 use outline::read;
 use straight_entries::range;
 
@@ -33,21 +34,15 @@ pub(crate) fn is_whole(x: f64) -> bool
     false
 }
 
-// Which number of microdegrees x is, and 0 where it is none. One truncation gives both.
-pub(crate) fn value_of(x: f64) -> i64
+// Which number of microdegrees x is, where it is known to be one or a zero: the machine's own cast, which is defined for whole numbers other than -0.
+pub(crate) fn known_value(x: f64) -> i64
+    requires { ⌜ readable x ≡ true ⌝ }
     ensures { λ r. ⌜ r ≡ valueOf x ⌝ }
 {
-    if x >= -9223372036854775808.0 {
-        if x < 9223372036854775808.0 {
-            let z = std::num::truncating_f64_to_i64(x);
-            if range::near_vertex(z) {
-                if float_of(z) == x {
-                    return z;
-                }
-            }
-        }
+    if x == 0.0 {
+        return 0;
     }
-    0
+    x as i64
 }
 
 // Writes a whole number at a place.
@@ -64,8 +59,8 @@ fn put_vertex(outline: &[f64], i: usize, room: &mut [i64], at: usize)
     ensures { λ _. ⌜ now (room .exit) ≡ sets (now (room .entry)) at (wholeVertex (now (outline .entry)) i) ⌝ }
 {
     let v = read::vertex_at(outline, i);
-    put(room, at, value_of(v.x));
-    put(room, at + 1, value_of(v.y));
+    put(room, at, known_value(v.x));
+    put(room, at + 1, known_value(v.y));
 }
 
 // The outline in whole microdegrees, x and y in turn.

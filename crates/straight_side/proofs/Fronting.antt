@@ -15,7 +15,7 @@ use Rattle.cut.specs.Cuts.{Given, given, cutCount}
 use Rattle.cut.specs.Order as order
 use Rattle.cut.specs.Order.{cutNumbers, cutPoints}
 use Rattle.cut_order.specs.Write.{WriteRoom}
-use Rattle.cut_order.specs.CutsLaws.{numbers-length, points-length, written-lengths}
+use Rattle.cut_order.specs.CutsLaws.{numbers-length, points-length, points-pass, written-lengths}
 use Rattle.candidate.specs.Candidates as slices
 use Rattle.candidate_entries.specs.CandidatesLaws.{along-sound}
 use Rattle.slice.specs.Slice as slice
@@ -23,10 +23,11 @@ use Rattle.slice.specs.Ready.{Rooms}
 use Rattle.prune.specs.Prune.{keptTo}
 use Rattle.prune_write.specs.Ready.{Wrote}
 use Rattle.prune_write.specs.WriteLaws.{kept-few}
-use Rattle.straight_cut.specs.Microdegrees.{wholesOf, WholesRoom}
+use Rattle.straight_cut.specs.Microdegrees.{readable, wholesOf, WholesRoom}
 use Rattle.straight_cut.specs.MicrodegreesLaws.{wholes-close, wholes-length}
 use Rattle.straight_cut.specs.Splits.{straightSplits, straightGiven}
 use Rattle.straight_cut.specs.SplitsLaws.{splits-length}
+use Rattle.straight_cut.specs.ProbeLaws.{probe-known}
 use Rattle.straight_side.specs.declared.keeping.Side.{Side}
 use Rattle.straight_side.specs.Side.{alongStraight, sideCount, sideCands, staysTo}
 use Rattle.straight_side.specs.Ready.{PlacesRoom, FrontsRoom, KeptRoom, KeptWith, KeptFew, Fits, Kept}
@@ -49,7 +50,7 @@ module _ (o : List Float) (ha : List ℕ) (h : List Float) (la : List ℕ) (l : 
   sort-room = record { roomy = record { accepted = k .ok .both .accepted; numberRoom = k .numberRoom; pointRoom = k .pointRoom }; long = k .sortedLong }
 
   pub wholes-room : WholesRoom other (side .«other_vc») wholes
-  wholes-room = record { whole = k .ok .both .whole; fits = k .wholesRoom }
+  wholes-room = record { whole = k .ok .both .whole; all = k .ok .both .others; fits = k .wholesRoom }
 
   -- cuts and whole microdegrees stand in front of their lists
   module _ (a′ : List ℕ) (b′ : List Float) (w : order.Written g a b a′ b′) (wholes′ : List ℤ) (e : wholes′ ≡ roomOf (pos 0) 2 (side .«other_vc») (wholesOf other (side .«other_vc»)) wholes) where
@@ -70,9 +71,11 @@ module _ (o : List Float) (ha : List ℕ) (h : List Float) (la : List ℕ) (l : 
         let c = k .ok .both .accepted .ready in
         let v = k .ok .both .whole in
         let sizes = written-lengths g a a′ b b′ (record { accepted = k .ok .both .accepted; numberRoom = k .numberRoom; pointRoom = k .pointRoom }) w in
+        let sound = along-sound g (straightSplits g) (record { accepted = k .ok .both .accepted; nine = splits-length o (cutNumbers g) (cutPoints g) (cutCount g) }) in
         let there : PlacesRoom (alongStraight g) (wholesOf other (side .«other_vc»)) (side .«other_vc») room (side .from) =
         record {
-          sound = along-sound g (straightSplits g) (record { accepted = k .ok .both .accepted; nine = splits-length o (cutNumbers g) (cutPoints g) (cutCount g) });
+          sound = sound;
+          known = probe-known o (cutNumbers g) (cutPoints g) (side .cuts) sound (k .ok .both .own) (points-pass readable g c (k .ok .both .hits) (k .ok .both .laps));
           outline = record { long = wholes-length other (side .«other_vc»); least = v .least; most = v .most; close = wholes-close other (side .«other_vc») };
           low = k .ok .low;
           roomy = k .ok .roomy;

@@ -22,7 +22,7 @@ use Rattle.candidate.specs.declared.at_cut.Candidate.the-variants.{Nothing, Sli
 use Rattle.candidate.specs.Candidates.{Given, candidateAt}
 use Rattle.prune.specs.declared.mode.Part.{Part}
 use Rattle.prune_write.specs.Ready.{Wrote}
-use Rattle.straight_cut.specs.Inside.{insideOf}
+use Rattle.straight_cut.specs.Inside.{insideOf, InsideFit, KnownProbe}
 use Rattle.straight_side.specs.Side.{viewCodes, viewShape, staysOf, staysTo}
 use Rattle.straight_side.specs.Ready.{StayFit, PlacesRoom}
 
@@ -71,10 +71,11 @@ module _ (g : Given) (other : List ℤ) (vc edition : ℕ) (part : Part) (l : Ro
   walk-none r = record { ready = r; ahead = zero-le; few = omega arith; placed = placed-none l m; size-at = refl; size-shape = refl; size-edition = refl }
 
   module _ (l′ : Rooms) (n p : ℕ) (w : Walking g other vc edition part l m l′ n p) where
-    pub walk-fit : p < g .count → StayFit other vc l′ n
-    walk-fit h =
+    pub walk-fit : (c : Candidate) → p < g .count → c ≡ candidateAt g p → StayFit c other vc l′ n
+    walk-fit c h e =
         let r = w .ready in
         record {
+          known = subst KnownProbe (sym e) (r .known p h);
           outline = r .outline;
           low = omega (arith, r .low, r .sound .few, w .few);
           roomy = record { at = omega (arith, r .roomy .at, w .size-at, w .few); shape = omega (arith, r .roomy .shape, w .size-shape, w .few); edition = omega (arith, r .roomy .edition, w .size-edition, w .few) };
@@ -99,9 +100,13 @@ module _ (g : Given) (other : List ℤ) (vc edition : ℕ) (part : Part) (l : Ro
         let e : p ≡ g .count = omega (arith, w .ahead) in
         record { placed = rw e at (w .placed); few = omega (arith, w .few); size-at = w .size-at; size-shape = w .size-shape; size-edition = w .size-edition }
 
-pub stay-fit : (other : List ℤ) (vc : ℕ) (room : Rooms) (n : ℕ) → StayFit other vc room n → PutFit room n
-stay-fit other vc room n f = record { low = f .low; roomy = f .roomy }
+module _ (c : Candidate) (other : List ℤ) (vc : ℕ) (room : Rooms) (n : ℕ) (f : StayFit c other vc room n) where
+  pub stay-ask : (v : ViewData) (a b : Vertex) → c ≡ Slice v a b → InsideFit other vc a b
+  stay-ask v a b e = let k : KnownProbe (Slice v a b) = subst KnownProbe e (f .known) in record { outline = f .outline; xs = k .0; ys = k .1 }
 
-pub ruleset stays = (stay-nothing, stay-not, stay-put, stay-fit)
+  pub stay-fit : PutFit room n
+  stay-fit = record { low = f .low; roomy = f .roomy }
+
+pub ruleset stays = (stay-nothing, stay-not, stay-put, stay-ask, stay-fit)
 
 pub ruleset walking = (walk-none, walk-fit, walk-more, walk-end)

@@ -7,31 +7,37 @@ use lib.ListN.{length, take}
 use lib.IntN.{ℤ}
 use lib.Ieee.{Float}
 use Rattle.basis.specs.Sizes.{mostCandidates, mostSlices}
+use Rattle.basis.specs.All.{allOf}
 use Rattle.outline.specs.Outline.{Whole}
 use Rattle.straight.specs.Ready.{Outline}
 use Rattle.cut.specs.declared.arrival.Case.{Case}
 use Rattle.cut.specs.Cuts.{Given, cutCount}
 use Rattle.cut.specs.Order as order
+use Rattle.candidate.specs.declared.at_cut.Candidate.{Candidate}
 use Rattle.candidate.specs.Candidates as slices
 use Rattle.candidate.specs.Ready.{Sound}
 use Rattle.slice.specs.Ready.{Rooms, Roomy}
 use Rattle.prune.specs.Prune.{keptTo}
 use Rattle.prune_write.specs.Ready.{Wrote}
+use Rattle.straight_cut.specs.Microdegrees.{readable}
 use Rattle.straight_cut.specs.Splits.{straightGiven}
+use Rattle.straight_cut.specs.Inside.{KnownProbe}
 use Rattle.straight_side.specs.declared.keeping.Side.{Side}
 use Rattle.straight_side.specs.Side.{sideCount, sideCands}
 
 -- ---- along the cuts in their order
 
--- the other outline in whole microdegrees, and room for slice number n
-pub record StayFit (other : List ℤ) (vc : ℕ) (room : Rooms) (n : ℕ) : Type 0 where
+-- a candidate of a straight mask, the other outline in whole microdegrees, and room for slice number n
+pub record StayFit (c : Candidate) (other : List ℤ) (vc : ℕ) (room : Rooms) (n : ℕ) : Type 0 where
+  pub known : KnownProbe c
   pub outline : Outline other vc
   pub low : n < mostSlices
   pub roomy : Roomy (n + 1) room
 
--- and cuts that are in order, with room for one slice a cut from number m on
+-- cuts that are in order, their candidates too, the other outline, and room for one slice a cut from number m on
 pub record PlacesRoom (g : slices.Given) (other : List ℤ) (vc : ℕ) (room : Rooms) (m : ℕ) : Type 0 where
   pub sound : Sound g
+  pub known : (p : ℕ) → p < g .count → KnownProbe (slices.candidateAt g p)
   pub outline : Outline other vc
   pub low : m ≤ mostCandidates
   pub roomy : Roomy (m + g .count) room
@@ -47,10 +53,14 @@ pub record FrontsRoom (o : List Float) (cutAt : List ℕ) (cut : List Float) (s 
 
 -- ---- one outline
 
--- accepted cuts and the other outline
+-- accepted cuts and the other outline, all straight and whole
 pub record Both (g : Given) (other : List Float) (vc : ℕ) : Type 0 where
   pub accepted : order.Accepted g
   pub whole : Whole other vc
+  pub own : allOf readable (g .outline) ≡ true
+  pub others : allOf readable other ≡ true
+  pub hits : allOf readable (g .hit) ≡ true
+  pub laps : allOf readable (g .lap) ≡ true
 
 -- and room for one slice a cut
 pub record KeptRoom (g : Given) (other : List Float) (side : Side) (room : Rooms) : Type 0 where

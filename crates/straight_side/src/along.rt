@@ -54,7 +54,7 @@ fn put_stay(
     slice_edition: &mut [u32],
     n: usize,
 ) -> usize
-    requires { ⌜ StayFit (now other) «other_vc» (rooms (now «slice_at») (now slice) (now «slice_edition»)) n ⌝ }
+    requires { ⌜ StayFit c (now other) «other_vc» (rooms (now «slice_at») (now slice) (now «slice_edition»)) n ⌝ }
     ensures { λ r. ⌜ Placed (staysOf (now (other .entry)) edition part c) (rooms (now («slice_at» .entry)) (now (slice .entry)) (now («slice_edition» .entry))) n r (rooms (now («slice_at» .exit)) (now (slice .exit)) (now («slice_edition» .exit))) ⌝ }
 {
     let Candidate::Slice(v, a, b) = c else {

@@ -62,7 +62,7 @@ fn kept_with(
     )
 }
 
-// The same by lists for 16 cuts and 32 vertices, which cost little to set up; by lists for 64 and 128; and by lists for the most.
+// The same by lists for 8 cuts and 16 vertices, which cost little to set up; by lists for 64 and 128; and by lists for the most.
 fn kept_few(
     outline: &[f64],
     other: &[f64],
@@ -75,13 +75,13 @@ fn kept_few(
     slice: &mut [f64],
     slice_edition: &mut [u32],
 ) -> usize
-    requires { ⌜ KeptFew 16 32 (given (now outline) (now «hit_at») (now hit) (now «lap_at») (now lap) (side .cuts)) (now other) side (rooms (now «slice_at») (now slice) (now «slice_edition»)) ⌝ }
+    requires { ⌜ KeptFew 8 16 (given (now outline) (now «hit_at») (now hit) (now «lap_at») (now lap) (side .cuts)) (now other) side (rooms (now «slice_at») (now slice) (now «slice_edition»)) ⌝ }
     ensures { λ r. ⌜ Kept (given (now (outline .entry)) (now («hit_at» .entry)) (now (hit .entry)) (now («lap_at» .entry)) (now (lap .entry)) (side .cuts)) (now (other .entry)) side (rooms (now («slice_at» .entry)) (now (slice .entry)) (now («slice_edition» .entry))) r (rooms (now («slice_at» .exit)) (now (slice .exit)) (now («slice_edition» .exit))) ⌝ }
 {
-    let mut order = [0usize; 16];
-    let mut cut_at = [0usize; 48];
-    let mut cut = [0.0f64; 32];
-    let mut wholes = [0i64; 64];
+    let mut order = [0usize; 8];
+    let mut cut_at = [0usize; 24];
+    let mut cut = [0.0f64; 16];
+    let mut wholes = [0i64; 32];
     kept_with(
         outline,
         other,
@@ -247,7 +247,7 @@ pub fn kept(
     requires { ⌜ KeptRoom (given (now outline) (now «hit_at») (now hit) (now «lap_at») (now lap) (side .cuts)) (now other) side (rooms (now «slice_at») (now slice) (now «slice_edition»)) ⌝ }
     ensures { λ r. ⌜ Kept (given (now (outline .entry)) (now («hit_at» .entry)) (now (hit .entry)) (now («lap_at» .entry)) (now (lap .entry)) (side .cuts)) (now (other .entry)) side (rooms (now («slice_at» .entry)) (now (slice .entry)) (now («slice_edition» .entry))) r (rooms (now («slice_at» .exit)) (now (slice .exit)) (now («slice_edition» .exit))) ⌝ }
 {
-    if fits(side, 16, 32) {
+    if fits(side, 8, 16) {
         return kept_few(
             outline,
             other,

@@ -22,6 +22,7 @@ use Rattle.prune_write.specs.Ready.{WrittenTo}
 use Rattle.prune_entries.specs.declared.answer.PruneAnswer.{PruneAnswer}
 use Rattle.prune_entries.specs.Answers.{pruneRefused, pruneGiven}
 use Rattle.prune_entries.specs.PruneRows.{roomRows}
+use Rattle.straight_cut.specs.KnownLaws.{outline-readable, points-readable, laps-readable}
 use Rattle.straight_slices.specs.Slices.{Given, firstCuts, secondCuts, pruning, mostCall, needAll}
 use Rattle.straight_slices.specs.Ready.{Accepted}
 use Rattle.straight_slices.specs.Rows.{moreListRows, listRows, codeRows, numberRows, straightRows, indexRows, inputRows, lentRows, slicesRows, slicesRefusal, slicesNumber, SlicesLeft}
@@ -167,8 +168,13 @@ module _ (g : Given) (l : Rooms) (number : ℕ) (is : number ≡ slicesNumber g 
       let c = first-pass g p in
       let first = cuts-accepted (firstCuts g) c in
       let second = cuts-accepted (secondCuts g) (second-pass g p) in
+      let s = p .straight in
+      let one = outline-readable (g .outline1) (g .job .vc1) (c .outlineLength) (not-false _ (s .0)) in
+      let two = outline-readable (g .outline2) (g .job .vc2) (p .outline2) (not-false _ (s .1 .0)) in
+      let hits = points-readable (g .hit) (not-false _ (s .1 .1 .0)) in
+      let laps = laps-readable (g .lap) (g .job .laps) (c .lapLength) (not-false _ (s .1 .1 .1 .0)) in
       record {
-        sides = record { first = record { accepted = first; whole = second .ready .whole }; second = record { accepted = second; whole = first .ready .whole }; roomy = accepted-room g l none };
+        sides = record { first = record { accepted = first; whole = second .ready .whole; own = one; others = two; hits = hits; laps = laps }; second = record { accepted = second; whole = first .ready .whole; own = two; others = one; hits = hits; laps = laps }; roomy = accepted-room g l none };
         laps = record { few = c .fewLaps; at = c .lapAtLength; shape = c .lapLength; edition = p .editions };
         most = m;
       }

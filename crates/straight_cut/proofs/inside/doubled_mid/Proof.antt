@@ -6,13 +6,13 @@ use Rattle.straight_cut.proofs.inside.doubled_mid.Statement.{statement}
 use Rattle.straight_cut.proofs.inside.doubled_mid.Tie as tie
 
 add-result : tie.Need-add-result
-add-result c = let a = c .before .value-of in
-    let b = c .value-of2 in
+add-result c = let a = c .before .known-value in
+    let b = c .known-value2 in
     mid-fits _ _ (got (a .result) (a .ok) ∙ a .ensures) (got (b .result) (b .ok) ∙ b .ensures)
 
 returns : tie.Need-returns
-returns c = let a = c .before .value-of in
-    let b = c .value-of2 in
+returns c = let a = c .before .known-value in
+    let b = c .known-value2 in
     mid-read _ _ (got (a .result) (a .ok) ∙ a .ensures) (got (b .result) (b .ok) ∙ b .ensures)
 
 pub doubled-mid-spec : {M : Type 1} → statement M

@@ -7,6 +7,9 @@ use Rattle.straight_side.proofs.along.put_stay.Tie as tie
 returns : tie.Need-returns
 returns c = search (needs, stays)
 
+inside-of-requires : tie.Need-inside-of-requires
+inside-of-requires c κs = search (needs, stays)
+
 returns-2 : tie.Need-returns-2
 returns-2 c = search (needs, stays)
 
@@ -30,7 +33,7 @@ put-stay-spec =
     (λ c. search needs)
     (λ c. search needs)
     returns
-    (λ c κs. search needs)
+    inside-of-requires
     returns-2
     (λ c κs. search needs)
     (λ c κs. search needs)

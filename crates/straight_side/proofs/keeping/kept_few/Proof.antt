@@ -8,7 +8,7 @@ use Rattle.straight_side.proofs.keeping.kept_few.Statement.{statement}
 use Rattle.straight_side.proofs.keeping.kept_few.Tie as tie
 
 kept-with-requires : tie.Need-kept-with-requires
-kept-with-requires c κs = few-lists _ _ _ _ _ _ _ _ 16 32 (search c) (length-replicate {A = ℕ} 16 0) (length-replicate {A = ℕ} 48 0) (length-replicate 32 +0) (length-replicate {A = ℤ} 64 (pos 0))
+kept-with-requires c κs = few-lists _ _ _ _ _ _ _ _ 8 16 (search c) (length-replicate {A = ℕ} 8 0) (length-replicate {A = ℕ} 24 0) (length-replicate 16 +0) (length-replicate {A = ℤ} 32 (pos 0))
 
 pub kept-few-spec : {M : Type 1} → statement M
 kept-few-spec =

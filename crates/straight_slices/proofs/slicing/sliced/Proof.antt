@@ -5,15 +5,19 @@ use Rattle.straight_slices.proofs.slicing.sliced.Tie as tie
 
 finish-requires : tie.Need-finish-requires
 finish-requires c κs =
-    let kept = c .before .before .before .before .before .before .before .before .before in
-    let start = kept .before .before .before .before .before .before .before .before .before .before .before .before .before .before in
+    let handed = c .before .before .before .before .before .before .before .before in
+    let kept = handed .before in
+    let entered = kept .before .before .before .before .before .before .before .before in
+    let start = entered .before .before .before .before .before .before in
     finish-fit _ _ _ _ _ (start .pre) (kept .both-sides .ensures)
 
 returns : tie.Need-returns
 returns c =
     let done = c .before .before .before .before .before .before in
-    let kept = done .before .before .before .before .before .before .before .before .before .before in
-    let start = kept .before .before .before .before .before .before .before .before .before .before .before .before .before .before in
+    let handed = done .before .before .before .before .before .before .before .before in
+    let kept = handed .before .before in
+    let entered = kept .before .before .before .before .before .before .before .before in
+    let start = entered .before .before .before .before .before .before in
     finish-written _ _ _ _ _ (start .pre) (kept .both-sides .ensures) _ _ (done .finish .ensures)
 
 pub sliced-spec : {M : Type 1} → statement M
