@@ -21,14 +21,23 @@ fn all_finite(areas: &[f64]) -> bool
     ok
 }
 
+// The rows in their order, each by a way out of its own: an accepted call then keeps no number on the way.
 fn refusal(areas: &[f64], loops: usize, limit: f64, kept: usize) -> u32
     ensures { λ n. ⌜ n ≡ areaRefusal (now (areas .entry)) loops limit kept ⌝ }
 {
-    let r = refuse::or_else(0, refuse::bad_length(areas.len(), 1, loops), 1);
-    let r = refuse::or_else(r, MOST_SLICES < loops, 1);
-    let r = refuse::or_else(r, !number::good_limit(limit), 4);
-    let r = refuse::or_else(r, !all_finite(areas), 5);
-    refuse::or_else(r, kept < loops, 9)
+    if refuse::bad_length(areas.len(), 1, loops) {
+        return 1;
+    }
+    if MOST_SLICES < loops {
+        return 1;
+    }
+    if !number::good_limit(limit) {
+        return 4;
+    }
+    if !all_finite(areas) {
+        return 5;
+    }
+    if kept < loops { 9 } else { 0 }
 }
 
 // The numbers of the loops whose area is not below the limit, in order.
