@@ -23,7 +23,7 @@ pub(crate) fn show(a: &[f64], b: &[f64]) {
 }
 
 // The candidates of a square over the splits along its two cuts. Says how many there are.
-fn candidates(
+fn sliced(
     outline: &[f64],
     source: u32,
     splits: &[f64],
@@ -55,11 +55,23 @@ fn candidates(
         &mut probe,
         &mut edition,
     );
-    print::whole(answer.count);
+    answer.count
+}
+
+// The same, shown.
+fn candidates(
+    outline: &[f64],
+    source: u32,
+    splits: &[f64],
+    at: &mut [usize],
+    shape: &mut [f64],
+) -> usize {
+    let count = sliced(outline, source, splits, at, shape);
+    print::whole(count);
     print::word(b",");
     print::starts_and_offsets(at);
     print::word(b"\n");
-    answer.count
+    count
 }
 
 // A square's splits: for each cut the part of its segment up to it, the cut, and the cut again as the whole segment's split.

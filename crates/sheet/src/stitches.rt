@@ -3,9 +3,11 @@ use crate::corners;
 use crate::print;
 use crate::squares;
 use mask::setting;
+use prune_entries::answer::PruneAnswer;
 use select::class::Starts;
+use stitch_entries::answer::StitchAnswer;
 
-// The slices of a mode, as they stay: A's first candidate is inside B, B's second inside A. Says where their classes start.
+// The slices of a mode, as they stay: A's first candidate is inside B, B's second inside A.
 fn prune(
     mode: u32,
     at_a: &[usize],
@@ -17,14 +19,14 @@ fn prune(
     at: &mut [usize],
     shape: &mut [f64],
     edition: &mut [u32],
-) -> Starts {
+) -> PruneAnswer {
     let inside_a = [1u8, 0];
     let inside_b = [0u8, 1];
     let lap_at = [0usize; 0];
     let lap = [0.0; 0];
     let lap_edition = [0u32; 0];
     let cut = [0u32; 2];
-    let answer = mask::pruning::mask_prune(
+    mask::pruning::mask_prune(
         mode,
         0,
         4,
@@ -46,47 +48,40 @@ fn prune(
         at,
         shape,
         edition,
-    );
-    print::whole(answer.slices);
-    print::word(b" slices, starts");
-    print::three(
-        answer.starts.pline2,
-        answer.starts.pline1_overlapping,
-        answer.starts.pline2_overlapping,
-    );
-    answer.starts
+    )
 }
 
-// Stitches slices of the two squares by a setting with this tolerance on both axes, and says what came of it: the rounds, and the loop where there is one.
-pub(crate) fn stitch(
+// How many slices stay, and where their classes start.
+fn show_pruned(slices: usize, starts: Starts) {
+    print::whole(slices);
+    print::word(b" slices, starts");
+    print::three(
+        starts.pline2,
+        starts.pline1_overlapping,
+        starts.pline2_overlapping,
+    );
+}
+
+// Stitches slices of the two squares by a setting of a record.
+fn joined(
     slice_at: &[usize],
     slice: &[f64],
     slice_edition: &[u32],
     slices: usize,
     starts: Starts,
     selector: u32,
-    tolerance: f64,
+    entered: &[usize],
+    settings: &[f64],
+    setting: usize,
     room: &mut [f64],
-) {
+    ends: &mut [usize],
+) -> StitchAnswer {
     let a = squares::a();
     let b = squares::b();
-    let mut ends = [0usize; 2];
     let mut chain = [0usize; 2];
     let mut chain_ends = [0usize; 2];
     let mut chain_how = [0usize; 2];
-    let mut entered = [0usize; 1];
-    let mut settings = [0.0; 48];
-    let setting = setting::mask_settings_enter(
-        &mut entered,
-        &mut settings,
-        tolerance,
-        tolerance,
-        0.0,
-    );
-    print::word(b"; room for ");
-    print::whole(room.len() / 3);
-    print::word(b": ");
-    let answer = mask::stitching::mask_stitch(
+    mask::stitching::mask_stitch(
         &a,
         4,
         0,
@@ -101,15 +96,19 @@ pub(crate) fn stitch(
         starts.pline1_overlapping,
         starts.pline2_overlapping,
         selector,
-        &entered,
-        &settings,
-        setting.edition,
+        entered,
+        settings,
+        setting,
         room,
-        &mut ends,
+        ends,
         &mut chain,
         &mut chain_ends,
         &mut chain_how,
-    );
+    )
+}
+
+// What came of a stitch: the rounds, and the loop where there is one.
+fn show_stitched(answer: StitchAnswer, room: &[f64], end: usize) {
     if answer.refusal != 0 {
         print::refused(answer.refusal);
         return;
@@ -122,9 +121,53 @@ pub(crate) fn stitch(
         return;
     }
     print::word(b"   loop of ");
-    print::whole(ends[0]);
+    print::whole(end);
     print::word(b":");
-    corners::list(room, ends[0]);
+    corners::list(room, end);
+}
+
+fn show_room(numbers: usize) {
+    print::word(b"; room for ");
+    print::whole(numbers / 3);
+    print::word(b": ");
+}
+
+// Stitches slices of the two squares by a setting with this tolerance on both axes, and says what came of it.
+pub(crate) fn stitch(
+    slice_at: &[usize],
+    slice: &[f64],
+    slice_edition: &[u32],
+    slices: usize,
+    starts: Starts,
+    selector: u32,
+    tolerance: f64,
+    room: &mut [f64],
+) {
+    let mut ends = [0usize; 2];
+    let mut entered = [0usize; 1];
+    let mut settings = [0.0; 48];
+    let setting = setting::mask_settings_enter(
+        &mut entered,
+        &mut settings,
+        tolerance,
+        tolerance,
+        0.0,
+    );
+    show_room(room.len());
+    let answer = joined(
+        slice_at,
+        slice,
+        slice_edition,
+        slices,
+        starts,
+        selector,
+        &entered,
+        &settings,
+        setting.edition,
+        room,
+        &mut ends,
+    );
+    show_stitched(answer, room, ends[0]);
 }
 
 // The stitch of the first two slices of a list, with room for so many numbers.
@@ -176,7 +219,7 @@ fn of_mode(
     let mut at = [0usize; 16];
     let mut shape = [0.0; 24];
     let mut edition = [0u32; 4];
-    let starts = prune(
+    let kept = prune(
         mode,
         at_a,
         shape_a,
@@ -188,8 +231,17 @@ fn of_mode(
         &mut shape,
         &mut edition,
     );
+    show_pruned(kept.slices, kept.starts);
     let mut room = [0.0; 27];
-    stitch_two(&at, &shape, &edition, starts, selector, numbers, &mut room);
+    stitch_two(
+        &at,
+        &shape,
+        &edition,
+        kept.starts,
+        selector,
+        numbers,
+        &mut room,
+    );
 }
 
 // T3, T4 and T5, each with the room that it needs.

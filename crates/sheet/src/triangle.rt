@@ -29,20 +29,17 @@ fn view_of(at: [usize; 2], shape: [f64; 6]) -> View {
     }
 }
 
-// The one candidate where the triangle is cut at (x, 0), on segment 0: its start and offset, and the vertices of its view.
-fn cut_at(x: f64) {
-    let outline = outline();
+// The one candidate where the triangle is cut at (x, 0), on segment 0.
+fn candidate(outline: &[f64], x: f64, at: &mut [usize], shape: &mut [f64]) -> u32 {
     let hit_at = [0usize, 0];
     let hit = [x, 0.0];
     let lap_at = [0usize; 0];
     let lap = [0.0; 0];
     let splits = [0.0, 0.0, 0.0, x, 0.0, 0.0, x, 0.0, 0.0];
-    let mut at = [0usize; 2];
-    let mut shape = [0.0; 6];
     let mut probe = [0.0; 6];
     let mut edition = [0u32; 1];
     let answer = mask::cutting::mask_candidates(
-        &outline,
+        outline,
         3,
         0,
         1,
@@ -55,21 +52,34 @@ fn cut_at(x: f64) {
         &splits,
         squares::TOLERANCE,
         squares::TOLERANCE,
-        &mut at,
-        &mut shape,
+        at,
+        shape,
         &mut probe,
         &mut edition,
     );
-    if answer.refusal != 0 {
-        print::refused(answer.refusal);
-        return;
-    }
-    print::starts_and_offsets(&at);
+    answer.refusal
+}
+
+fn show_view(outline: &[f64], view: View) {
     print::word(b"; its view:");
-    let n = corners::view(&outline, 3, view_of(at, shape));
+    let n = corners::view(outline, 3, view);
     print::word(b", ");
     print::whole(n);
     print::word(b" vertices\n");
+}
+
+// Its start and offset, and the vertices of its view.
+fn cut_at(x: f64) {
+    let outline = outline();
+    let mut at = [0usize; 2];
+    let mut shape = [0.0; 6];
+    let refusal = candidate(&outline, x, &mut at, &mut shape);
+    if refusal != 0 {
+        print::refused(refusal);
+        return;
+    }
+    print::starts_and_offsets(&at);
+    show_view(&outline, view_of(at, shape));
 }
 
 pub(crate) fn on_vertex() {

@@ -60,10 +60,16 @@ add-requires c κs =
     (area-most (cut-outline (going-cut (s .pre) (k .loop .inv .0) (c .before .before .before .before .loop-test .taken)))))
 
 add-k : tie.Need-add-k Inv-loop μ-loop
-add-k c = record { fits = small (c .before .before .before .before .before .before .loop .k) (length (now (c .before .before .before .before .before .before .before .before .before .args .ends))) (c .before .before .before .before .before .loop-test .taken) (c .before .before .before .before .before .before .before .before .before .pre .few) }
+add-k c =
+    let pass = c .before .before .before .before .before .before in
+    let entry = pass .before .before .before in
+    record { fits = small (pass .loop .k) (length (now (entry .args .ends))) (c .before .before .before .before .before .loop-test .taken) (entry .pre .few) }
 
 loop-less : tie.Need-loop-less Inv-loop μ-loop
-loop-less c = fewer (c .before .before .before .before .before .before .loop .k) (length (now (c .before .before .before .before .before .before .before .before .before .args .ends))) (c .before .before .before .before .before .loop-test .taken)
+loop-less c =
+    let pass = c .before .before .before .before .before .before in
+    let entry = pass .before .before .before in
+    fewer (pass .loop .k) (length (now (entry .args .ends))) (c .before .before .before .before .before .loop-test .taken)
 
 loop-again : tie.Need-loop-again Inv-loop μ-loop
 loop-again c =

@@ -6,12 +6,17 @@ use Rattle.record_read.proofs.body.fill_lists.Tie as tie
 
 gather-numbers-requires : tie.Need-gather-numbers-requires
 gather-numbers-requires c κs =
-    let e = c .before .before .before .before .before .before .before .before .before .before .before .before .before .before .before .before .before .before .before .before .before .pre in
+    let e₁ = c .before .before .before .before .before .before .before .before in
+    let e₂ = e₁ .before .before .before .before .before .before .before .before in
+    let e = e₂ .before .before .before .before .before .pre in
     record { part = omega arith; inside = omega (arith, e .whole); target = omega (arith, e .roomy .shapes) }
 
 gather-editions-requires : tie.Need-gather-editions-requires
 gather-editions-requires c κs =
-    let e = c .before .before .before .before .before .before .before .before .before .before .before .before .before .before .before .before .before .before .before .before .before .before .before .before .before .pre in
+    let e₁ = c .before .before .before .before .before .before .before .before in
+    let e₂ = e₁ .before .before .before .before .before .before .before .before in
+    let e₃ = e₂ .before .before .before .before .before .before .before .before in
+    let e = e₃ .before .pre in
     record { rows = record { part = omega arith; inside = omega (arith, e .whole); target = omega (arith, e .roomy .dates) }; short = e .short }
 
 returns : tie.Need-returns

@@ -11,7 +11,8 @@ read-form-requires c κs =
 
 returns : tie.Need-returns
 returns c =
-    let form = c .before .before .before .before .before .before .before .before .before .before in
+    let form₁ = c .before .before .before .before .before .before .before .before in
+    let form = form₁ .before .before in
     let named = form .before .before .before .before .before .before in
     let entry = named .before .before .before .before .before .before .before in
     read-named (entry .args .bytes .now) (named .version-in .ensures) (form .read-form .ensures)

@@ -44,7 +44,8 @@ read-body-requires c κs =
 returns-3 : tie.Need-returns-3
 returns-3 c =
     let given = c in
-    let filled = c .before .before .before .before .before .before .before .before .before .before .before in
+    let filled₁ = c .before .before .before .before .before .before .before .before in
+    let filled = filled₁ .before .before .before in
     let second = filled .before .before .before .before .before .before in
     let room = second .before in
     let counted = room .before in

@@ -20,15 +20,18 @@ cast-version c =
 
 stitch-held-requires : tie.Need-stitch-held-requires
 stitch-held-requires c κs =
-    let test = c .before .before .before .before .before .before .before .before .before .before .before .before in
+    let test₁ = c .before .before .before .before .before .before .before .before in
+    let test = test₁ .before .before .before .before in
     let seen = test .before .before .before .before .before .before .before in
     held-fits _ _ _ _ (seen .read .ensures) refl (test .if1 .left)
 
 returns-2 : tie.Need-returns-2
 returns-2 c =
     let told = c in
-    let stitched = c .before .before .before .before .before .before .before .before .before .before .before in
-    let test = stitched .before .before .before .before .before .before .before .before .before .before .before .before .before in
+    let stitched₁ = c .before .before .before .before .before .before .before .before in
+    let stitched = stitched₁ .before .before .before in
+    let test₁ = stitched .before .before .before .before .before .before .before .before in
+    let test = test₁ .before .before .before .before .before in
     let seen = test .before .before .before .before .before .before .before in
     replay-stitched _ _ _ _ (seen .read .ensures) refl (test .if1 .left) _ _ _ _ (stitched .stitch-held .ensures) (told .replay-of .ensures)
 

@@ -7,14 +7,16 @@ use Rattle.record_write.proofs.write.write_kept.Tie as tie
 pack-kept-requires : tie.Need-pack-kept-requires
 pack-kept-requires c κs =
     let listed = c .before .before .before .before in
-    let entry = listed .before .before .before .before .before .before .before .before .before .before .before in
+    let entry₁ = listed .before .before .before .before .before .before .before .before in
+    let entry = entry₁ .before .before .before in
     kept-packs _ _ _ (entry .pre) _ _ refl (listed .list-values .ensures)
 
 returns : tie.Need-returns
 returns c =
     let packed = c .before .before in
     let listed = packed .before .before .before .before .before in
-    let entry = listed .before .before .before .before .before .before .before .before .before .before .before in
+    let entry₁ = listed .before .before .before .before .before .before .before .before in
+    let entry = entry₁ .before .before .before in
     kept-written _ _ _ (entry .pre) _ _ refl (listed .list-values .ensures) _ _ (packed .pack-kept .ensures)
 
 pub write-kept-spec : {M : Type 1} → statement M

@@ -51,7 +51,8 @@ walk-chain-requires c κs =
 
 list-chain-requires : tie.Need-list-chain-requires
 list-chain-requires c κs =
-    let walked = c .before .before .before .before .before .before .before .before .before .before in
+    let walked₁ = c .before .before .before .before .before .before .before .before in
+    let walked = walked₁ .before .before in
     let fresh = walked .before .before .before .before .before .before in
     let lent = fresh .before .before .before .before .before .before in
     let entry = lent .before .before .before .before .before .before .before .before in
@@ -60,7 +61,8 @@ list-chain-requires c κs =
 list-loop-requires : tie.Need-list-loop-requires
 list-loop-requires c κs =
     let listed = c .before .before .before .before .before in
-    let walked = listed .before .before .before .before .before .before .before .before .before .before .before in
+    let walked₁ = listed .before .before .before .before .before .before .before .before in
+    let walked = walked₁ .before .before .before in
     let fresh = walked .before .before .before .before .before .before in
     let lent = fresh .before .before .before .before .before .before in
     let entry = lent .before .before .before .before .before .before .before .before in
@@ -70,7 +72,8 @@ returns-2 : tie.Need-returns-2
 returns-2 c =
     let looped = c .before .before in
     let listed = looped .before .before .before .before .before .before in
-    let walked = listed .before .before .before .before .before .before .before .before .before .before .before in
+    let walked₁ = listed .before .before .before .before .before .before .before .before in
+    let walked = walked₁ .before .before .before in
     let fresh = walked .before .before .before .before .before .before in
     let lent = fresh .before .before .before .before .before .before in
     let entry = lent .before .before .before .before .before .before .before .before in

@@ -25,7 +25,8 @@ returns c =
     let codes = numbers .before .before .before .before .before in
     let handles = codes .before .before .before .before .before in
     let looked = handles .before .before .before in
-    let start = looked .before .before .before .before .before .before .before .before .before .before .before .before in
+    let start₁ = looked .before .before .before .before .before .before .before .before in
+    let start = start₁ .before .before .before .before in
     list-done _ _ _ _ _ _ _ _ _ _ _ _ (start .pre) (looked .live-marks .ensures) _ _ _ _
     (handles .show-handles .ensures) (codes .show-codes .ensures) (numbers .show-numbers .ensures) (editions .show-editions .ensures)
 
