@@ -60,10 +60,17 @@ add-requires c κs =
     (area-most (cut-outline (going-cut (s .pre) (k .loop .inv .0) (c .before .before .before .before .loop-test .taken)))))
 
 add-k : tie.Need-add-k Inv-loop μ-loop
-add-k c = record { fits = small (c .before .before .before .before .before .before .loop .k) (length (now (c .before .before .before .before .before .before .before .before .before .args .ends))) (c .before .before .before .before .before .loop-test .taken) (c .before .before .before .before .before .before .before .before .before .pre .few) }
+add-k c =
+    let tested = c .before .before .before .before .before in
+    let turn = tested .before in
+    let start = turn .before .before .before in
+    record { fits = small (turn .loop .k) (length (now (start .args .ends))) (tested .loop-test .taken) (start .pre .few) }
 
 loop-less : tie.Need-loop-less Inv-loop μ-loop
-loop-less c = fewer (c .before .before .before .before .before .before .loop .k) (length (now (c .before .before .before .before .before .before .before .before .before .args .ends))) (c .before .before .before .before .before .loop-test .taken)
+loop-less c =
+    let tested = c .before .before .before .before .before in
+    let turn = tested .before in
+    fewer (turn .loop .k) (length (now (turn .before .before .before .args .ends))) (tested .loop-test .taken)
 
 loop-again : tie.Need-loop-again Inv-loop μ-loop
 loop-again c =
@@ -92,19 +99,6 @@ returns c =
 pub report-of-spec : {M : Type 1} → statement M
 report-of-spec =
     tie.close
-    (tie.spec
-    Inv-loop
-    μ-loop
-    (λ c κs. search needs)
-    loop-holds
-    (λ c. search needs)
-    (λ c. search needs)
-    area-between-requires
-    (λ c κs. search needs)
-    add-zero
-    (λ c κs. search needs)
-    add-requires
-    add-k
-    loop-less
-    loop-again
+    (tie.spec Inv-loop μ-loop (λ c κs. search needs) loop-holds (λ c. search needs) (λ c. search needs)
+    area-between-requires (λ c κs. search needs) add-zero (λ c κs. search needs) add-requires add-k loop-less loop-again
     returns)
