@@ -1,16 +1,16 @@
 -- K3: what a reopened slice is in a stitch. "Only "valid" gives the slice the new edition": from then on it is a slice of the new outline, and neither 6 nor 7 nor 14 comes of it.
 use Prim.Native.Nat.{ℕ, _*_, _≤_, _<_}
-use mathlib.Core.Bool.{Bool, true, false, not, cond, true≢false}
-use mathlib.Core.Path.{_≡_, refl, sym, ap, subst, _∙_}
-use mathlib.Core.List.{List, [], _∷_, _++_}
+use mathlib.Core.Bool.{true, not}
+use mathlib.Core.Path.{_≡_, sym, ap, subst, _∙_}
+use mathlib.Core.List.{List}
 use native.Mathlib.Omega.{arith}
 use lib.Dec.{eqb}
 use lib.ListN.{length, getD}
 use lib.Ieee.{Float}
 use borrow.Author.Tests.{lt-ltb, le-leb, eqb-true, eqb-false}
 use Rattle.basis.specs.Choice.{by-test}
-use Rattle.basis.specs.Refuse.{Row, row, firstOf, bySource, countFor}
-use Rattle.basis.specs.RefuseLaws.{Clear}
+use Rattle.basis.specs.Refuse.{bySource, countFor}
+use Rattle.basis.specs.RefuseLaws.{not-given}
 use Rattle.slice.specs.Slice.{codeWidth, codesAt}
 use Rattle.slice.specs.Faults.{startInside, offsetInside}
 use Rattle.slice.specs.SliceLaws.{at-slice}
@@ -39,25 +39,6 @@ pub record Reopened (g : Given) (e : Editions) (i : ℕ) : Type 0 where
   pub start : codesAt (g .sliceAt) i .start ≡ view .«start_index»
   pub offset : codesAt (g .sliceAt) i .offset ≡ view .«end_index_offset»
   pub dated : getD (e .slices) i 0 ≡ given .edition
-
--- the rows of a number: where none of them has its fault the number is not given
-abbrev rowsOf : ℕ → List Row → List Row
-rowsOf n [] = []
-rowsOf n (row b m ∷ t) = cond (eqb m n) (row b m ∷ rowsOf n t) (rowsOf n t)
-
-not-given : (n : ℕ) (t : List Row) → (n ≡ 0 → ⊥) → Clear (rowsOf n t) → firstOf t ≡ n → ⊥
-unfolding firstOf
-not-given n [] z c e = z (sym e)
-not-given n (row false m ∷ t) z c e = not-given n t z (later (eqb m n) c) e
-  where
-    later : (b : Bool) → Clear (cond b (row false m ∷ rowsOf n t) (rowsOf n t)) → Clear (rowsOf n t)
-    later true c = c .1
-    later false c = c
-not-given n (row true m ∷ t) z c e = fault (eqb m n) refl c
-  where
-    fault : (b : Bool) → eqb m n ≡ b → Clear (cond b (row true m ∷ rowsOf n t) (rowsOf n t)) → ⊥
-    fault true q c = true≢false (c .0)
-    fault false q c = eqb-false m n q e
 
 module _ (g : Given) (e : Editions) (i : ℕ) (re : Reopened g e i) where
   abbrev source : ℕ

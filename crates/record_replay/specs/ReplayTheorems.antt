@@ -1,31 +1,29 @@
 -- Theorems about a replay, over both versions: its contract leaves one answer, its number is the first that applies, 14 is of version 2 alone, and with the program's own lists
 -- it never gives 9.
 use Prim.Native.Nat.{ℕ, zero, suc, _+_, _*_, _≤_, _<_}
-use mathlib.Core.Bool.{Bool, true, false, not, cond, _&&_}
+use mathlib.Core.Bool.{true, not, cond}
 use mathlib.Core.Path.{_≡_, refl, sym, ap, subst, _∙_}
 use mathlib.Core.List.{List, [], _∷_, _++_, append-assoc}
 use native.Mathlib.Omega.{arith}
-use borrow.Author.Tests.{ltb-true, ltb-false, lt-ltb, le-ltb, eqb-true, eqb-false, ne-eqb, not-true, not-false}
-use lib.Dec.{T, ltb, eqb}
+use borrow.Author.Tests.{ltb-true, ltb-false, lt-ltb, le-ltb, eqb-true, eqb-false, ne-eqb, not-false}
+use lib.Dec.{ltb, eqb}
 use lib.ListN.{length}
-use Rattle.basis.specs.Choice.{by-test, T-left, T-right, true-of}
+use Rattle.basis.specs.Choice.{by-test}
 use Rattle.basis.specs.Sizes.{mostSlices}
 use Rattle.basis.specs.Refuse.{Row, row, firstOf, answer}
-use Rattle.basis.specs.RefuseLaws.{Clear, clear, clear-left, clear-right, none-clear, ok-length, one-answer, first-found, first-later, answer-no, answer-yes}
+use Rattle.basis.specs.RefuseLaws.{Clear, clear, clear-left, clear-right, none-clear, not-given, ok-length, one-answer, first-found, first-later, answer-no, answer-yes}
 use Rattle.basis.specs.RefusalOrder.{refusalOrder, before, First}
 use Rattle.basis.specs.RefusalOrderLaws.{first-of}
 use Rattle.slice.specs.Slice.{codeWidth, shapeWidth, codesAt}
 use Rattle.slice.specs.SliceLaws.{offset-at}
 use Rattle.slice.specs.Editions.{Editions, editions, editionFault, editionListRows}
-use Rattle.slice.specs.EditionLaws.{one-edition}
 use Rattle.stitch_run.specs.Stitch.{Given, sumBelow, weightAt, needFor, needOf}
 use Rattle.stitch.specs.Lent.{Lists}
 use Rattle.stitch_entries.specs.StitchEntry.{listPart, codePart, numberPart, indexPart, shapeRows, editionPart, roomPart, lengthsOf, stitchRefusal, stitchNumber}
 use Rattle.stitch_entries.specs.Matching.{Matched, oneEdition, one-matched, never-14}
 use Rattle.record.specs.declared.form.Version.{Version}
-use Rattle.record.specs.declared.head.Head.{Head}
 use Rattle.record.specs.Form.{formFor, takenVertices, takenSlices}
-use Rattle.record.specs.Record.{planIn, headIn, planHeld, listsHeld, editionsBy, numberIn, formIn, frameRows, lengthOf, takenRows, countRows, roomRows, takenLengths, readRows}
+use Rattle.record.specs.Record.{planIn, headIn, planHeld, listsHeld, numberIn, formIn, frameRows, lengthOf, takenRows, countRows, roomRows, takenLengths, readRows}
 use Rattle.record.specs.RecordLaws.{Long, read-long, counts-small}
 use Rattle.record_read.specs.ReadTheorems.{NoEditions, no-editions}
 use Rattle.record_replay.specs.declared.replay.ReplayAnswer.{ReplayAnswer}
@@ -184,17 +182,6 @@ accepted-version b x z =
 
 -- ---- number 14, of version 2 alone
 
--- a table that has no row of a number does not give it
-abbrev lacks : ℕ → List Row → Bool
-lacks n [] = true
-lacks n (row b m ∷ t) = not (eqb m n) && lacks n t
-
-not-given : (n : ℕ) (t : List Row) → T (lacks n t) → (n ≡ 0 → ⊥) → firstOf t ≡ n → ⊥
-unfolding firstOf
-not-given n [] h some e = some (sym e)
-not-given n (row true m ∷ t) h some e = eqb-false m n (not-true (eqb m n) (true-of (not (eqb m n)) (T-left (not (eqb m n)) (lacks n t) h))) e
-not-given n (row false m ∷ t) h some e = not-given n t (T-right (not (eqb m n)) (lacks n t) h) some e
-
 -- the reader does not give it
 module _ (b : List ℕ) (other : numberIn b ≡ 2 → ⊥) where
   undated : (formIn b .second ≡ 0) × (formIn b .edition ≡ 0)
@@ -214,7 +201,7 @@ module _ (b : List ℕ) (other : numberIn b ≡ 2 → ⊥) where
     where
       go : (n : ℕ) → formNumber b ≡ n → answer (λ (k : ℕ). k) n (stitchNumber (heldIn b) (datesIn b) x) ≡ 14 → ⊥
       go zero e q = never-14 (heldIn b) (datesIn b) (lengthsOf x) dated q
-      go (suc n) e q = not-given 14 (readRows (formIn b) b takenLengths) tt (λ z. absurd (omega (arith, z))) (e ∙ q)
+      go (suc n) e q = not-given 14 (readRows (formIn b) b takenLengths) (λ z. absurd (omega (arith, z))) tt (e ∙ q)
 
 -- ---- lists as long as the program's: three numbers for each vertex of the need of 28 slices of offset 64, and an entry for each of 28 slices
 abbrev pub mostVerticesRead : ℕ

@@ -10,6 +10,7 @@ use Rattle.basis.specs.EachLaws.{each-more, each-end}
 use Rattle.slice.specs.declared.data.Codes.{Codes}
 use Rattle.slice.specs.Slice.{codeWidth, codesAt}
 use Rattle.slice.specs.Faults.{eachSlice}
+use Rattle.slice.specs.SliceLaws.{codes-there}
 
 pub record Looked (q : Codes → Bool) (at : List ℕ) (ok : Bool) (i : ℕ) : Type 0 where
   pub ahead : i ≤ length at / codeWidth
@@ -26,3 +27,5 @@ module _ (q : Codes → Bool) (at : List ℕ) where
   pub look-end : (ok : Bool) (i : ℕ) → Looked q at ok i → length at / codeWidth ≤ i → ok ≡ eachSlice q at
   unfolding eachSlice
   look-end ok i l h = each-end (λ j. q (codesAt at j)) (length at / codeWidth) i ok (l .ahead) h (l .passed)
+
+pub ruleset looking = (look-none, look-end, codes-there)

@@ -1,15 +1,12 @@
 -- Editions that match. Document 02, K3: "Demands 2 and 3 read over calls whose editions match."
 use Prim.Native.Nat.{ℕ, _*_, _<_}
-use mathlib.Core.Bool.{Bool, true, false, not, _&&_}
-use mathlib.Core.Path.{_≡_, refl, sym, ap, _∙_}
+use mathlib.Core.Bool.{false, not}
+use mathlib.Core.Path.{_≡_, sym, _∙_}
 use mathlib.Core.List.{List, [], _∷_, _++_}
 use native.Mathlib.Omega.{arith}
-use lib.Dec.{T, eqb}
 use lib.ListN.{length, getD, replicate, length-replicate}
-use borrow.Author.Tests.{eqb-false, not-true}
-use Rattle.basis.specs.Choice.{T-left, T-right, true-of}
 use Rattle.basis.specs.Refuse.{Row, row, firstOf}
-use Rattle.basis.specs.RefuseLaws.{Clear, clear, clear-left, clear-right, none-clear, first-later, length-ok, ok-length}
+use Rattle.basis.specs.RefuseLaws.{Clear, clear, clear-left, clear-right, not-given, length-ok, ok-length}
 use Rattle.slice.specs.Slice.{codeWidth, codesAt}
 use Rattle.slice.specs.Editions.{Editions, editions, editionOf, editionFault, editionListRows}
 use Rattle.slice.specs.EditionLaws.{edition-at, one-edition}
@@ -25,17 +22,6 @@ pub record Matched (g : Given) (e : Editions) : Type 0 where
 -- the number of a call by document 01 alone, without editions
 unfoldable pub baseRefusal : Given → Lengths → ℕ
 baseRefusal g l = firstOf (shapeRows g ++ roomPart g l)
-
--- a table that has no row of a number does not give it
-abbrev lacks : ℕ → List Row → Bool
-lacks n [] = true
-lacks n (row b m ∷ t) = not (eqb m n) && lacks n t
-
-never-given : (n : ℕ) (t : List Row) → T (lacks n t) → (n ≡ 0 → ⊥) → firstOf t ≡ n → ⊥
-unfolding firstOf
-never-given n [] h some e = some (sym e)
-never-given n (row true m ∷ t) h some e = eqb-false m n (not-true (eqb m n) (true-of (not (eqb m n)) (T-left (not (eqb m n)) (lacks n t) h))) e
-never-given n (row false m ∷ t) h some e = never-given n t (T-right (not (eqb m n)) (lacks n t) h) some e
 
 module _ (g : Given) (e : Editions) (l : Lengths) where
   abbrev inputs : List Row
@@ -55,7 +41,7 @@ module _ (g : Given) (e : Editions) (l : Lengths) where
   -- so 14 is never given
   pub never-14 : Matched g e → stitchRefusal g e l ≡ 14 → ⊥
   unfolding baseRefusal
-  never-14 m h = never-given 14 (shapeRows g ++ roomPart g l) tt (λ z. absurd (omega (arith, z))) (sym (base-number m) ∙ h)
+  never-14 m h = not-given 14 (shapeRows g ++ roomPart g l) (λ z. absurd (omega (arith, z))) tt (sym (base-number m) ∙ h)
 
   -- in a call that is not refused they match
   module _ (accepted : stitchRefusal g e l ≡ 0) where

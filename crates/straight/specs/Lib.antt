@@ -3,7 +3,6 @@ pub mod AroundLaws
 pub mod PlaneTheorems
 pub mod Words
 pub mod Ready
-pub mod EdgeLaws
 pub mod PartLaws
 pub mod SumLaws
 pub mod WordsLaws

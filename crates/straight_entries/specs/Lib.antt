@@ -7,5 +7,4 @@ pub mod ReportEntry
 pub mod LargestTheorems
 pub mod EntryExamples
 pub mod Running
-pub mod RunningLaws
 pub mod AtOnceTheorems

@@ -9,13 +9,5 @@ area-of-requires c κs = cut-outline (c .before .pre)
 pub area-between-spec : {M : Type 1} → statement M
 area-between-spec =
     tie.close
-    (tie.spec
-    (λ c. search needs)
-    (λ c. search needs)
-    (λ c. search needs)
-    (λ c. search needs)
-    (λ c. search needs)
-    (λ c. search needs)
-    (λ c. search needs)
-    area-of-requires
-    (λ c. search needs))
+    (tie.spec (λ c. search needs) (λ c. search needs) (λ c. search needs) (λ c. search needs) (λ c. search needs)
+    (λ c. search needs) (λ c. search needs) area-of-requires (λ c. search needs))

@@ -5,7 +5,7 @@ use native.Mathlib.Omega.{arith}
 use lib.ListN.{length, getD}
 use lib.Dec.{leb}
 use Rattle.basis.specs.Each.{eachTo, placesAtMost}
-use Rattle.basis.specs.EachLaws.{each-more, each-end}
+use Rattle.basis.specs.EachLaws.{each, each-more, each-end}
 use Rattle.basis.proofs.items.answers_known.Statement.{statement}
 use Rattle.basis.proofs.items.answers_known.Tie as tie
 
@@ -14,10 +14,6 @@ Inv-loop list ok₀ i₀ ok i = (i ≤ length list) × (ok ≡ eachTo (λ j. leb
 
 abbrev μ-loop : tie.MeasureT-loop
 μ-loop list ok₀ i₀ ok i = length list - i
-
-loop-holds : tie.Need-loop-holds Inv-loop μ-loop
-unfolding eachTo
-loop-holds c = (search needs, refl)
 
 loop-again : tie.Need-loop-again Inv-loop μ-loop
 loop-again c =
@@ -31,12 +27,5 @@ returns c = each-end _ _ _ _ (omega arith) (omega arith) (c .before .loop .inv .
 pub answers-known-spec : {M : Type 1} → statement M
 answers-known-spec =
     tie.close
-    (tie.spec
-    Inv-loop
-    μ-loop
-    loop-holds
-    (λ c. search needs)
-    (λ c. search needs)
-    (λ c. search needs)
-    loop-again
-    returns)
+    (tie.spec Inv-loop μ-loop (λ c. search (needs, each)) (λ c. search needs) (λ c. search needs) (λ c. search needs)
+    loop-again returns)

@@ -11,6 +11,4 @@ unfolding finite
 returns c = ap (λ (x : Float). le x largest) (c .magnitude .ensures) ∙ abs-le _ _
 
 pub is-finite-spec : {M : Type 1} → statement M
-is-finite-spec = tie.close (tie.spec
-    (λ c κs. search needs)
-    returns)
+is-finite-spec = tie.close (tie.spec (λ c κs. search needs) returns)

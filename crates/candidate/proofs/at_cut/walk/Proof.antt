@@ -3,22 +3,8 @@ use borrow.Author.Needs.{needs}
 use Rattle.candidate.proofs.at_cut.walk.Statement.{statement}
 use Rattle.candidate.proofs.at_cut.walk.Tie as tie
 
-walk-candidate-requires : tie.Need-walk-candidate-requires
-walk-candidate-requires c κs = search (needs, walks)
-
-returns : tie.Need-returns
-returns c = search (needs, walks)
-
 pub walk-spec : {M : Type 1} → statement M
 walk-spec =
     tie.close
-    (tie.spec
-    (λ c. search needs)
-    (λ c. search needs)
-    (λ c κs. search needs)
-    (λ c. search needs)
-    (λ c. search needs)
-    (λ c. search needs)
-    (λ c κs. search needs)
-    walk-candidate-requires
-    returns)
+    (tie.spec (λ c. search needs) (λ c. search needs) (λ c κs. search needs) (λ c. search needs) (λ c. search needs)
+    (λ c. search needs) (λ c κs. search needs) (λ c κs. search (needs, walks)) (λ c. search (needs, walks)))

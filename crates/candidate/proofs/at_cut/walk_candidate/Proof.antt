@@ -3,13 +3,7 @@ use borrow.Author.Needs.{needs}
 use Rattle.candidate.proofs.at_cut.walk_candidate.Statement.{statement}
 use Rattle.candidate.proofs.at_cut.walk_candidate.Tie as tie
 
-returns : tie.Need-returns
-returns c = search (needs, walks)
-
 pub walk-candidate-spec : {M : Type 1} → statement M
 walk-candidate-spec =
-    tie.close (tie.spec
-    (λ c. search needs)
-    (λ c κs. search needs)
-    (λ c κs. search needs)
-    returns)
+    tie.close
+    (tie.spec (λ c. search needs) (λ c κs. search needs) (λ c κs. search needs) (λ c. search (needs, walks)))

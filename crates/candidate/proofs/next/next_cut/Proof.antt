@@ -3,22 +3,8 @@ use borrow.Author.Needs.{needs}
 use Rattle.candidate.proofs.next.next_cut.Statement.{statement}
 use Rattle.candidate.proofs.next.next_cut.Tie as tie
 
-traverse-count-requires : tie.Need-traverse-count-requires
-traverse-count-requires c κs = search (needs, finding)
-
-returns : tie.Need-returns
-returns c = search (needs, finding)
-
 pub next-cut-spec : {M : Type 1} → statement M
 next-cut-spec =
     tie.close
-    (tie.spec
-    (λ c κs. search needs)
-    (λ c. search needs)
-    (λ c. search needs)
-    (λ c. search needs)
-    (λ c. search needs)
-    (λ c. search needs)
-    (λ c. search needs)
-    traverse-count-requires
-    returns)
+    (tie.spec (λ c κs. search needs) (λ c. search needs) (λ c. search needs) (λ c. search needs) (λ c. search needs)
+    (λ c. search needs) (λ c. search needs) (λ c κs. search (needs, finding)) (λ c. search (needs, finding)))

@@ -3,15 +3,7 @@ use borrow.Author.Needs.{needs}
 use Rattle.candidate.proofs.next.next_place.Statement.{statement}
 use Rattle.candidate.proofs.next.next_place.Tie as tie
 
-returns : tie.Need-returns
-returns c = search (needs, finding)
-
-returns-2 : tie.Need-returns-2
-returns-2 c = search (needs, finding)
-
 pub next-place-spec : {M : Type 1} → statement M
-next-place-spec = tie.close (tie.spec
-    (λ c. search needs)
-    (λ c. search needs)
-    returns
-    returns-2)
+next-place-spec =
+    tie.close
+    (tie.spec (λ c. search needs) (λ c. search needs) (λ c. search (needs, finding)) (λ c. search (needs, finding)))

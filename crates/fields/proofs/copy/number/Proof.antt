@@ -22,13 +22,11 @@ returns : tie.Need-returns
 unfolding numOf
 returns c = rw (no-nan _ (c .if1 .taken))
 
-float-from-bits-result-2 : tie.Need-float-from-bits-result-2
-float-from-bits-result-2 c = rw (no-nan 9218868437227405312 (search needs)) tt
-
 returns-2 : tie.Need-returns-2
 unfolding numOf
 returns-2 c = rw (a-nan _ (c .if1 .left))
 
 pub number-spec : {M : Type 1} → statement M
 number-spec =
-    tie.close (tie.spec float-from-bits-result returns float-from-bits-result-2 returns-2)
+    tie.close
+    (tie.spec float-from-bits-result returns (λ c. rw (no-nan 9218868437227405312 (search needs)) tt) returns-2)

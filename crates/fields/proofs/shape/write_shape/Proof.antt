@@ -12,37 +12,13 @@ Inv-loop values from widths bytes₀ at p₀ i₀ bytes p i = Writing values fro
 abbrev μ-loop : tie.MeasureT-loop
 μ-loop values from widths bytes₀ at p₀ i₀ bytes p i = length widths - i
 
-loop-holds : tie.Need-loop-holds Inv-loop μ-loop
-loop-holds c = search (needs, writing-none)
-
-put-requires : tie.Need-put-requires Inv-loop μ-loop
-put-requires c κs = search (needs, writing-inside)
-
 add-p : tie.Need-add-p Inv-loop μ-loop
 add-p c = let g = c .before .before .before .before .before .before .before .loop .inv in omega (arith, writing-inside g (c .before .before .before .before .before .before .loop-test .taken), g .long)
-
-loop-again : tie.Need-loop-again Inv-loop μ-loop
-loop-again c = search (needs, writing-more)
-
-returns : tie.Need-returns Inv-loop μ-loop
-returns c = search (needs, writing-end)
 
 pub write-shape-spec : {M : Type 1} → statement M
 write-shape-spec =
     tie.close
-    (tie.spec
-    Inv-loop
-    μ-loop
-    loop-holds
-    (λ c. search needs)
-    (λ c. search needs)
-    (λ c. search needs)
-    (λ c. search needs)
-    (λ c. search needs)
-    put-requires
-    add-p
-    (λ c. search needs)
-    (λ c. search needs)
-    loop-again
-    (λ c. search needs)
-    returns)
+    (tie.spec Inv-loop μ-loop (λ c. search (needs, writing-none)) (λ c. search needs) (λ c. search needs)
+    (λ c. search needs) (λ c. search needs) (λ c. search needs) (λ c κs. search (needs, writing-inside)) add-p
+    (λ c. search needs) (λ c. search needs) (λ c. search (needs, writing-more)) (λ c. search needs)
+    (λ c. search (needs, writing-end)))

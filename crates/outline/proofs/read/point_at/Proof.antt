@@ -4,16 +4,9 @@ use borrow.Author.Needs.{needs}
 use Rattle.outline.proofs.read.point_at.Statement.{statement}
 use Rattle.outline.proofs.read.point_at.Tie as tie
 
-returns : tie.Need-returns
-unfolding pointAt
-returns c = refl
-
 pub point-at-spec : {M : Type 1} → statement M
+unfolding pointAt
 point-at-spec =
-    tie.close (tie.spec
-    (λ c. search needs)
-    (λ c. search needs)
-    (λ c. search needs)
-    (λ c. search needs)
-    (λ c. search needs)
-    returns)
+    tie.close
+    (tie.spec (λ c. search needs) (λ c. search needs) (λ c. search needs) (λ c. search needs) (λ c. search needs)
+    (λ c. refl))

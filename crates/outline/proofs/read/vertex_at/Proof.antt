@@ -4,23 +4,10 @@ use borrow.Author.Needs.{needs}
 use Rattle.outline.proofs.read.vertex_at.Statement.{statement}
 use Rattle.outline.proofs.read.vertex_at.Tie as tie
 
-returns : tie.Need-returns
-unfolding vertexAt
-returns c = refl
-
 pub vertex-at-spec : {M : Type 1} → statement M
+unfolding vertexAt
 vertex-at-spec =
     tie.close
-    (tie.spec
-    (λ c. search needs)
-    (λ c. search needs)
-    (λ c. search needs)
-    (λ c. search needs)
-    (λ c. search needs)
-    (λ c. search needs)
-    (λ c. search needs)
-    (λ c. search needs)
-    (λ c. search needs)
-    (λ c. search needs)
-    (λ c. search needs)
-    returns)
+    (tie.spec (λ c. search needs) (λ c. search needs) (λ c. search needs) (λ c. search needs) (λ c. search needs)
+    (λ c. search needs) (λ c. search needs) (λ c. search needs) (λ c. search needs) (λ c. search needs)
+    (λ c. search needs) (λ c. refl))

@@ -5,20 +5,8 @@ use borrow.Author.Needs.{needs}
 use Rattle.outline.proofs.write.put_pair.Statement.{statement}
 use Rattle.outline.proofs.write.put_pair.Tie as tie
 
-slice-write-room-2 : tie.Need-slice-write-room-2
-slice-write-room-2 c = simp length-set (omega arith)
-
-returns : tie.Need-returns
-returns c = simp towards-suc
-
 pub put-pair-spec : {M : Type 1} → statement M
 put-pair-spec =
     tie.close
-    (tie.spec
-    (λ c. search needs)
-    (λ c. search needs)
-    (λ c. search needs)
-    (λ c. search needs)
-    slice-write-room-2
-    (λ c. search needs)
-    returns)
+    (tie.spec (λ c. search needs) (λ c. search needs) (λ c. search needs) (λ c. search needs)
+    (λ c. simp length-set (omega arith)) (λ c. search needs) (λ c. simp towards-suc))

@@ -4,19 +4,9 @@ use borrow.Author.Needs.{needs}
 use Rattle.prune.proofs.codes.cand_codes.Statement.{statement}
 use Rattle.prune.proofs.codes.cand_codes.Tie as tie
 
-returns : tie.Need-returns
-unfolding candCodes
-returns c = refl
-
 pub cand-codes-spec : {M : Type 1} → statement M
+unfolding candCodes
 cand-codes-spec =
     tie.close
-    (tie.spec
-    (λ c. search needs)
-    (λ c. search needs)
-    (λ c. search needs)
-    (λ c. search needs)
-    (λ c. search needs)
-    (λ c. search needs)
-    (λ c. search needs)
-    returns)
+    (tie.spec (λ c. search needs) (λ c. search needs) (λ c. search needs) (λ c. search needs) (λ c. search needs)
+    (λ c. search needs) (λ c. search needs) (λ c. refl))

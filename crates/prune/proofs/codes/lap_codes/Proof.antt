@@ -3,21 +3,9 @@ use borrow.Author.Needs.{needs}
 use Rattle.prune.proofs.codes.lap_codes.Statement.{statement}
 use Rattle.prune.proofs.codes.lap_codes.Tie as tie
 
-returns : tie.Need-returns
-unfolding lapCodes
-returns c = cc
-
 pub lap-codes-spec : {M : Type 1} → statement M
+unfolding lapCodes
 lap-codes-spec =
     tie.close
-    (tie.spec
-    (λ c κs. search needs)
-    (λ c. search needs)
-    (λ c. search needs)
-    (λ c. search needs)
-    (λ c. search needs)
-    (λ c. search needs)
-    (λ c. search needs)
-    (λ c. search needs)
-    (λ c. search needs)
-    returns)
+    (tie.spec (λ c κs. search needs) (λ c. search needs) (λ c. search needs) (λ c. search needs) (λ c. search needs)
+    (λ c. search needs) (λ c. search needs) (λ c. search needs) (λ c. search needs) (λ c. cc))

@@ -3,11 +3,6 @@ use borrow.Author.Needs.{needs}
 use Rattle.prune.proofs.mode.first_part.Statement.{statement}
 use Rattle.prune.proofs.mode.first_part.Tie as tie
 
-returns : tie.Need-returns
-unfolding firstPart
-returns c = cc
-
 pub first-part-spec : {M : Type 1} → statement M
-first-part-spec = tie.close (tie.spec
-    (λ c κs. search needs)
-    returns)
+unfolding firstPart
+first-part-spec = tie.close (tie.spec (λ c κs. search needs) (λ c. cc))

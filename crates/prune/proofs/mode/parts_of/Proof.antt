@@ -3,14 +3,6 @@ use borrow.Author.Needs.{needs}
 use Rattle.prune.proofs.mode.parts_of.Statement.{statement}
 use Rattle.prune.proofs.mode.parts_of.Tie as tie
 
-returns : tie.Need-returns
-unfolding partsOf
-returns c = cc
-
 pub parts-of-spec : {M : Type 1} → statement M
-parts-of-spec =
-    tie.close (tie.spec
-    (λ c κs. search needs)
-    (λ c κs. search needs)
-    (λ c κs. search needs)
-    returns)
+unfolding partsOf
+parts-of-spec = tie.close (tie.spec (λ c κs. search needs) (λ c κs. search needs) (λ c κs. search needs) (λ c. cc))

@@ -3,9 +3,6 @@ use Rattle.prune.specs.Prune.{secondPart}
 use Rattle.prune.proofs.mode.second_part.Statement.{statement}
 use Rattle.prune.proofs.mode.second_part.Tie as tie
 
-returns : tie.Need-returns
-unfolding secondPart
-returns c = refl
-
 pub second-part-spec : {M : Type 1} → statement M
-second-part-spec = tie.close (tie.spec returns)
+unfolding secondPart
+second-part-spec = tie.close (tie.spec (λ c. refl))

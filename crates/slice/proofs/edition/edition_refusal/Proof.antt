@@ -4,12 +4,6 @@ use borrow.Author.Needs.{needs}
 use Rattle.slice.proofs.edition.edition_refusal.Statement.{statement}
 use Rattle.slice.proofs.edition.edition_refusal.Tie as tie
 
-returns : tie.Need-returns
-unfolding firstFrom
-returns c = search rows depth 24
-
 pub edition-refusal-spec : {M : Type 1} → statement M
-edition-refusal-spec = tie.close (tie.spec
-    (λ c κs. search needs)
-    (λ c κs. search needs)
-    returns)
+unfolding firstFrom
+edition-refusal-spec = tie.close (tie.spec (λ c κs. search needs) (λ c κs. search needs) (λ c. search rows depth 24))

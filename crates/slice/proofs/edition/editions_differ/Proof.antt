@@ -15,30 +15,12 @@ Inv-loop edition1 edition2 slice-at slice-edition count same₀ i₀ same i = Co
 abbrev μ-loop : tie.MeasureT-loop
 μ-loop edition1 edition2 slice-at slice-edition count same₀ i₀ same i = count - i
 
-loop-holds : tie.Need-loop-holds Inv-loop μ-loop
-loop-holds c = compare-none _ _
-
 codes-at-requires : tie.Need-codes-at-requires Inv-loop μ-loop
 codes-at-requires c κs = codes-there _ _ (c .loop-test .taken)
-
-loop-again : tie.Need-loop-again Inv-loop μ-loop
-loop-again c = search (needs, compare-more)
-
-returns : tie.Need-returns Inv-loop μ-loop
-returns c = search (needs, compare-end)
 
 pub editions-differ-spec : {M : Type 1} → statement M
 editions-differ-spec =
     tie.close
-    (tie.spec
-    Inv-loop
-    μ-loop
-    loop-holds
-    codes-at-requires
-    (λ c. search needs)
-    (λ c. search needs)
-    (λ c κs. search needs)
-    (λ c. search needs)
-    (λ c. search needs)
-    loop-again
-    returns)
+    (tie.spec Inv-loop μ-loop (λ c. compare-none _ _) codes-at-requires (λ c. search needs) (λ c. search needs)
+    (λ c κs. search needs) (λ c. search needs) (λ c. search needs) (λ c. search (needs, compare-more))
+    (λ c. search (needs, compare-end)))

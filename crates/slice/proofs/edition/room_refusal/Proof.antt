@@ -4,11 +4,6 @@ use borrow.Author.Needs.{needs}
 use Rattle.slice.proofs.edition.room_refusal.Statement.{statement}
 use Rattle.slice.proofs.edition.room_refusal.Tie as tie
 
-returns : tie.Need-returns
-unfolding firstFrom
-returns c = search rows depth 24
-
 pub room-refusal-spec : {M : Type 1} → statement M
-room-refusal-spec = tie.close (tie.spec
-    (λ c κs. search needs)
-    returns)
+unfolding firstFrom
+room-refusal-spec = tie.close (tie.spec (λ c κs. search needs) (λ c. search rows depth 24))

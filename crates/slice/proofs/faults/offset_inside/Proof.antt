@@ -12,10 +12,5 @@ counted : (vc1 vc2 : ℕ) (c : Codes) (n : ℕ) → n ≡ countFor vc1 vc2 (c .s
 unfolding offsetInside
 counted vc1 vc2 c n e = ap (leb (c .offset)) e
 
-returns : tie.Need-returns
-returns c = search (needs, counted)
-
 pub offset-inside-spec : {M : Type 1} → statement M
-offset-inside-spec = tie.close (tie.spec
-    (λ c κs. search needs)
-    returns)
+offset-inside-spec = tie.close (tie.spec (λ c κs. search needs) (λ c. search (needs, counted)))

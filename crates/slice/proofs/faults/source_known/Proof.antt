@@ -21,11 +21,5 @@ is-second c h = rw (ne-eqb (c .source) 1 h) (twice (eqb (c .source) 2))
     twice true = refl
     twice false = refl
 
-returns : tie.Need-returns
-returns c = search (needs, is-first)
-
-returns-2 : tie.Need-returns-2
-returns-2 c = search (needs, is-second)
-
 pub source-known-spec : {M : Type 1} → statement M
-source-known-spec = tie.close (tie.spec returns returns-2)
+source-known-spec = tie.close (tie.spec (λ c. search (needs, is-first)) (λ c. search (needs, is-second)))

@@ -12,10 +12,5 @@ counted : (vc1 vc2 : ℕ) (c : Codes) (n : ℕ) → n ≡ countFor vc1 vc2 (c .s
 unfolding startInside
 counted vc1 vc2 c n e = ap (ltb (c .start)) e
 
-returns : tie.Need-returns
-returns c = search (needs, counted)
-
 pub start-inside-spec : {M : Type 1} → statement M
-start-inside-spec = tie.close (tie.spec
-    (λ c κs. search needs)
-    returns)
+start-inside-spec = tie.close (tie.spec (λ c κs. search needs) (λ c. search (needs, counted)))

@@ -14,12 +14,7 @@ told : (at : List ℕ) (shape : List Float) (i : ℕ) (c : Codes) (s : Shape) (v
 unfolding sliceView
 told at shape i c s v e f g = rw (e, f) at g
 
-returns : tie.Need-returns
-returns c = search (needs, told)
-
 pub view-at-spec : {M : Type 1} → statement M
-view-at-spec = tie.close (tie.spec
-    (λ c κs. search needs)
-    (λ c κs. search needs)
-    (λ c κs. search needs)
-    returns)
+view-at-spec =
+    tie.close
+    (tie.spec (λ c κs. search needs) (λ c κs. search needs) (λ c κs. search needs) (λ c. search (needs, told)))

@@ -3,14 +3,8 @@ use borrow.Author.Needs.{needs}
 use Rattle.slice.proofs.write.put_codes.Statement.{statement}
 use Rattle.slice.proofs.write.put_codes.Tie as tie
 
-returns : tie.Need-returns
-returns c = search (needs, putting)
-
 pub put-codes-spec : {M : Type 1} → statement M
 put-codes-spec =
-    tie.close (tie.spec
-    (λ c κs. search needs)
-    (λ c. search needs)
-    (λ c κs. search needs)
-    (λ c. search needs)
-    returns)
+    tie.close
+    (tie.spec (λ c κs. search needs) (λ c. search needs) (λ c κs. search needs) (λ c. search needs)
+    (λ c. search (needs, putting)))

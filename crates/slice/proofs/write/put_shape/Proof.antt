@@ -8,21 +8,8 @@ use Rattle.slice.proofs.write.put_shape.Tie as tie
 put-point-requires : tie.Need-put-point-requires
 put-point-requires c κs = record { fits = simp length-set (omega arith) }
 
-same-length : tie.Need-same-length
-same-length c = search (needs, putting)
-
-returns : tie.Need-returns
-returns c = search (needs, putting)
-
 pub put-shape-spec : {M : Type 1} → statement M
 put-shape-spec =
     tie.close
-    (tie.spec
-    (λ c κs. search needs)
-    (λ c. search needs)
-    (λ c. search needs)
-    (λ c. search needs)
-    (λ c. search needs)
-    put-point-requires
-    same-length
-    returns)
+    (tie.spec (λ c κs. search needs) (λ c. search needs) (λ c. search needs) (λ c. search needs) (λ c. search needs)
+    put-point-requires (λ c. search (needs, putting)) (λ c. search (needs, putting)))

@@ -3,20 +3,8 @@ use borrow.Author.Needs.{needs}
 use Rattle.slice.proofs.write.put_slice.Statement.{statement}
 use Rattle.slice.proofs.write.put_slice.Tie as tie
 
-returns : tie.Need-returns
-returns c = search (needs, putting)
-
 pub put-slice-spec : {M : Type 1} → statement M
 put-slice-spec =
     tie.close
-    (tie.spec
-    (λ c. search needs)
-    (λ c κs. search needs)
-    (λ c. search needs)
-    (λ c κs. search needs)
-    (λ c. search needs)
-    (λ c. search needs)
-    (λ c. search needs)
-    (λ c. search needs)
-    (λ c. search needs)
-    returns)
+    (tie.spec (λ c. search needs) (λ c κs. search needs) (λ c. search needs) (λ c κs. search needs) (λ c. search needs)
+    (λ c. search needs) (λ c. search needs) (λ c. search needs) (λ c. search needs) (λ c. search (needs, putting)))

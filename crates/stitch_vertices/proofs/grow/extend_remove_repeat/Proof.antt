@@ -11,30 +11,9 @@ Inv-loop room₀ n outline vc view t count m₀ k₀ room m k = Adding t (vertex
 abbrev μ-loop : tie.MeasureT-loop
 μ-loop room₀ n outline vc view t count m₀ k₀ room m k = count - k
 
-loop-holds : tie.Need-loop-holds Inv-loop μ-loop
-loop-holds c = search (needs, extending)
-
-add-or-replace-vertex-requires : tie.Need-add-or-replace-vertex-requires Inv-loop μ-loop
-add-or-replace-vertex-requires c κs = search (needs, extending)
-
-loop-again : tie.Need-loop-again Inv-loop μ-loop
-loop-again c = search (needs, extending)
-
-returns : tie.Need-returns Inv-loop μ-loop
-returns c = search (needs, extending)
-
 pub extend-remove-repeat-spec : {M : Type 1} → statement M
 extend-remove-repeat-spec =
     tie.close
-    (tie.spec
-    Inv-loop
-    μ-loop
-    (λ c. search needs)
-    loop-holds
-    (λ c κs. search needs)
-    add-or-replace-vertex-requires
-    (λ c. search needs)
-    (λ c. search needs)
-    loop-again
-    (λ c. search needs)
-    returns)
+    (tie.spec Inv-loop μ-loop (λ c. search needs) (λ c. search (needs, extending)) (λ c κs. search needs)
+    (λ c κs. search (needs, extending)) (λ c. search needs) (λ c. search needs) (λ c. search (needs, extending))
+    (λ c. search needs) (λ c. search (needs, extending)))

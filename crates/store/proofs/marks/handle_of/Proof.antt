@@ -4,16 +4,6 @@ use borrow.Author.Needs.{needs}
 use Rattle.store.proofs.marks.handle_of.Statement.{statement}
 use Rattle.store.proofs.marks.handle_of.Tie as tie
 
-returns : tie.Need-returns
-unfolding handleOf
-returns c = omega arith
-
-returns-2 : tie.Need-returns-2
-unfolding handleOf
-returns-2 c = omega arith
-
 pub handle-of-spec : {M : Type 1} → statement M
-handle-of-spec = tie.close (tie.spec
-    (λ c. search needs)
-    returns
-    returns-2)
+unfolding handleOf
+handle-of-spec = tie.close (tie.spec (λ c. search needs) (λ c. omega arith) (λ c. omega arith))

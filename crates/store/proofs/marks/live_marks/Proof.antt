@@ -12,27 +12,11 @@ Inv-loop held order₀ handles₀ places₀ n₀ p₀ order handles places n p =
 abbrev μ-loop : tie.MeasureT-loop
 μ-loop held order₀ handles₀ places₀ n₀ p₀ order handles places n p = length held - p
 
-loop-holds : tie.Need-loop-holds Inv-loop μ-loop
-loop-holds c = (search needs, looked-none _ _ _ _ (search needs))
-
 look-requires : tie.Need-look-requires Inv-loop μ-loop
 look-requires c κs = record { below = search needs; looked = search needs }
-
-loop-again : tie.Need-loop-again Inv-loop μ-loop
-loop-again c = (search needs, search needs)
-
-returns : tie.Need-returns Inv-loop μ-loop
-returns c = search (needs, looked-end)
 
 pub live-marks-spec : {M : Type 1} → statement M
 live-marks-spec =
     tie.close
-    (tie.spec
-    Inv-loop
-    μ-loop
-    loop-holds
-    look-requires
-    (λ c. search needs)
-    (λ c. search needs)
-    loop-again
-    returns)
+    (tie.spec Inv-loop μ-loop (λ c. (search needs, looked-none _ _ _ _ (search needs))) look-requires
+    (λ c. search needs) (λ c. search needs) (λ c. (search needs, search needs)) (λ c. search (needs, looked-end)))

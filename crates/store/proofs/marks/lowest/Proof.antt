@@ -13,29 +13,14 @@ Inv-loop flags cap left₀ left = (left ≤ cap) × Lowest (λ k. told (getD fla
 abbrev μ-loop : tie.MeasureT-loop
 μ-loop flags cap left₀ left = left
 
-loop-holds : tie.Need-loop-holds Inv-loop μ-loop
-loop-holds c = (search needs, lowest-start _ _)
-
 returns : tie.Need-returns Inv-loop μ-loop
 returns c = lowest-here _ _ _ (search needs) (told-none _ (search needs)) (search needs)
 
 loop-again : tie.Need-loop-again Inv-loop μ-loop
 loop-again c = (search needs, lowest-more _ _ _ (search needs) (search needs) (told-some _ (search needs)) (search needs))
 
-returns-2 : tie.Need-returns-2 Inv-loop μ-loop
-returns-2 c = search (needs, lowest-end)
-
 pub lowest-spec : {M : Type 1} → statement M
 lowest-spec =
     tie.close
-    (tie.spec
-    Inv-loop
-    μ-loop
-    loop-holds
-    (λ c. search needs)
-    (λ c. search needs)
-    returns
-    (λ c. search needs)
-    (λ c. search needs)
-    loop-again
-    returns-2)
+    (tie.spec Inv-loop μ-loop (λ c. (search needs, lowest-start _ _)) (λ c. search needs) (λ c. search needs) returns
+    (λ c. search needs) (λ c. search needs) loop-again (λ c. search (needs, lowest-end)))

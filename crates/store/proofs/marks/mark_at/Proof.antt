@@ -4,13 +4,6 @@ use borrow.Author.Needs.{needs}
 use Rattle.store.proofs.marks.mark_at.Statement.{statement}
 use Rattle.store.proofs.marks.mark_at.Tie as tie
 
-returns : tie.Need-returns
-unfolding markOf
-returns c = refl
-
 pub mark-at-spec : {M : Type 1} → statement M
-mark-at-spec = tie.close (tie.spec
-    (λ c. search needs)
-    (λ c. search needs)
-    (λ c. search needs)
-    returns)
+unfolding markOf
+mark-at-spec = tie.close (tie.spec (λ c. search needs) (λ c. search needs) (λ c. search needs) (λ c. refl))

@@ -10,34 +10,10 @@ Inv-loop held₀ order n k₀ held k = Numbering order n held₀ held k
 abbrev μ-loop : tie.MeasureT-loop
 μ-loop held₀ order n k₀ held k = n - k
 
-loop-holds : tie.Need-loop-holds Inv-loop μ-loop
-loop-holds c = numbering-none _ _ _ (search needs)
-
-mark-at-requires : tie.Need-mark-at-requires Inv-loop μ-loop
-mark-at-requires c κs = search (needs, handle-low-enough)
-
-loop-again : tie.Need-loop-again Inv-loop μ-loop
-loop-again c = search (needs, numbering-more)
-
-returns : tie.Need-returns Inv-loop μ-loop
-returns c = search (needs, numbering-end)
-
 pub number-marks-spec : {M : Type 1} → statement M
 number-marks-spec =
     tie.close
-    (tie.spec
-    Inv-loop
-    μ-loop
-    loop-holds
-    (λ c. search needs)
-    (λ c. search needs)
-    (λ c κs. search needs)
-    mark-at-requires
-    (λ c. search needs)
-    (λ c. search needs)
-    (λ c. search needs)
-    (λ c. search needs)
-    loop-again
-    (λ c κs. search needs)
-    (λ c. search needs)
-    returns)
+    (tie.spec Inv-loop μ-loop (λ c. numbering-none _ _ _ (search needs)) (λ c. search needs) (λ c. search needs)
+    (λ c κs. search needs) (λ c κs. search (needs, handle-low-enough)) (λ c. search needs) (λ c. search needs)
+    (λ c. search needs) (λ c. search needs) (λ c. search (needs, numbering-more)) (λ c κs. search needs)
+    (λ c. search needs) (λ c. search (needs, numbering-end)))

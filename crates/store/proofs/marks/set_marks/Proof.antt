@@ -3,12 +3,7 @@ use borrow.Author.Needs.{needs}
 use Rattle.store.proofs.marks.set_marks.Statement.{statement}
 use Rattle.store.proofs.marks.set_marks.Tie as tie
 
-returns : tie.Need-returns
-returns c = search (needs, marks-set)
-
 pub set-marks-spec : {M : Type 1} → statement M
-set-marks-spec = tie.close (tie.spec
-    (λ c κs. search needs)
-    (λ c κs. search needs)
-    (λ c. search needs)
-    returns)
+set-marks-spec =
+    tie.close
+    (tie.spec (λ c κs. search needs) (λ c κs. search needs) (λ c. search needs) (λ c. search (needs, marks-set)))

@@ -10,31 +10,12 @@ Inv-loop held₀ order n h k₀ i₀ held k i = Others order n h held₀ held k 
 abbrev μ-loop : tie.MeasureT-loop
 μ-loop held₀ order n h k₀ i₀ held k i = n - i
 
-loop-holds : tie.Need-loop-holds Inv-loop μ-loop
-loop-holds c = others-none _ _ _ _ (search needs)
-
 put-other-requires : tie.Need-put-other-requires Inv-loop μ-loop
 put-other-requires c κs = record { below = search (needs, others-fit) }
-
-loop-again : tie.Need-loop-again Inv-loop μ-loop
-loop-again c = search (needs, others-more)
-
-returns : tie.Need-returns Inv-loop μ-loop
-returns c = search (needs, others-end)
 
 pub set-others-spec : {M : Type 1} → statement M
 set-others-spec =
     tie.close
-    (tie.spec
-    Inv-loop
-    μ-loop
-    loop-holds
-    (λ c. search needs)
-    (λ c. search needs)
-    put-other-requires
-    (λ c. search needs)
-    (λ c. search needs)
-    loop-again
-    (λ c κs. search needs)
-    (λ c. search needs)
-    returns)
+    (tie.spec Inv-loop μ-loop (λ c. others-none _ _ _ _ (search needs)) (λ c. search needs) (λ c. search needs)
+    put-other-requires (λ c. search needs) (λ c. search needs) (λ c. search (needs, others-more)) (λ c κs. search needs)
+    (λ c. search needs) (λ c. search (needs, others-end)))

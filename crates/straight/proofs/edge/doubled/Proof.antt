@@ -22,8 +22,4 @@ returns : tie.Need-returns
 returns c = mul-read {r = pos 2} refl (read (c .before .pre .close) tt) (doubles (c .before .pre))
 
 pub doubled-spec : {M : Type 1} → statement M
-doubled-spec = tie.close (tie.spec
-    (λ c. search needs)
-    (λ c. search needs)
-    mul-result-2
-    returns)
+doubled-spec = tie.close (tie.spec (λ c. search needs) (λ c. search needs) mul-result-2 returns)

@@ -4,7 +4,7 @@ use mir.Syntax.{w64}
 use mir.Val.{toZ, ofZ}
 use Rattle.whole.specs.FitLaws.{got}
 use Rattle.straight.specs.Ready.{above}
-use Rattle.straight.specs.EdgeLaws.{above-yes, above-no}
+use Rattle.straight.proofs.EdgeLaws.{above-yes, above-no}
 use borrow.Author.Needs.{needs}
 use Rattle.straight.proofs.edge.gain_at.Statement.{statement}
 use Rattle.straight.proofs.edge.gain_at.Tie as tie
@@ -26,10 +26,4 @@ returns-2 c =
     above-no (seen (z .result)) (sym (c .before .below .ensures) ∙ c .if1 .left) ∙ ap above (got (z .result) (z .ok) ∙ z .ensures)
 
 pub gain-at-spec : {M : Type 1} → statement M
-gain-at-spec =
-    tie.close (tie.spec
-    (λ c κs. search needs)
-    (λ c κs. search needs)
-    unsigned-requires
-    returns
-    returns-2)
+gain-at-spec = tie.close (tie.spec (λ c κs. search needs) (λ c κs. search needs) unsigned-requires returns returns-2)

@@ -4,7 +4,7 @@ use lib.Signed.{ltZ}
 use mir.Facts.{toZ-ofZ}
 use Rattle.whole.specs.FitLaws.{got, as-near}
 use Rattle.straight.specs.Plane.{left, side, twice}
-use Rattle.straight.specs.EdgeLaws.{from-x, from-y, to-x, to-y, twice-near}
+use Rattle.straight.proofs.EdgeLaws.{from-x, from-y, to-x, to-y, twice-near}
 use borrow.Author.Needs.{needs}
 use Rattle.straight.proofs.edge.left_at.Statement.{statement}
 use Rattle.straight.proofs.edge.left_at.Tie as tie
@@ -59,17 +59,6 @@ returns c =
 pub left-at-spec : {M : Type 1} → statement M
 left-at-spec =
     tie.close
-    (tie.spec
-    (λ c. search needs)
-    doubled-requires
-    (λ c. search needs)
-    (λ c. search needs)
-    doubled-requires-2
-    (λ c. search needs)
-    doubled-requires-3
-    (λ c. search needs)
-    (λ c. search needs)
-    doubled-requires-4
-    side-of-requires
-    (λ c κs. search needs)
-    returns)
+    (tie.spec (λ c. search needs) doubled-requires (λ c. search needs) (λ c. search needs) doubled-requires-2
+    (λ c. search needs) doubled-requires-3 (λ c. search needs) (λ c. search needs) doubled-requires-4 side-of-requires
+    (λ c κs. search needs) returns)

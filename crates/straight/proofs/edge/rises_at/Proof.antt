@@ -25,8 +25,4 @@ returns-2 c =
     λ i. (sym (c .if1 .left) ∙ c .before .spans-at .ensures ∙ (λ i. spans a b (record { x = toZ-ofZ (s .fits .x) i; y = toZ-ofZ (s .fits .y) i }))) i && left a b (record { x = s .args .x; y = s .args .y })
 
 pub rises-at-spec : {M : Type 1} → statement M
-rises-at-spec = tie.close (tie.spec
-    (λ c κs. search needs)
-    (λ c κs. search needs)
-    returns
-    returns-2)
+rises-at-spec = tie.close (tie.spec (λ c κs. search needs) (λ c κs. search needs) returns returns-2)

@@ -8,7 +8,7 @@ use lib.Signed.{leZ, ltZ}
 use mir.Facts.{toZ-ofZ}
 use Rattle.whole.specs.FitLaws.{got}
 use Rattle.straight.specs.Plane.{spans, twice}
-use Rattle.straight.specs.EdgeLaws.{from-y, to-y}
+use Rattle.straight.proofs.EdgeLaws.{from-y, to-y}
 use borrow.Author.Needs.{needs}
 use Rattle.straight.proofs.edge.spans_at.Statement.{statement}
 use Rattle.straight.proofs.edge.spans_at.Tie as tie
@@ -39,14 +39,5 @@ returns-2 c =
 pub spans-at-spec : {M : Type 1} → statement M
 spans-at-spec =
     tie.close
-    (tie.spec
-    (λ c. search needs)
-    (λ c. search needs)
-    doubled-requires
-    (λ c κs. search needs)
-    (λ c. search needs)
-    (λ c. search needs)
-    doubled-requires-2
-    (λ c κs. search needs)
-    returns
-    returns-2)
+    (tie.spec (λ c. search needs) (λ c. search needs) doubled-requires (λ c κs. search needs) (λ c. search needs)
+    (λ c. search needs) doubled-requires-2 (λ c κs. search needs) returns returns-2)

@@ -8,7 +8,4 @@ unfolding next
 returns c = c .wrapped .ensures
 
 pub after-spec : {M : Type 1} → statement M
-after-spec = tie.close (tie.spec
-    (λ c. search needs)
-    (λ c κs. search needs)
-    returns)
+after-spec = tie.close (tie.spec (λ c. search needs) (λ c κs. search needs) returns)

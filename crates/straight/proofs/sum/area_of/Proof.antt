@@ -37,19 +37,19 @@ gain-at-requires : tie.Need-gain-at-requires Inv-loop μ-loop
 gain-at-requires c κs = on (c .before .before .before .before .before .pre) (c .before .loop-test .taken) (c .after .ensures)
 
 add-requires : tie.Need-add-requires Inv-loop μ-loop
-add-requires c κs = high-small (c .before .before .before .before .loop .up) (c .word3 .result) (c .before .before .before .before .loop .i) (c .before .before .before .before .loop .inv .1 .up-most) (omega (arith, c .before .before .before .before .before .before .before .pre .most)) (c .word3 .ensures .0)
+add-requires c κs =
+    let turn = c .before .before .before .before in
+    high-small (turn .loop .up) (c .word3 .result) (turn .loop .i) (turn .loop .inv .1 .up-most)
+    (omega (arith, turn .before .before .before .pre .most)) (c .word3 .ensures .0)
 
 gain-at-requires-2 : tie.Need-gain-at-requires-2 Inv-loop μ-loop
 gain-at-requires-2 c κs = back (c .before .before .before .before .before .before .before .before .pre) (c .before .before .before .before .loop-test .taken) (c .before .before .before .after .ensures)
 
 add-requires-2 : tie.Need-add-requires-2 Inv-loop μ-loop
-add-requires-2 c κs = high-small (c .before .before .before .before .before .before .before .loop .down) (c .word4 .result) (c .before .before .before .before .before .before .before .loop .i) (c .before .before .before .before .before .before .before .loop .inv .1 .down-most) (omega (arith, c .before .before .before .before .before .before .before .before .before .before .pre .most)) (c .word4 .ensures .0)
-
-add-i : tie.Need-add-i Inv-loop μ-loop
-add-i c = omega arith
-
-loop-less : tie.Need-loop-less Inv-loop μ-loop
-loop-less c = omega arith
+add-requires-2 c κs =
+    let turn = c .before .before .before .before .before .before .before in
+    high-small (turn .loop .down) (c .word4 .result) (turn .loop .i) (turn .loop .inv .1 .down-most)
+    (omega (arith, turn .before .before .before .pre .most)) (c .word4 .ensures .0)
 
 loop-again : tie.Need-loop-again Inv-loop μ-loop
 loop-again c =
@@ -73,21 +73,6 @@ returns c =
 pub area-of-spec : {M : Type 1} → statement M
 area-of-spec =
     tie.close
-    (tie.spec
-    Inv-loop
-    μ-loop
-    (λ c κs. search needs)
-    (λ c κs. search needs)
-    loop-holds
-    after-requires
-    gain-at-requires
-    (λ c κs. search needs)
-    add-requires
-    gain-at-requires-2
-    (λ c κs. search needs)
-    add-requires-2
-    add-i
-    loop-less
-    loop-again
-    (λ c κs. search needs)
-    returns)
+    (tie.spec Inv-loop μ-loop (λ c κs. search needs) (λ c κs. search needs) loop-holds after-requires gain-at-requires
+    (λ c κs. search needs) add-requires gain-at-requires-2 (λ c κs. search needs) add-requires-2 (λ c. omega arith)
+    (λ c. omega arith) loop-again (λ c κs. search needs) returns)

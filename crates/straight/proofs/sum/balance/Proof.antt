@@ -22,8 +22,4 @@ returns c =
     got (c .minus .result) (c .minus .ok) ∙ c .minus .ensures ∙ (λ i. (got (a .result) (a .ok) ∙ a .ensures) i -ℤ (got (b .result) (b .ok) ∙ b .ensures) i)
 
 pub balance-spec : {M : Type 1} → statement M
-balance-spec = tie.close (tie.spec
-    (λ c κs. search needs)
-    (λ c κs. search needs)
-    minus-requires
-    returns)
+balance-spec = tie.close (tie.spec (λ c κs. search needs) (λ c κs. search needs) minus-requires returns)

@@ -47,12 +47,6 @@ add-down c =
     let k = c .before .before .before .before .before .before in
     record { fits = omega (arith, k .loop .inv .1 .down-most, k .before .pre .outline .most, c .code-of2 .ensures, code-most (c .before .rises-at2 .result)) }
 
-add-i : tie.Need-add-i Inv-loop μ-loop
-add-i c = omega arith
-
-loop-less : tie.Need-loop-less Inv-loop μ-loop
-loop-less c = omega arith
-
 loop-again : tie.Need-loop-again Inv-loop μ-loop
 loop-again c =
     let k = c .before .before .before .before .before .before .loop in
@@ -78,19 +72,6 @@ returns c =
 pub winding-of-spec : {M : Type 1} → statement M
 winding-of-spec =
     tie.close
-    (tie.spec
-    Inv-loop
-    μ-loop
-    loop-holds
-    after-requires
-    rises-at-requires
-    (λ c κs. search needs)
-    add-up
-    rises-at-requires-2
-    (λ c κs. search needs)
-    add-down
-    add-i
-    loop-less
-    loop-again
-    balance-requires
-    returns)
+    (tie.spec Inv-loop μ-loop loop-holds after-requires rises-at-requires (λ c κs. search needs) add-up
+    rises-at-requires-2 (λ c κs. search needs) add-down (λ c. omega arith) (λ c. omega arith) loop-again
+    balance-requires returns)

@@ -16,10 +16,6 @@ Inv-loop l ok₀ i₀ ok i = (i ≤ length l) × (ok ≡ allInReach (take i l))
 abbrev μ-loop : tie.MeasureT-loop
 μ-loop l ok₀ i₀ ok i = length l - i
 
-loop-holds : tie.Need-loop-holds Inv-loop μ-loop
-unfolding allOf
-loop-holds c = (search needs, refl)
-
 loop-again : tie.Need-loop-again Inv-loop μ-loop
 loop-again c =
     let k = c .before .before .before in
@@ -28,20 +24,9 @@ loop-again c =
     let tested = reach-got 400000000 (c .near-vertex .result) z (c .before .near-vertex-arg .given) (c .near-vertex .ensures) in
     (search needs, all-more (inReach 400000000) l (k .loop .i) (k .loop .ok) (pos 0) (c .near-vertex .result) (c .before .before .loop-test .taken) (k .loop .inv .1) tested)
 
-returns : tie.Need-returns Inv-loop μ-loop
-returns c = search (needs, scan)
-
 pub all-near-spec : {M : Type 1} → statement M
+unfolding allOf
 all-near-spec =
     tie.close
-    (tie.spec
-    Inv-loop
-    μ-loop
-    loop-holds
-    (λ c. search needs)
-    (λ c. search needs)
-    (λ c κs. search needs)
-    (λ c. search needs)
-    (λ c. search needs)
-    loop-again
-    returns)
+    (tie.spec Inv-loop μ-loop (λ c. (search needs, refl)) (λ c. search needs) (λ c. search needs) (λ c κs. search needs)
+    (λ c. search needs) (λ c. search needs) loop-again (λ c. search (needs, scan)))

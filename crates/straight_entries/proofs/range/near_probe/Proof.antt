@@ -3,15 +3,8 @@ use borrow.Author.Needs.{needs}
 use Rattle.straight_entries.proofs.range.near_probe.Statement.{statement}
 use Rattle.straight_entries.proofs.range.near_probe.Tie as tie
 
-returns : tie.Need-returns
-returns c = search (needs, reaching)
-
-returns-2 : tie.Need-returns-2
-returns-2 c = search (needs, reaching)
-
 pub near-probe-spec : {M : Type 1} → statement M
-near-probe-spec = tie.close (tie.spec
-    (λ c κs. search needs)
-    (λ c κs. search needs)
-    returns
-    returns-2)
+near-probe-spec =
+    tie.close
+    (tie.spec (λ c κs. search needs) (λ c κs. search needs) (λ c. search (needs, reaching))
+    (λ c. search (needs, reaching)))

@@ -5,21 +5,10 @@ use borrow.Author.Needs.{needs}
 use Rattle.straight_entries.proofs.report.refusal.Statement.{statement}
 use Rattle.straight_entries.proofs.report.refusal.Tie as tie
 
-returns : tie.Need-returns
-unfolding reportRefusal firstFrom
-returns c = search (rows, length-of) depth 26
-
 pub refusal-spec : {M : Type 1} → statement M
+unfolding reportRefusal firstFrom
 refusal-spec =
     tie.close
-    (tie.spec
-    (λ c κs. search needs)
-    (λ c κs. search needs)
-    (λ c κs. search needs)
-    (λ c κs. search needs)
-    (λ c κs. search needs)
-    (λ c κs. search needs)
-    (λ c κs. search needs)
-    (λ c κs. search needs)
-    (λ c κs. search needs)
-    returns)
+    (tie.spec (λ c κs. search needs) (λ c κs. search needs) (λ c κs. search needs) (λ c κs. search needs)
+    (λ c κs. search needs) (λ c κs. search needs) (λ c κs. search needs) (λ c κs. search needs) (λ c κs. search needs)
+    (λ c. search (rows, length-of) depth 26))

@@ -6,22 +6,10 @@ use borrow.Author.Needs.{needs}
 use Rattle.straight_entries.proofs.winding.refusal.Statement.{statement}
 use Rattle.straight_entries.proofs.winding.refusal.Tie as tie
 
-returns : tie.Need-returns
-unfolding windingRefusal firstFrom
-returns c = search (rows, reach-read) depth 26
-
 pub refusal-spec : {M : Type 1} → statement M
+unfolding windingRefusal firstFrom
 refusal-spec =
     tie.close
-    (tie.spec
-    (λ c κs. search needs)
-    (λ c κs. search needs)
-    (λ c κs. search needs)
-    (λ c κs. search needs)
-    (λ c κs. search needs)
-    (λ c κs. search needs)
-    (λ c κs. search needs)
-    (λ c κs. search needs)
-    (λ c κs. search needs)
-    (λ c κs. search needs)
-    returns)
+    (tie.spec (λ c κs. search needs) (λ c κs. search needs) (λ c κs. search needs) (λ c κs. search needs)
+    (λ c κs. search needs) (λ c κs. search needs) (λ c κs. search needs) (λ c κs. search needs) (λ c κs. search needs)
+    (λ c κs. search needs) (λ c. search (rows, reach-read) depth 26))

@@ -1,5 +1,5 @@
 use mathlib.Core.Path.{refl}
-use Rattle.text.specs.DecimalLaws.{upper-fits, tenth-is}
+use Rattle.text.proofs.DecimalLaws.{upper-fits, tenth-is}
 use borrow.Author.Needs.{needs}
 use Rattle.text.proofs.decimal.tenth_of.Statement.{statement}
 use Rattle.text.proofs.decimal.tenth_of.Tie as tie
@@ -11,11 +11,7 @@ returns : tie.Need-returns
 returns c = tenth-is (c .before .before .before .before .args .t) _ _ (search needs) refl refl
 
 pub tenth-of-spec : {M : Type 1} → statement M
-tenth-of-spec = tie.close (tie.spec
-    (λ c. search needs)
-    add-upper
-    (λ c. search needs)
-    (λ c. search needs)
-    (λ c. search needs)
-    (λ c. search needs)
-    returns)
+tenth-of-spec =
+    tie.close
+    (tie.spec (λ c. search needs) add-upper (λ c. search needs) (λ c. search needs) (λ c. search needs)
+    (λ c. search needs) returns)

@@ -1,6 +1,6 @@
 use mathlib.Core.Path.{_∙_}
 use Rattle.whole.specs.FitLaws.{got}
-use Rattle.text.specs.LinesLaws.{coordinate-minus, coordinate-plus, minus-fits}
+use Rattle.text.proofs.LinesLaws.{coordinate-minus, coordinate-plus, minus-fits}
 use borrow.Author.Needs.{needs}
 use Rattle.text.proofs.lines.coordinate.Statement.{statement}
 use Rattle.text.proofs.lines.coordinate.Tie as tie
@@ -27,10 +27,4 @@ returns-2 c =
     coordinate-plus (s .negative) (s .size) (k .result) _ (k .ensures) (got (w .result) (w .ok) ∙ w .ensures) (c .if1 .left)
 
 pub coordinate-spec : {M : Type 1} → statement M
-coordinate-spec =
-    tie.close (tie.spec
-    (λ c κs. search needs)
-    (λ c κs. search needs)
-    minus-requires
-    returns
-    returns-2)
+coordinate-spec = tie.close (tie.spec (λ c κs. search needs) (λ c κs. search needs) minus-requires returns returns-2)

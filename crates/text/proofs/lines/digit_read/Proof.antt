@@ -1,14 +1,9 @@
-use Rattle.text.specs.LinesLaws.{parts}
+use Rattle.text.proofs.LinesLaws.{parts}
 use borrow.Author.Needs.{needs}
 use Rattle.text.proofs.lines.digit_read.Statement.{statement}
 use Rattle.text.proofs.lines.digit_read.Tie as tie
 
-returns : tie.Need-returns
-returns c = search (needs, parts)
-
 pub digit-read-spec : {M : Type 1} → statement M
-digit-read-spec = tie.close (tie.spec
-    (λ c κs. search needs)
-    (λ c κs. search needs)
-    (λ c κs. search needs)
-    returns)
+digit-read-spec =
+    tie.close
+    (tie.spec (λ c κs. search needs) (λ c κs. search needs) (λ c κs. search needs) (λ c. search (needs, parts)))

@@ -15,32 +15,14 @@ Inv-loop outline1 vc1 outline2 vc2 v offset k₀ k = (k ≤ offset + 1) × (each
 abbrev μ-loop : tie.MeasureT-loop
 μ-loop outline1 vc1 outline2 vc2 v offset k₀ k = offset + 1 - k
 
-loop-holds : tie.Need-loop-holds Inv-loop μ-loop
-loop-holds c = search (needs, moving)
-
 returns : tie.Need-returns Inv-loop μ-loop
 returns c =
     let asked = c .before in
     let turn = asked .before in
     moved-found _ _ _ _ _ _ _ (turn .before .loop .inv .1) (asked .same-at .ensures) (c .if1 .taken) (omega arith)
 
-loop-again : tie.Need-loop-again Inv-loop μ-loop
-loop-again c = search (needs, moving)
-
-returns-2 : tie.Need-returns-2 Inv-loop μ-loop
-returns-2 c = search (needs, moving)
-
 pub first-moved-spec : {M : Type 1} → statement M
 first-moved-spec =
     tie.close
-    (tie.spec
-    Inv-loop
-    μ-loop
-    loop-holds
-    (λ c κs. search needs)
-    returns
-    (λ c. search needs)
-    (λ c. search needs)
-    loop-again
-    (λ c. search needs)
-    returns-2)
+    (tie.spec Inv-loop μ-loop (λ c. search (needs, moving)) (λ c κs. search needs) returns (λ c. search needs)
+    (λ c. search needs) (λ c. search (needs, moving)) (λ c. search needs) (λ c. search (needs, moving)))

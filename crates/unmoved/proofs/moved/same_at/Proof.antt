@@ -3,16 +3,8 @@ use borrow.Author.Needs.{needs}
 use Rattle.unmoved.proofs.moved.same_at.Statement.{statement}
 use Rattle.unmoved.proofs.moved.same_at.Tie as tie
 
-same-vertex-requires : tie.Need-same-vertex-requires
-same-vertex-requires c κs = search (needs, vertices)
-
-returns : tie.Need-returns
-returns c = search (needs, vertices)
-
 pub same-at-spec : {M : Type 1} → statement M
 same-at-spec =
-    tie.close (tie.spec
-    (λ c κs. search needs)
-    (λ c κs. search needs)
-    same-vertex-requires
-    returns)
+    tie.close
+    (tie.spec (λ c κs. search needs) (λ c κs. search needs) (λ c κs. search (needs, vertices))
+    (λ c. search (needs, vertices)))

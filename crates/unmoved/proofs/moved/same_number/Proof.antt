@@ -4,12 +4,6 @@ use borrow.Author.Needs.{needs}
 use Rattle.unmoved.proofs.moved.same_number.Statement.{statement}
 use Rattle.unmoved.proofs.moved.same_number.Tie as tie
 
-returns : tie.Need-returns
-unfolding sameBits
-returns c = refl
-
 pub same-number-spec : {M : Type 1} → statement M
-same-number-spec = tie.close (tie.spec
-    (λ c. search needs)
-    (λ c. search needs)
-    returns)
+unfolding sameBits
+same-number-spec = tie.close (tie.spec (λ c. search needs) (λ c. search needs) (λ c. refl))

@@ -10,12 +10,6 @@ Inv-loop outline vc v room₀ count k₀ room k = Listing outline vc v room₀ r
 abbrev μ-loop : tie.MeasureT-loop
 μ-loop outline vc v room₀ count k₀ room k = count - k
 
-loop-holds : tie.Need-loop-holds Inv-loop μ-loop
-loop-holds c = search (needs, listing)
-
-put-vertex-requires : tie.Need-put-vertex-requires Inv-loop μ-loop
-put-vertex-requires c κs = search (needs, listing)
-
 loop-again : tie.Need-loop-again Inv-loop μ-loop
 loop-again c =
     let put = c .before .before in
@@ -23,22 +17,9 @@ loop-again c =
     let turn = drawn .before .before in
     list-more _ _ _ _ _ _ _ _ (turn .before .loop .inv) (search needs) (drawn .vertex-of .ensures) (put .put-vertex .ensures)
 
-returns : tie.Need-returns Inv-loop μ-loop
-returns c = search (needs, listing)
-
 pub write-vertices-spec : {M : Type 1} → statement M
 write-vertices-spec =
     tie.close
-    (tie.spec
-    Inv-loop
-    μ-loop
-    (λ c. search needs)
-    loop-holds
-    (λ c. search needs)
-    (λ c κs. search needs)
-    put-vertex-requires
-    (λ c. search needs)
-    (λ c. search needs)
-    loop-again
-    (λ c. search needs)
-    returns)
+    (tie.spec Inv-loop μ-loop (λ c. search needs) (λ c. search (needs, listing)) (λ c. search needs)
+    (λ c κs. search needs) (λ c κs. search (needs, listing)) (λ c. search needs) (λ c. search needs) loop-again
+    (λ c. search needs) (λ c. search (needs, listing)))

@@ -8,6 +8,4 @@ returns : tie.Need-returns
 returns c = toZ-pos w64 (c .pre .below)
 
 pub signed-spec : {M : Type 1} → statement M
-signed-spec = tie.close (tie.spec
-    (λ c. search needs)
-    returns)
+signed-spec = tie.close (tie.spec (λ c. search needs) returns)

@@ -7,6 +7,4 @@ cast-result : tie.Need-cast-result
 cast-result c = cast-ok (c .args .x) (c .fits .x) (c .pre)
 
 pub unsigned-spec : {M : Type 1} → statement M
-unsigned-spec = tie.close (tie.spec
-    cast-result
-    (λ c. search needs))
+unsigned-spec = tie.close (tie.spec cast-result (λ c. search needs))
