@@ -3,10 +3,5 @@ use Rattle.area.proofs.Listing.{kept-by}
 use Rattle.area.proofs.is_kept.Statement.{statement}
 use Rattle.area.proofs.is_kept.Tie as tie
 
-returns : tie.Need-returns
-returns c = search (needs, kept-by)
-
 pub is-kept-spec : {M : Type 1} → statement M
-is-kept-spec = tie.close (tie.spec
-    (λ c κs. search needs)
-    returns)
+is-kept-spec = tie.close (tie.spec (λ c κs. search needs) (λ c. search (needs, kept-by)))

@@ -4,13 +4,6 @@ use Rattle.settings.specs.Settings.{lengthsFault}
 use Rattle.settings.proofs.bad_lengths.Statement.{statement}
 use Rattle.settings.proofs.bad_lengths.Tie as tie
 
-returns : tie.Need-returns
-unfolding lengthsFault
-returns c = search (needs, cases)
-
-returns-2 : tie.Need-returns-2
-unfolding lengthsFault
-returns-2 c = search (needs, cases)
-
 pub bad-lengths-spec : {M : Type 1} → statement M
-bad-lengths-spec = tie.close (tie.spec returns returns-2)
+unfolding lengthsFault
+bad-lengths-spec = tie.close (tie.spec (λ c. search (needs, cases)) (λ c. search (needs, cases)))

@@ -3,18 +3,8 @@ use borrow.Author.Needs.{needs}
 use Rattle.settings.proofs.enter.Statement.{statement}
 use Rattle.settings.proofs.enter.Tie as tie
 
-returns : tie.Need-returns
-returns c = search (needs, entered-as)
-
 pub enter-spec : {M : Type 1} → statement M
 enter-spec =
     tie.close
-    (tie.spec
-    (λ c κs. search needs)
-    (λ c κs. search needs)
-    (λ c. search needs)
-    (λ c. search needs)
-    (λ c. search needs)
-    (λ c. search needs)
-    (λ c. search needs)
-    returns)
+    (tie.spec (λ c κs. search needs) (λ c κs. search needs) (λ c. search needs) (λ c. search needs) (λ c. search needs)
+    (λ c. search needs) (λ c. search needs) (λ c. search (needs, entered-as)))

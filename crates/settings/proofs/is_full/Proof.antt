@@ -11,6 +11,4 @@ unfolding full
 returns c = ap (λ (n : ℕ). eqb n 16) (c .count .ensures)
 
 pub is-full-spec : {M : Type 1} → statement M
-is-full-spec = tie.close (tie.spec
-    (λ c κs. search needs)
-    returns)
+is-full-spec = tie.close (tie.spec (λ c κs. search needs) returns)

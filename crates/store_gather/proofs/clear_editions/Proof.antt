@@ -10,26 +10,9 @@ Inv-loop room₀ from to i₀ room i = Clearing 0 room₀ from to room i
 abbrev μ-loop : tie.MeasureT-loop
 μ-loop room₀ from to i₀ room i = to - i
 
-loop-holds : tie.Need-loop-holds Inv-loop μ-loop
-loop-holds c = search (needs, clearing)
-
-loop-again : tie.Need-loop-again Inv-loop μ-loop
-loop-again c = search (needs, clearing)
-
-returns : tie.Need-returns Inv-loop μ-loop
-returns c = search (needs, clearing)
-
 pub clear-editions-spec : {M : Type 1} → statement M
 clear-editions-spec =
     tie.close
-    (tie.spec
-    Inv-loop
-    μ-loop
-    loop-holds
-    (λ c. search needs)
-    (λ c. search needs)
-    (λ c. search needs)
-    (λ c. search needs)
-    loop-again
-    (λ c. search needs)
-    returns)
+    (tie.spec Inv-loop μ-loop (λ c. search (needs, clearing)) (λ c. search needs) (λ c. search needs)
+    (λ c. search needs) (λ c. search needs) (λ c. search (needs, clearing)) (λ c. search needs)
+    (λ c. search (needs, clearing)))

@@ -11,29 +11,9 @@ Inv-loop order n dst₀ k₀ dst k = Mapping handleOf order n dst₀ dst k
 abbrev μ-loop : tie.MeasureT-loop
 μ-loop order n dst₀ k₀ dst k = n - k
 
-loop-holds : tie.Need-loop-holds Inv-loop μ-loop
-loop-holds c = mapping-none _ _ _ _
-
-loop-again : tie.Need-loop-again Inv-loop μ-loop
-loop-again c = search (needs, handles-more)
-
-returns : tie.Need-returns Inv-loop μ-loop
-returns c = search (needs, handles-end)
-
 pub gather-handles-spec : {M : Type 1} → statement M
 gather-handles-spec =
     tie.close
-    (tie.spec
-    Inv-loop
-    μ-loop
-    loop-holds
-    (λ c. search needs)
-    (λ c. search needs)
-    (λ c κs. search needs)
-    (λ c. search needs)
-    (λ c. search needs)
-    (λ c. search needs)
-    (λ c. search needs)
-    loop-again
-    (λ c. search needs)
-    returns)
+    (tie.spec Inv-loop μ-loop (λ c. mapping-none _ _ _ _) (λ c. search needs) (λ c. search needs) (λ c κs. search needs)
+    (λ c. search needs) (λ c. search needs) (λ c. search needs) (λ c. search needs) (λ c. search (needs, handles-more))
+    (λ c. search needs) (λ c. search (needs, handles-end)))

@@ -3,19 +3,8 @@ use borrow.Author.Needs.{needs}
 use Rattle.store_gather.proofs.lay_numbers.Statement.{statement}
 use Rattle.store_gather.proofs.lay_numbers.Tie as tie
 
-gather-numbers-requires : tie.Need-gather-numbers-requires
-gather-numbers-requires c κs = search (needs, lay-gather)
-
-returns : tie.Need-returns
-returns c = search (needs, lay-done)
-
 pub lay-numbers-spec : {M : Type 1} → statement M
 lay-numbers-spec =
     tie.close
-    (tie.spec
-    (λ c. search needs)
-    gather-numbers-requires
-    (λ c. search needs)
-    (λ c κs. search needs)
-    (λ c. search needs)
-    returns)
+    (tie.spec (λ c. search needs) (λ c κs. search (needs, lay-gather)) (λ c. search needs) (λ c κs. search needs)
+    (λ c. search needs) (λ c. search (needs, lay-done)))

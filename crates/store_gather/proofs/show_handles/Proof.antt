@@ -3,13 +3,7 @@ use borrow.Author.Needs.{needs}
 use Rattle.store_gather.proofs.show_handles.Statement.{statement}
 use Rattle.store_gather.proofs.show_handles.Tie as tie
 
-returns : tie.Need-returns
-returns c = search (needs, show-handles-done)
-
 pub show-handles-spec : {M : Type 1} → statement M
 show-handles-spec =
-    tie.close (tie.spec
-    (λ c κs. search needs)
-    (λ c κs. search needs)
-    (λ c. search needs)
-    returns)
+    tie.close
+    (tie.spec (λ c κs. search needs) (λ c κs. search needs) (λ c. search needs) (λ c. search (needs, show-handles-done)))

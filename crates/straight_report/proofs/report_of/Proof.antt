@@ -98,19 +98,6 @@ returns c =
 pub report-of-spec : {M : Type 1} → statement M
 report-of-spec =
     tie.close
-    (tie.spec
-    Inv-loop
-    μ-loop
-    (λ c κs. search needs)
-    loop-holds
-    (λ c. search needs)
-    (λ c. search needs)
-    area-between-requires
-    (λ c κs. search needs)
-    add-zero
-    (λ c κs. search needs)
-    add-requires
-    add-k
-    loop-less
-    loop-again
+    (tie.spec Inv-loop μ-loop (λ c κs. search needs) loop-holds (λ c. search needs) (λ c. search needs)
+    area-between-requires (λ c κs. search needs) add-zero (λ c κs. search needs) add-requires add-k loop-less loop-again
     returns)

@@ -12,12 +12,5 @@ found-with-requires c κs = most-lists _ _ _ _ _ _ (search c) (length-replicate 
 pub found-many-spec : {M : Type 1} → statement M
 found-many-spec =
     tie.close
-    (tie.spec
-    (λ c. search needs)
-    (λ c. search needs)
-    (λ c. search needs)
-    found-with-requires
-    (λ c. search needs)
-    (λ c. search needs)
-    (λ c. search needs)
-    (λ c. search needs))
+    (tie.spec (λ c. search needs) (λ c. search needs) (λ c. search needs) found-with-requires (λ c. search needs)
+    (λ c. search needs) (λ c. search needs) (λ c. search needs))

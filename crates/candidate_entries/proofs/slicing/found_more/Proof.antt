@@ -12,12 +12,5 @@ found-with-requires c κs = few-lists _ _ _ _ _ _ 256 (search c) (length-replica
 pub found-more-spec : {M : Type 1} → statement M
 found-more-spec =
     tie.close
-    (tie.spec
-    (λ c. search needs)
-    (λ c. search needs)
-    (λ c. search needs)
-    found-with-requires
-    (λ c. search needs)
-    (λ c. search needs)
-    (λ c. search needs)
-    (λ c. search needs))
+    (tie.spec (λ c. search needs) (λ c. search needs) (λ c. search needs) found-with-requires (λ c. search needs)
+    (λ c. search needs) (λ c. search needs) (λ c. search needs))

@@ -12,19 +12,8 @@ walked-requires c κs =
     let start = params .before .before .before .before in
     in-front _ _ _ _ _ _ _ _ _ _ _ (ordered .write-order .ensures) _ (start .pre .ok) (start .pre .numberRoom) (start .pre .pointRoom)
 
-returns : tie.Need-returns
-returns c = search (needs, fronts)
-
 pub found-with-spec : {M : Type 1} → statement M
 found-with-spec =
     tie.close
-    (tie.spec
-    (λ c κs. search needs)
-    walked-requires
-    (λ c. search needs)
-    (λ c. search needs)
-    (λ c. search needs)
-    (λ c. search needs)
-    (λ c. search needs)
-    (λ c. search needs)
-    returns)
+    (tie.spec (λ c κs. search needs) walked-requires (λ c. search needs) (λ c. search needs) (λ c. search needs)
+    (λ c. search needs) (λ c. search needs) (λ c. search needs) (λ c. search (needs, fronts)))

@@ -4,21 +4,10 @@ use borrow.Author.Needs.{needs}
 use Rattle.candidate_entries.proofs.slicing.later_refusal.Statement.{statement}
 use Rattle.candidate_entries.proofs.slicing.later_refusal.Tie as tie
 
-returns : tie.Need-returns
-unfolding laterRows
-returns c = search (then-rows) depth 14
-
 pub later-refusal-spec : {M : Type 1} → statement M
+unfolding laterRows
 later-refusal-spec =
     tie.close
-    (tie.spec
-    (λ c. search needs)
-    (λ c. search needs)
-    (λ c κs. search needs)
-    (λ c κs. search needs)
-    (λ c κs. search needs)
-    (λ c κs. search needs)
-    (λ c. search needs)
-    (λ c. search needs)
-    (λ c κs. search needs)
-    returns)
+    (tie.spec (λ c. search needs) (λ c. search needs) (λ c κs. search needs) (λ c κs. search needs)
+    (λ c κs. search needs) (λ c κs. search needs) (λ c. search needs) (λ c. search needs) (λ c κs. search needs)
+    (λ c. search (then-rows) depth 14))

@@ -3,9 +3,6 @@ use borrow.Author.Needs.{needs}
 use Rattle.candidate_entries.proofs.slicing.sought.Statement.{statement}
 use Rattle.candidate_entries.proofs.slicing.sought.Tie as tie
 
-returns : tie.Need-returns
-returns c = search (needs, trying)
-
 found-requires : tie.Need-found-requires
 found-requires c κs =
     let left = c .before .before .before in
@@ -14,22 +11,9 @@ found-requires c κs =
     let start = begun .before .before .before .before .before .before .before in
     tried-not _ _ _ _ _ (told .found-told .ensures) (left .enum-told .given .1) (start .pre)
 
-returns-2 : tie.Need-returns-2
-returns-2 c = search (needs, trying)
-
 pub sought-spec : {M : Type 1} → statement M
 sought-spec =
     tie.close
-    (tie.spec
-    (λ c κs. search needs)
-    (λ c. search needs)
-    (λ c. search needs)
-    (λ c. search needs)
-    (λ c. search needs)
-    returns
-    (λ c. search needs)
-    found-requires
-    (λ c. search needs)
-    (λ c. search needs)
-    (λ c. search needs)
-    returns-2)
+    (tie.spec (λ c κs. search needs) (λ c. search needs) (λ c. search needs) (λ c. search needs) (λ c. search needs)
+    (λ c. search (needs, trying)) (λ c. search needs) found-requires (λ c. search needs) (λ c. search needs)
+    (λ c. search needs) (λ c. search (needs, trying)))

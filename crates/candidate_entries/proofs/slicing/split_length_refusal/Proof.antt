@@ -4,12 +4,8 @@ use borrow.Author.Needs.{needs}
 use Rattle.candidate_entries.proofs.slicing.split_length_refusal.Statement.{statement}
 use Rattle.candidate_entries.proofs.slicing.split_length_refusal.Tie as tie
 
-returns : tie.Need-returns
-unfolding firstFrom
-returns c = search rows depth 12
-
 pub split-length-refusal-spec : {M : Type 1} → statement M
-split-length-refusal-spec = tie.close (tie.spec
-    (λ c κs. search needs)
-    (λ c κs. search needs)
-    returns)
+unfolding firstFrom
+split-length-refusal-spec =
+    tie.close
+    (tie.spec (λ c κs. search needs) (λ c κs. search needs) (λ c. search rows depth 12))

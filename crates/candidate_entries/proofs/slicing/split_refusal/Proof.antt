@@ -4,12 +4,6 @@ use borrow.Author.Needs.{needs}
 use Rattle.candidate_entries.proofs.slicing.split_refusal.Statement.{statement}
 use Rattle.candidate_entries.proofs.slicing.split_refusal.Tie as tie
 
-returns : tie.Need-returns
-unfolding firstFrom
-returns c = search rows depth 12
-
 pub split-refusal-spec : {M : Type 1} → statement M
-split-refusal-spec = tie.close (tie.spec
-    (λ c κs. search needs)
-    (λ c κs. search needs)
-    returns)
+unfolding firstFrom
+split-refusal-spec = tie.close (tie.spec (λ c κs. search needs) (λ c κs. search needs) (λ c. search rows depth 12))

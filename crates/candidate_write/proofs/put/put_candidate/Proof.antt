@@ -3,27 +3,9 @@ use borrow.Author.Needs.{needs}
 use Rattle.candidate_write.proofs.put.put_candidate.Statement.{statement}
 use Rattle.candidate_write.proofs.put.put_candidate.Tie as tie
 
-returns : tie.Need-returns
-returns c = search (needs, putting)
-
-returns-2 : tie.Need-returns-2
-returns-2 c = search (needs, putting)
-
 pub put-candidate-spec : {M : Type 1} → statement M
 put-candidate-spec =
     tie.close
-    (tie.spec
-    (λ c. search needs)
-    (λ c. search needs)
-    returns
-    (λ c. search needs)
-    (λ c κs. search needs)
-    (λ c. search needs)
-    (λ c κs. search needs)
-    (λ c. search needs)
-    (λ c κs. search needs)
-    (λ c. search needs)
-    (λ c. search needs)
-    (λ c. search needs)
-    (λ c. search needs)
-    returns-2)
+    (tie.spec (λ c. search needs) (λ c. search needs) (λ c. search (needs, putting)) (λ c. search needs)
+    (λ c κs. search needs) (λ c. search needs) (λ c κs. search needs) (λ c. search needs) (λ c κs. search needs)
+    (λ c. search needs) (λ c. search needs) (λ c. search needs) (λ c. search needs) (λ c. search (needs, putting)))

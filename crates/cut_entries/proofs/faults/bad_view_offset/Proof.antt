@@ -5,16 +5,8 @@ use borrow.Author.Needs.{needs}
 use Rattle.cut_entries.proofs.faults.bad_view_offset.Statement.{statement}
 use Rattle.cut_entries.proofs.faults.bad_view_offset.Tie as tie
 
-returns : tie.Need-returns
-unfolding viewOffsetFault
-returns c = search (needs, cases, not-row)
-
-returns-2 : tie.Need-returns-2
-unfolding viewOffsetFault
-returns-2 c = search (needs, cases)
-
 pub bad-view-offset-spec : {M : Type 1} → statement M
-bad-view-offset-spec = tie.close (tie.spec
-    (λ c κs. search needs)
-    returns
-    returns-2)
+unfolding viewOffsetFault
+bad-view-offset-spec =
+    tie.close
+    (tie.spec (λ c κs. search needs) (λ c. search (needs, cases, not-row)) (λ c. search (needs, cases)))

@@ -6,24 +6,11 @@ use borrow.Author.Needs.{needs}
 use Rattle.cut_entries.proofs.faults.index_refusal.Statement.{statement}
 use Rattle.cut_entries.proofs.faults.index_refusal.Tie as tie
 
-returns : tie.Need-returns
-unfolding firstFrom indexRows
-returns c = search (rows, start-row, end-row) depth 24
-
 pub index-refusal-spec : {M : Type 1} → statement M
+unfolding firstFrom indexRows
 index-refusal-spec =
     tie.close
-    (tie.spec
-    (λ c κs. search needs)
-    (λ c κs. search needs)
-    (λ c κs. search needs)
-    (λ c κs. search needs)
-    (λ c κs. search needs)
-    (λ c. search needs)
-    (λ c κs. search needs)
-    (λ c κs. search needs)
-    (λ c κs. search needs)
-    (λ c κs. search needs)
-    (λ c κs. search needs)
-    (λ c κs. search needs)
-    returns)
+    (tie.spec (λ c κs. search needs) (λ c κs. search needs) (λ c κs. search needs) (λ c κs. search needs)
+    (λ c κs. search needs) (λ c. search needs) (λ c κs. search needs) (λ c κs. search needs) (λ c κs. search needs)
+    (λ c κs. search needs) (λ c κs. search needs) (λ c κs. search needs)
+    (λ c. search (rows, start-row, end-row) depth 24))

@@ -5,24 +5,10 @@ use borrow.Author.Needs.{needs}
 use Rattle.cut_entries.proofs.faults.list_refusal.Statement.{statement}
 use Rattle.cut_entries.proofs.faults.list_refusal.Tie as tie
 
-returns : tie.Need-returns
-unfolding firstFrom listRows
-returns c = search rows depth 24
-
 pub list-refusal-spec : {M : Type 1} → statement M
+unfolding firstFrom listRows
 list-refusal-spec =
     tie.close
-    (tie.spec
-    (λ c κs. search needs)
-    (λ c κs. search needs)
-    (λ c κs. search needs)
-    (λ c κs. search needs)
-    (λ c κs. search needs)
-    (λ c κs. search needs)
-    (λ c κs. search needs)
-    (λ c κs. search needs)
-    (λ c κs. search needs)
-    (λ c κs. search needs)
-    (λ c κs. search needs)
-    (λ c κs. search needs)
-    returns)
+    (tie.spec (λ c κs. search needs) (λ c κs. search needs) (λ c κs. search needs) (λ c κs. search needs)
+    (λ c κs. search needs) (λ c κs. search needs) (λ c κs. search needs) (λ c κs. search needs) (λ c κs. search needs)
+    (λ c κs. search needs) (λ c κs. search needs) (λ c κs. search needs) (λ c. search rows depth 24))

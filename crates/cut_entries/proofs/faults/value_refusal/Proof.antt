@@ -5,26 +5,11 @@ use borrow.Author.Needs.{needs}
 use Rattle.cut_entries.proofs.faults.value_refusal.Statement.{statement}
 use Rattle.cut_entries.proofs.faults.value_refusal.Tie as tie
 
-returns : tie.Need-returns
-unfolding firstFrom valueRows
-returns c = search rows depth 24
-
 pub value-refusal-spec : {M : Type 1} → statement M
+unfolding firstFrom valueRows
 value-refusal-spec =
     tie.close
-    (tie.spec
-    (λ c κs. search needs)
-    (λ c κs. search needs)
-    (λ c κs. search needs)
-    (λ c κs. search needs)
-    (λ c κs. search needs)
-    (λ c κs. search needs)
-    (λ c κs. search needs)
-    (λ c κs. search needs)
-    (λ c κs. search needs)
-    (λ c κs. search needs)
-    (λ c κs. search needs)
-    (λ c κs. search needs)
-    (λ c κs. search needs)
-    (λ c κs. search needs)
-    returns)
+    (tie.spec (λ c κs. search needs) (λ c κs. search needs) (λ c κs. search needs) (λ c κs. search needs)
+    (λ c κs. search needs) (λ c κs. search needs) (λ c κs. search needs) (λ c κs. search needs) (λ c κs. search needs)
+    (λ c κs. search needs) (λ c κs. search needs) (λ c κs. search needs) (λ c κs. search needs) (λ c κs. search needs)
+    (λ c. search rows depth 24))

@@ -4,15 +4,8 @@ use borrow.Author.Needs.{needs}
 use Rattle.cut_entries.proofs.order.input_refusal.Statement.{statement}
 use Rattle.cut_entries.proofs.order.input_refusal.Tie as tie
 
-returns : tie.Need-returns
-unfolding cutInputRows
-returns c = search (then-rows) depth 12
-
 pub input-refusal-spec : {M : Type 1} → statement M
+unfolding cutInputRows
 input-refusal-spec =
     tie.close
-    (tie.spec
-    (λ c κs. search needs)
-    (λ c κs. search needs)
-    (λ c κs. search needs)
-    returns)
+    (tie.spec (λ c κs. search needs) (λ c κs. search needs) (λ c κs. search needs) (λ c. search (then-rows) depth 12))

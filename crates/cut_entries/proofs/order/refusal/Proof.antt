@@ -4,9 +4,6 @@ use borrow.Author.Needs.{needs}
 use Rattle.cut_entries.proofs.order.refusal.Statement.{statement}
 use Rattle.cut_entries.proofs.order.refusal.Tie as tie
 
-returns : tie.Need-returns
-returns c = search (needs, parts)
-
 mul-room-refusal : tie.Need-mul-room-refusal
 mul-room-refusal c =
     let first = c .before in
@@ -20,16 +17,8 @@ add-room-refusal c =
 room-refusal-requires : tie.Need-room-refusal-requires
 room-refusal-requires c κs = let first = c .before .before in input-few _ _ (first .before .input-refusal .ensures) (first .if1 .left)
 
-returns-2 : tie.Need-returns-2
-returns-2 c = search (needs, parts)
-
 pub refusal-spec : {M : Type 1} → statement M
 refusal-spec =
     tie.close
-    (tie.spec
-    (λ c κs. search needs)
-    returns
-    mul-room-refusal
-    add-room-refusal
-    room-refusal-requires
-    returns-2)
+    (tie.spec (λ c κs. search needs) (λ c. search (needs, parts)) mul-room-refusal add-room-refusal
+    room-refusal-requires (λ c. search (needs, parts)))

@@ -3,21 +3,9 @@ use borrow.Author.Needs.{needs}
 use Rattle.cut_order.proofs.along.follows.Statement.{statement}
 use Rattle.cut_order.proofs.along.follows.Tie as tie
 
-returns : tie.Need-returns
-unfolding followsBy
-returns c = cc
-
 pub follows-spec : {M : Type 1} → statement M
+unfolding followsBy
 follows-spec =
     tie.close
-    (tie.spec
-    (λ c. search needs)
-    (λ c. search needs)
-    (λ c. search needs)
-    (λ c. search needs)
-    (λ c. search needs)
-    (λ c. search needs)
-    (λ c. search needs)
-    (λ c κs. search needs)
-    (λ c κs. search needs)
-    returns)
+    (tie.spec (λ c. search needs) (λ c. search needs) (λ c. search needs) (λ c. search needs) (λ c. search needs)
+    (λ c. search needs) (λ c. search needs) (λ c κs. search needs) (λ c κs. search needs) (λ c. cc))

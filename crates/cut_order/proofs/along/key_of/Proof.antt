@@ -3,11 +3,6 @@ use borrow.Author.Needs.{needs}
 use Rattle.cut_order.proofs.along.key_of.Statement.{statement}
 use Rattle.cut_order.proofs.along.key_of.Tie as tie
 
-returns : tie.Need-returns
-unfolding keyBy
-returns c = cc
-
 pub key-of-spec : {M : Type 1} → statement M
-key-of-spec = tie.close (tie.spec
-    (λ c κs. search needs)
-    returns)
+unfolding keyBy
+key-of-spec = tie.close (tie.spec (λ c κs. search needs) (λ c. cc))

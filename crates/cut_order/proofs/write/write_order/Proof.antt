@@ -3,9 +3,6 @@ use borrow.Author.Needs.{needs}
 use Rattle.cut_order.proofs.write.write_order.Statement.{statement}
 use Rattle.cut_order.proofs.write.write_order.Tie as tie
 
-order-cuts-requires : tie.Need-order-cuts-requires
-order-cuts-requires c κs = search (needs, overwriting)
-
 write-items-requires : tie.Need-write-items-requires
 write-items-requires c κs =
     let lent = c .before .before .before in
@@ -14,16 +11,8 @@ write-items-requires c κs =
     let start = begun .before .before .before .before .before .before .before .before in
     room-known _ _ _ _ _ _ (sorted .order-cuts .ensures) (start .pre .roomy) (search needs) (search needs)
 
-returns : tie.Need-returns
-returns c = search (needs, overwriting)
-
 pub write-order-spec : {M : Type 1} → statement M
 write-order-spec =
     tie.close
-    (tie.spec
-    order-cuts-requires
-    write-items-requires
-    (λ c. search needs)
-    (λ c. search needs)
-    (λ c. search needs)
-    returns)
+    (tie.spec (λ c κs. search (needs, overwriting)) write-items-requires (λ c. search needs) (λ c. search needs)
+    (λ c. search needs) (λ c. search (needs, overwriting)))

@@ -11,6 +11,4 @@ returns : tie.Need-returns
 returns c = let s = c .before in c .entry .ensures ∙ (λ i. windingAnswer (now (s .args .outline)) (s .args .vc) (toZ-ofZ (s .fits .x) i) (toZ-ofZ (s .fits .y) i))
 
 pub mask-straight-winding-spec : {M : Type 1} → statement M
-mask-straight-winding-spec = tie.close (tie.spec
-    (λ c κs. search needs)
-    returns)
+mask-straight-winding-spec = tie.close (tie.spec (λ c κs. search needs) returns)

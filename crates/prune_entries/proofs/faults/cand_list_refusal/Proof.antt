@@ -4,21 +4,10 @@ use borrow.Author.Needs.{needs}
 use Rattle.prune_entries.proofs.faults.cand_list_refusal.Statement.{statement}
 use Rattle.prune_entries.proofs.faults.cand_list_refusal.Tie as tie
 
-returns : tie.Need-returns
-unfolding firstFrom
-returns c = search rows depth 24
-
 pub cand-list-refusal-spec : {M : Type 1} → statement M
+unfolding firstFrom
 cand-list-refusal-spec =
     tie.close
-    (tie.spec
-    (λ c κs. search needs)
-    (λ c κs. search needs)
-    (λ c κs. search needs)
-    (λ c κs. search needs)
-    (λ c κs. search needs)
-    (λ c κs. search needs)
-    (λ c κs. search needs)
-    (λ c κs. search needs)
-    (λ c κs. search needs)
-    returns)
+    (tie.spec (λ c κs. search needs) (λ c κs. search needs) (λ c κs. search needs) (λ c κs. search needs)
+    (λ c κs. search needs) (λ c κs. search needs) (λ c κs. search needs) (λ c κs. search needs) (λ c κs. search needs)
+    (λ c. search rows depth 24))

@@ -3,11 +3,7 @@ use borrow.Author.Needs.{needs}
 use Rattle.prune_entries.proofs.faults.lent_refusal.Statement.{statement}
 use Rattle.prune_entries.proofs.faults.lent_refusal.Tie as tie
 
-returns : tie.Need-returns
-returns c = search (then-rows) depth 12
-
 pub lent-refusal-spec : {M : Type 1} → statement M
-lent-refusal-spec = tie.close (tie.spec
-    (λ c κs. search needs)
-    (λ c κs. search needs)
-    returns)
+lent-refusal-spec =
+    tie.close
+    (tie.spec (λ c κs. search needs) (λ c κs. search needs) (λ c. search (then-rows) depth 12))

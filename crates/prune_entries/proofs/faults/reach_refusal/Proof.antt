@@ -4,18 +4,9 @@ use borrow.Author.Needs.{needs}
 use Rattle.prune_entries.proofs.faults.reach_refusal.Statement.{statement}
 use Rattle.prune_entries.proofs.faults.reach_refusal.Tie as tie
 
-returns : tie.Need-returns
-unfolding firstFrom
-returns c = search rows depth 24
-
 pub reach-refusal-spec : {M : Type 1} → statement M
+unfolding firstFrom
 reach-refusal-spec =
     tie.close
-    (tie.spec
-    (λ c κs. search needs)
-    (λ c κs. search needs)
-    (λ c κs. search needs)
-    (λ c κs. search needs)
-    (λ c κs. search needs)
-    (λ c κs. search needs)
-    returns)
+    (tie.spec (λ c κs. search needs) (λ c κs. search needs) (λ c κs. search needs) (λ c κs. search needs)
+    (λ c κs. search needs) (λ c κs. search needs) (λ c. search rows depth 24))

@@ -4,17 +4,8 @@ use Rattle.prune_entries.specs.PruneEntryLaws.{pruning, input-few, accep
 use Rattle.prune_entries.proofs.pruning.entry.Statement.{statement}
 use Rattle.prune_entries.proofs.pruning.entry.Tie as tie
 
-returns : tie.Need-returns
-returns c = search (needs, pruning)
-
 need-of-requires : tie.Need-need-of-requires
 need-of-requires c κs = input-few _ _ (c .before .input-refusal .ensures) (c .if1 .left)
-
-lent-refusal-requires : tie.Need-lent-refusal-requires
-lent-refusal-requires c κs = search (needs, pruning)
-
-returns-2 : tie.Need-returns-2
-returns-2 c = search (needs, pruning)
 
 write-both-requires : tie.Need-write-both-requires
 write-both-requires c κs =
@@ -52,18 +43,6 @@ returns-3 c =
 pub entry-spec : {M : Type 1} → statement M
 entry-spec =
     tie.close
-    (tie.spec
-    (λ c κs. search needs)
-    (λ c κs. search needs)
-    returns
-    need-of-requires
-    lent-refusal-requires
-    (λ c κs. search needs)
-    returns-2
-    write-both-requires
-    finish-requires
-    (λ c κs. search needs)
-    (λ c. search needs)
-    (λ c. search needs)
-    (λ c. search needs)
-    returns-3)
+    (tie.spec (λ c κs. search needs) (λ c κs. search needs) (λ c. search (needs, pruning)) need-of-requires
+    (λ c κs. search (needs, pruning)) (λ c κs. search needs) (λ c. search (needs, pruning)) write-both-requires
+    finish-requires (λ c κs. search needs) (λ c. search needs) (λ c. search needs) (λ c. search needs) returns-3)

@@ -3,19 +3,8 @@ use Rattle.prune_write.specs.WriteLaws.{placed-as}
 use Rattle.prune_write.proofs.write.put_cand.Statement.{statement}
 use Rattle.prune_write.proofs.write.put_cand.Tie as tie
 
-returns : tie.Need-returns
-returns c = search (needs, placed-as)
-
 pub put-cand-spec : {M : Type 1} → statement M
 put-cand-spec =
     tie.close
-    (tie.spec
-    (λ c κs. search needs)
-    (λ c κs. search needs)
-    (λ c. search needs)
-    (λ c. search needs)
-    (λ c κs. search needs)
-    (λ c. search needs)
-    (λ c. search needs)
-    (λ c. search needs)
-    returns)
+    (tie.spec (λ c κs. search needs) (λ c κs. search needs) (λ c. search needs) (λ c. search needs)
+    (λ c κs. search needs) (λ c. search needs) (λ c. search needs) (λ c. search needs) (λ c. search (needs, placed-as)))

@@ -3,19 +3,8 @@ use Rattle.prune_write.specs.WriteLaws.{placed-as}
 use Rattle.prune_write.proofs.write.put_lap.Statement.{statement}
 use Rattle.prune_write.proofs.write.put_lap.Tie as tie
 
-returns : tie.Need-returns
-returns c = search (needs, placed-as)
-
 pub put-lap-spec : {M : Type 1} → statement M
 put-lap-spec =
     tie.close
-    (tie.spec
-    (λ c κs. search needs)
-    (λ c κs. search needs)
-    (λ c. search needs)
-    (λ c. search needs)
-    (λ c κs. search needs)
-    (λ c. search needs)
-    (λ c. search needs)
-    (λ c. search needs)
-    returns)
+    (tie.spec (λ c κs. search needs) (λ c κs. search needs) (λ c. search needs) (λ c. search needs)
+    (λ c κs. search needs) (λ c. search needs) (λ c. search needs) (λ c. search needs) (λ c. search (needs, placed-as)))

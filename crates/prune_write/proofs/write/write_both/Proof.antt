@@ -12,17 +12,8 @@ write-kept-requires-2 c κs =
     let begun = lists .before .before .before in
     both-next _ _ _ _ _ _ _ (begun .pre) (kept .write-kept .ensures)
 
-returns : tie.Need-returns
-returns c = search (needs, both)
-
 pub write-both-spec : {M : Type 1} → statement M
 write-both-spec =
     tie.close
-    (tie.spec
-    (λ c κs. search needs)
-    (λ c κs. search needs)
-    write-kept-requires-2
-    (λ c. search needs)
-    (λ c. search needs)
-    (λ c. search needs)
-    returns)
+    (tie.spec (λ c κs. search needs) (λ c κs. search needs) write-kept-requires-2 (λ c. search needs)
+    (λ c. search needs) (λ c. search needs) (λ c. search (needs, both)))

@@ -3,16 +3,8 @@ use borrow.Author.Needs.{needs}
 use Rattle.prune_write.proofs.write.write_twice.Statement.{statement}
 use Rattle.prune_write.proofs.write.write_twice.Tie as tie
 
-returns : tie.Need-returns
-returns c = search (needs, twice-of)
-
 pub write-twice-spec : {M : Type 1} → statement M
 write-twice-spec =
     tie.close
-    (tie.spec
-    (λ c κs. search needs)
-    (λ c κs. search needs)
-    (λ c. search needs)
-    (λ c. search needs)
-    (λ c. search needs)
-    returns)
+    (tie.spec (λ c κs. search needs) (λ c κs. search needs) (λ c. search needs) (λ c. search needs) (λ c. search needs)
+    (λ c. search (needs, twice-of)))

@@ -4,13 +4,6 @@ use Rattle.fields.specs.Fields.{size}
 use Rattle.record.proofs.form.head_bytes.Statement.{statement}
 use Rattle.record.proofs.form.head_bytes.Tie as tie
 
-returns : tie.Need-returns
-unfolding size
-returns c = omega arith
-
 pub head-bytes-spec : {M : Type 1} → statement M
-head-bytes-spec = tie.close (tie.spec
-    (λ c. search needs)
-    (λ c. search needs)
-    (λ c. search needs)
-    returns)
+unfolding size
+head-bytes-spec = tie.close (tie.spec (λ c. search needs) (λ c. search needs) (λ c. search needs) (λ c. omega arith))

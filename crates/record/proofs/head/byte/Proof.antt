@@ -3,12 +3,7 @@ use Rattle.record.proofs.Heading.{byte-past}
 use Rattle.record.proofs.head.byte.Statement.{statement}
 use Rattle.record.proofs.head.byte.Tie as tie
 
-returns-2 : tie.Need-returns-2
-returns-2 c = search (needs, byte-past)
-
 pub byte-spec : {M : Type 1} → statement M
-byte-spec = tie.close (tie.spec
-    (λ c. search needs)
-    (λ c κs. search needs)
-    (λ c. search needs)
-    returns-2)
+byte-spec =
+    tie.close
+    (tie.spec (λ c. search needs) (λ c κs. search needs) (λ c. search needs) (λ c. search (needs, byte-past)))

@@ -3,13 +3,7 @@ use Rattle.record.proofs.Heading.{counted}
 use Rattle.record.proofs.head.count_refusal.Statement.{statement}
 use Rattle.record.proofs.head.count_refusal.Tie as tie
 
-returns : tie.Need-returns
-returns c = search (counted)
-
 pub count-refusal-spec : {M : Type 1} → statement M
 count-refusal-spec =
-    tie.close (tie.spec
-    (λ c κs. search needs)
-    (λ c κs. search needs)
-    (λ c κs. search needs)
-    returns)
+    tie.close
+    (tie.spec (λ c κs. search needs) (λ c κs. search needs) (λ c κs. search needs) (λ c. search (counted)))

@@ -5,12 +5,6 @@ use Rattle.record.proofs.Heading.{head-fits, plan-fits, edition1-fits, 
 use Rattle.record.proofs.head.head_in.Statement.{statement}
 use Rattle.record.proofs.head.head_in.Tie as tie
 
-read-shape-requires : tie.Need-read-shape-requires
-read-shape-requires c κs = search (needs, head-fits)
-
-plan-at-requires : tie.Need-plan-at-requires
-plan-at-requires c κs = search (needs, plan-fits)
-
 cast-t15 : tie.Need-cast-t15
 cast-t15 c =
     omega (arith, edition1-fits (c .before .before .before .before .before .before .before .pre) (c .before .before .before .before .before .head-widths .ensures) refl (c .before .before .read-shape .ensures))
@@ -19,20 +13,9 @@ cast-t19 : tie.Need-cast-t19
 cast-t19 c =
     omega (arith, edition2-fits (c .before .before .before .before .before .before .before .pre) (c .before .before .before .before .before .head-widths .ensures) refl (c .before .before .read-shape .ensures))
 
-returns : tie.Need-returns
-returns c = search (needs, head-read)
-
 pub head-in-spec : {M : Type 1} → statement M
 head-in-spec =
     tie.close
-    (tie.spec
-    (λ c κs. search needs)
-    (λ c. search needs)
-    (λ c. search needs)
-    read-shape-requires
-    plan-at-requires
-    (λ c. search needs)
-    cast-t15
-    (λ c. search needs)
-    cast-t19
-    returns)
+    (tie.spec (λ c κs. search needs) (λ c. search needs) (λ c. search needs) (λ c κs. search (needs, head-fits))
+    (λ c κs. search (needs, plan-fits)) (λ c. search needs) cast-t15 (λ c. search needs) cast-t19
+    (λ c. search (needs, head-read)))

@@ -16,19 +16,8 @@ add-result-2 c = let p = c .before .before .before .before .before .pre in omega
 add-result-3 : tie.Need-add-result-3
 add-result-3 c = let p = c .before .before .before .before .before .pre in omega (arith, slices-small p (c .before .before .before .slice-bytes .ensures), head-small (p .form) (c .before .before .before .before .head-bytes .ensures), p .counts .first, p .counts .second)
 
-returns : tie.Need-returns
-returns c = search (needs, length-told)
-
 pub length-of-spec : {M : Type 1} → statement M
 length-of-spec =
     tie.close
-    (tie.spec
-    (λ c κs. search needs)
-    (λ c κs. search needs)
-    (λ c. search needs)
-    (λ c. search needs)
-    mul-result-3
-    add-result
-    add-result-2
-    add-result-3
-    returns)
+    (tie.spec (λ c κs. search needs) (λ c κs. search needs) (λ c. search needs) (λ c. search needs) mul-result-3
+    add-result add-result-2 add-result-3 (λ c. search (needs, length-told)))

@@ -19,25 +19,10 @@ gather-editions-requires c κs =
     let e = e₃ .before .pre in
     record { rows = record { part = omega arith; inside = omega (arith, e .whole); target = omega (arith, e .roomy .dates) }; short = e .short }
 
-returns : tie.Need-returns
-unfolding outline1From outline2From codesFrom shapesFrom datesFrom
-returns c = search needs
-
 pub fill-lists-spec : {M : Type 1} → statement M
+unfolding outline1From outline2From codesFrom shapesFrom datesFrom
 fill-lists-spec =
     tie.close
-    (tie.spec
-    (λ c. search needs)
-    (λ c. search needs)
-    (λ c. search needs)
-    (λ c κs. search needs)
-    (λ c κs. search needs)
-    (λ c κs. search needs)
-    gather-numbers-requires
-    gather-editions-requires
-    (λ c. search needs)
-    (λ c. search needs)
-    (λ c. search needs)
-    (λ c. search needs)
-    (λ c. search needs)
-    returns)
+    (tie.spec (λ c. search needs) (λ c. search needs) (λ c. search needs) (λ c κs. search needs) (λ c κs. search needs)
+    (λ c κs. search needs) gather-numbers-requires gather-editions-requires (λ c. search needs) (λ c. search needs)
+    (λ c. search needs) (λ c. search needs) (λ c. search needs) (λ c. search needs))

@@ -7,29 +7,10 @@ use Rattle.record_read.proofs.body.list_values.Tie as tie
 add-from : tie.Need-add-from
 add-from c = let w = c .before .before .before .before .before .before .pre .all in omega (arith, head-short w, w .few1, w .few2, c .before .before .head-bytes .ensures)
 
-read-rows-requires : tie.Need-read-rows-requires
-read-rows-requires c κs = search (needs, vertex-rows)
-
-read-rows-requires-2 : tie.Need-read-rows-requires-2
-read-rows-requires-2 c κs = search (needs, slice-rows, room-still)
-
-returns : tie.Need-returns
-returns c = search (needs, values-listed)
-
 pub list-values-spec : {M : Type 1} → statement M
 list-values-spec =
     tie.close
-    (tie.spec
-    (λ c κs. search needs)
-    (λ c κs. search needs)
-    (λ c κs. search needs)
-    (λ c. search needs)
-    (λ c. search needs)
-    add-from
-    (λ c. search needs)
-    (λ c. search needs)
-    read-rows-requires
-    (λ c. search needs)
-    read-rows-requires-2
-    (λ c. search needs)
-    returns)
+    (tie.spec (λ c κs. search needs) (λ c κs. search needs) (λ c κs. search needs) (λ c. search needs)
+    (λ c. search needs) add-from (λ c. search needs) (λ c. search needs) (λ c κs. search (needs, vertex-rows))
+    (λ c. search needs) (λ c κs. search (needs, slice-rows, room-still)) (λ c. search needs)
+    (λ c. search (needs, values-listed)))

@@ -13,15 +13,8 @@ told : (n : ℕ) (h : Head) (x y : ℕ) → x ≡ bitsOf (h .plan .tolerance .x)
     ∷ h .edition1 ∷ h .edition2 ∷ h .plan .starts .pline2 ∷ h .plan .starts .«pline1_overlapping» ∷ h .plan .starts .«pline2_overlapping» ∷ h .plan .slices ∷ []) ≡ headValues n h
 told n h x y e f = rw (e, f)
 
-returns : tie.Need-returns
-returns c = search (needs, told)
-
 pub head-values-spec : {M : Type 1} → statement M
 head-values-spec =
-    tie.close (tie.spec
-    (λ c κs. search needs)
-    (λ c κs. search needs)
-    (λ c. search needs)
-    (λ c. search needs)
-    (λ c. search needs)
-    returns)
+    tie.close
+    (tie.spec (λ c κs. search needs) (λ c κs. search needs) (λ c. search needs) (λ c. search needs) (λ c. search needs)
+    (λ c. search (needs, told)))

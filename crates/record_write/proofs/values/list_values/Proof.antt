@@ -3,16 +3,8 @@ use Rattle.record_write.proofs.Mixing.{values-listed}
 use Rattle.record_write.proofs.values.list_values.Statement.{statement}
 use Rattle.record_write.proofs.values.list_values.Tie as tie
 
-returns : tie.Need-returns
-returns c = search (needs, values-listed)
-
 pub list-values-spec : {M : Type 1} → statement M
 list-values-spec =
     tie.close
-    (tie.spec
-    (λ c κs. search needs)
-    (λ c κs. search needs)
-    (λ c. search needs)
-    (λ c κs. search needs)
-    (λ c. search needs)
-    returns)
+    (tie.spec (λ c κs. search needs) (λ c κs. search needs) (λ c. search needs) (λ c κs. search needs)
+    (λ c. search needs) (λ c. search (needs, values-listed)))

@@ -10,21 +10,6 @@ Inv-loop slice-at slice slice-edition count values₀ to q₀ i₀ j₀ k₀ val
 abbrev μ-loop : tie.MeasureT-loop
 μ-loop slice-at slice slice-edition count values₀ to q₀ i₀ j₀ k₀ values q i j k = count - k
 
-loop-holds : tie.Need-loop-holds Inv-loop μ-loop
-loop-holds c = search (needs, mixing-none)
-
-copy-requires : tie.Need-copy-requires Inv-loop μ-loop
-copy-requires c κs = search (needs, mixing-codes)
-
-copy-bits-requires : tie.Need-copy-bits-requires Inv-loop μ-loop
-copy-bits-requires c κs = search (needs, mixing-numbers)
-
-shared-slice-read-wide : tie.Need-shared-slice-read-wide Inv-loop μ-loop
-shared-slice-read-wide c = search (needs, mixing-date)
-
-slice-write-values : tie.Need-slice-write-values Inv-loop μ-loop
-slice-write-values c = search (needs, mixing-place)
-
 loop-again : tie.Need-loop-again Inv-loop μ-loop
 loop-again c =
     let numbers = c .before .before .before .before in
@@ -33,30 +18,11 @@ loop-again c =
     let turn = test .before in
     mixing-more (turn .loop .inv) (test .loop-test .taken) (codes .copy .ensures) (numbers .copy-bits .ensures) _ (c .wide .ensures)
 
-returns : tie.Need-returns Inv-loop μ-loop
-returns c = search (needs, mixing-end)
-
 pub mix-slices-spec : {M : Type 1} → statement M
 mix-slices-spec =
     tie.close
-    (tie.spec
-    Inv-loop
-    μ-loop
-    loop-holds
-    copy-requires
-    (λ c. search needs)
-    copy-bits-requires
-    (λ c. search needs)
-    (λ c. search needs)
-    shared-slice-read-wide
-    (λ c κs. search needs)
-    (λ c. search needs)
-    slice-write-values
-    (λ c. search needs)
-    (λ c. search needs)
-    (λ c. search needs)
-    (λ c. search needs)
-    (λ c. search needs)
-    loop-again
-    (λ c. search needs)
-    returns)
+    (tie.spec Inv-loop μ-loop (λ c. search (needs, mixing-none)) (λ c κs. search (needs, mixing-codes))
+    (λ c. search needs) (λ c κs. search (needs, mixing-numbers)) (λ c. search needs) (λ c. search needs)
+    (λ c. search (needs, mixing-date)) (λ c κs. search needs) (λ c. search needs) (λ c. search (needs, mixing-place))
+    (λ c. search needs) (λ c. search needs) (λ c. search needs) (λ c. search needs) (λ c. search needs) loop-again
+    (λ c. search needs) (λ c. search (needs, mixing-end)))

@@ -4,12 +4,6 @@ use Rattle.basis.specs.RefuseLaws.{rows}
 use Rattle.record_write.proofs.write.axes_refusal.Statement.{statement}
 use Rattle.record_write.proofs.write.axes_refusal.Tie as tie
 
-returns : tie.Need-returns
-unfolding firstFrom
-returns c = search rows depth 8
-
 pub axes-refusal-spec : {M : Type 1} → statement M
-axes-refusal-spec = tie.close (tie.spec
-    (λ c κs. search needs)
-    (λ c κs. search needs)
-    returns)
+unfolding firstFrom
+axes-refusal-spec = tie.close (tie.spec (λ c κs. search needs) (λ c κs. search needs) (λ c. search rows depth 8))

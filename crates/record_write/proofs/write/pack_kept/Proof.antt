@@ -3,9 +3,6 @@ use Rattle.record_write.proofs.Keeping.{pack-fits, packed-as}
 use Rattle.record_write.proofs.write.pack_kept.Statement.{statement}
 use Rattle.record_write.proofs.write.pack_kept.Tie as tie
 
-pack-form-requires : tie.Need-pack-form-requires
-pack-form-requires c κs = search (needs, pack-fits)
-
 returns : tie.Need-returns
 returns c =
     let packed = c .before .before in
@@ -18,16 +15,6 @@ returns c =
 pub pack-kept-spec : {M : Type 1} → statement M
 pack-kept-spec =
     tie.close
-    (tie.spec
-    (λ c κs. search needs)
-    (λ c κs. search needs)
-    (λ c κs. search needs)
-    (λ c κs. search needs)
-    (λ c κs. search needs)
-    (λ c. search needs)
-    (λ c. search needs)
-    (λ c. search needs)
-    (λ c. search needs)
-    pack-form-requires
-    (λ c. search needs)
-    returns)
+    (tie.spec (λ c κs. search needs) (λ c κs. search needs) (λ c κs. search needs) (λ c κs. search needs)
+    (λ c κs. search needs) (λ c. search needs) (λ c. search needs) (λ c. search needs) (λ c. search needs)
+    (λ c κs. search (needs, pack-fits)) (λ c. search needs) returns)

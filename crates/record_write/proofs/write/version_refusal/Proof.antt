@@ -4,11 +4,6 @@ use Rattle.basis.specs.RefuseLaws.{rows}
 use Rattle.record_write.proofs.write.version_refusal.Statement.{statement}
 use Rattle.record_write.proofs.write.version_refusal.Tie as tie
 
-returns : tie.Need-returns
-unfolding firstFrom
-returns c = search rows depth 8
-
 pub version-refusal-spec : {M : Type 1} → statement M
-version-refusal-spec = tie.close (tie.spec
-    (λ c κs. search needs)
-    returns)
+unfolding firstFrom
+version-refusal-spec = tie.close (tie.spec (λ c κs. search needs) (λ c. search rows depth 8))

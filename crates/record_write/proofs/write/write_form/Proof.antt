@@ -48,14 +48,5 @@ returns-3 c =
 pub write-form-spec : {M : Type 1} → statement M
 write-form-spec =
     tie.close
-    (tie.spec
-    (λ c κs. search needs)
-    (λ c κs. search needs)
-    returns
-    length-of-requires
-    (λ c κs. search needs)
-    returns-2
-    write-kept-requires
-    (λ c κs. search needs)
-    (λ c. search needs)
-    returns-3)
+    (tie.spec (λ c κs. search needs) (λ c κs. search needs) returns length-of-requires (λ c κs. search needs) returns-2
+    write-kept-requires (λ c κs. search needs) (λ c. search needs) returns-3)

@@ -10,12 +10,5 @@ slice-aggregate-replay c = sym (length-take-le _ _ (c .before .before .before .r
 pub replay-from-spec : {M : Type 1} → statement M
 replay-from-spec =
     tie.close
-    (tie.spec
-    (λ c. search needs)
-    (λ c κs. search needs)
-    (λ c κs. search needs)
-    (λ c. search needs)
-    (λ c. search needs)
-    slice-aggregate-replay
-    (λ c κs. search needs)
-    (λ c. search needs))
+    (tie.spec (λ c. search needs) (λ c κs. search needs) (λ c κs. search needs) (λ c. search needs) (λ c. search needs)
+    slice-aggregate-replay (λ c κs. search needs) (λ c. search needs))

@@ -82,22 +82,6 @@ returns-2 c =
 pub take-turn-spec : {M : Type 1} → statement M
 take-turn-spec =
     tie.close
-    (tie.spec
-    (λ c. search needs)
-    returns
-    mul-a
-    mul-walk-chain
-    sub-walk-chain
-    part-walk-chain-start
-    (λ c. search needs)
-    walk-chain-requires
-    list-chain-requires
-    list-loop-requires
-    (λ c. search needs)
-    (λ c. search needs)
-    (λ c. search needs)
-    (λ c. search needs)
-    (λ c. search needs)
-    (λ c. search needs)
-    (λ c. search needs)
-    returns-2)
+    (tie.spec (λ c. search needs) returns mul-a mul-walk-chain sub-walk-chain part-walk-chain-start (λ c. search needs)
+    walk-chain-requires list-chain-requires list-loop-requires (λ c. search needs) (λ c. search needs)
+    (λ c. search needs) (λ c. search needs) (λ c. search needs) (λ c. search needs) (λ c. search needs) returns-2)

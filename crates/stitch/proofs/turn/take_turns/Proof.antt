@@ -12,37 +12,15 @@ Inv-loop visited₀ link₀ room₀ ends₀ chain₀ chain-ends₀ chain-how₀ 
 abbrev μ-loop : tie.MeasureT-loop
 μ-loop visited₀ link₀ room₀ ends₀ chain₀ chain-ends₀ chain-how₀ outline1 outline2 slice-at slice points layout p w₀ i₀ visited link room ends chain chain-ends chain-how w i = p .slices - i
 
-loop-holds : tie.Need-loop-holds Inv-loop μ-loop
-loop-holds c = search (needs, turning)
-
 take-turn-requires : tie.Need-take-turn-requires Inv-loop μ-loop
 take-turn-requires c κs =
     let within = c .before .before .before .before .before .before .before in
     let turn = within .before .before in
     turns-turn _ _ _ _ _ _ _ _ _ _ (turn .loop .inv) (within .if1 .taken)
 
-loop-again : tie.Need-loop-again Inv-loop μ-loop
-loop-again c = search (needs, turning)
-
-returns : tie.Need-returns Inv-loop μ-loop
-returns c = search (needs, turning)
-
 pub take-turns-spec : {M : Type 1} → statement M
 take-turns-spec =
     tie.close
-    (tie.spec
-    Inv-loop
-    μ-loop
-    loop-holds
-    take-turn-requires
-    (λ c. search needs)
-    (λ c. search needs)
-    loop-again
-    (λ c. search needs)
-    (λ c. search needs)
-    (λ c. search needs)
-    (λ c. search needs)
-    (λ c. search needs)
-    (λ c. search needs)
-    (λ c. search needs)
-    returns)
+    (tie.spec Inv-loop μ-loop (λ c. search (needs, turning)) take-turn-requires (λ c. search needs) (λ c. search needs)
+    (λ c. search (needs, turning)) (λ c. search needs) (λ c. search needs) (λ c. search needs) (λ c. search needs)
+    (λ c. search needs) (λ c. search needs) (λ c. search needs) (λ c. search (needs, turning)))

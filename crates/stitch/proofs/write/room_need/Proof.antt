@@ -10,39 +10,15 @@ Inv-loop slice-at count sum₀ i₀ sum i = Summing slice-at count sum i
 abbrev μ-loop : tie.MeasureT-loop
 μ-loop slice-at count sum₀ i₀ sum i = count - i
 
-returns : tie.Need-returns Inv-loop μ-loop
-returns c = search (needs, summing)
-
-loop-holds : tie.Need-loop-holds Inv-loop μ-loop
-loop-holds c = search (needs, summing)
-
 add-sum : tie.Need-add-sum Inv-loop μ-loop
 add-sum c = let h = sum-offset _ _ _ (c .before .before .before .before .pre) (c .before .loop-test .taken) in search needs
 
 add-sum-2 : tie.Need-add-sum-2 Inv-loop μ-loop
 add-sum-2 c = let h = sum-offset _ _ _ (c .before .before .before .before .pre) (c .before .loop-test .taken) in search needs
 
-loop-again : tie.Need-loop-again Inv-loop μ-loop
-loop-again c = search (needs, summing)
-
-returns-2 : tie.Need-returns-2 Inv-loop μ-loop
-returns-2 c = search (needs, summing)
-
 pub room-need-spec : {M : Type 1} → statement M
 room-need-spec =
     tie.close
-    (tie.spec
-    Inv-loop
-    μ-loop
-    returns
-    loop-holds
-    (λ c. search needs)
-    (λ c. search needs)
-    (λ c. search needs)
-    (λ c. search needs)
-    add-sum
-    add-sum-2
-    (λ c. search needs)
-    (λ c. search needs)
-    loop-again
-    returns-2)
+    (tie.spec Inv-loop μ-loop (λ c. search (needs, summing)) (λ c. search (needs, summing)) (λ c. search needs)
+    (λ c. search needs) (λ c. search needs) (λ c. search needs) add-sum add-sum-2 (λ c. search needs)
+    (λ c. search needs) (λ c. search (needs, summing)) (λ c. search (needs, summing)))

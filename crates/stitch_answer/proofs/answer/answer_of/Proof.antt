@@ -13,8 +13,4 @@ returns c =
     asking-answered _ _ _ _ _ _ (entry .pre) _ _ (asked .before .before .around .ensures) _ _ _ (asked .by-groups .ensures)
 
 pub answer-of-spec : {M : Type 1} → statement M
-answer-of-spec = tie.close (tie.spec
-    (λ c κs. search needs)
-    by-groups-requires
-    (λ c. search needs)
-    returns)
+answer-of-spec = tie.close (tie.spec (λ c κs. search needs) by-groups-requires (λ c. search needs) returns)

@@ -79,25 +79,7 @@ returns-5 c =
 pub by-groups-spec : {M : Type 1} → statement M
 by-groups-spec =
     tie.close
-    (tie.spec
-    (λ c κs. search needs)
-    (λ c κs. search needs)
-    (λ c κs. search needs)
-    (λ c κs. search needs)
-    lowest-requires
-    (λ c. search needs)
-    returns
-    sub-of-group
-    (λ c κs. search needs)
-    lowest-requires-2
-    (λ c. search needs)
-    returns-2
-    (λ c κs. search needs)
-    lowest-requires-3
-    (λ c. search needs)
-    returns-3
-    (λ c κs. search needs)
-    (λ c. search needs)
-    returns-4
-    (λ c. search needs)
-    returns-5)
+    (tie.spec (λ c κs. search needs) (λ c κs. search needs) (λ c κs. search needs) (λ c κs. search needs)
+    lowest-requires (λ c. search needs) returns sub-of-group (λ c κs. search needs) lowest-requires-2
+    (λ c. search needs) returns-2 (λ c κs. search needs) lowest-requires-3 (λ c. search needs) returns-3
+    (λ c κs. search needs) (λ c. search needs) returns-4 (λ c. search needs) returns-5)

@@ -14,7 +14,4 @@ unfolding cellOf
 returns c = ap (λ (z : Float). toBits binary64 z) (c .kept-off .ensures)
 
 pub cell-spec : {M : Type 1} → statement M
-cell-spec = tie.close (tie.spec
-    (λ c κs. search needs)
-    float-to-bits-result
-    returns)
+cell-spec = tie.close (tie.spec (λ c κs. search needs) float-to-bits-result returns)

@@ -11,12 +11,6 @@ Inv-loop visited₀ link₀ room₀ chain₀ outline1 outline2 slice-at slice po
 abbrev μ-loop : tie.MeasureT-loop
 μ-loop visited₀ link₀ room₀ chain₀ outline1 outline2 slice-at slice points layout p first before n₀ current₀ rounds₀ visited link room chain n current rounds = p .slices - rounds
 
-place-requires : tie.Need-place-requires Inv-loop μ-loop
-place-requires c κs = search (needs, walking)
-
-loop-holds : tie.Need-loop-holds Inv-loop μ-loop
-loop-holds c = search (needs, walking)
-
 next-of-requires : tie.Need-next-of-requires Inv-loop μ-loop
 next-of-requires c κs = walk-look _ _ _ _ _ _ _ _ (c .before .before .before .loop .inv)
 
@@ -26,21 +20,6 @@ place-requires-2 c κs =
     let asked = chosen .before .before .before .before in
     let turn = asked .before .before .before .before in
     walk-place _ _ _ _ _ _ _ _ (turn .loop .inv) (asked .next-of .ensures) (chosen .j .given .1)
-
-loop-again : tie.Need-loop-again Inv-loop μ-loop
-loop-again c = search (needs, walking)
-
-same-length : tie.Need-same-length Inv-loop μ-loop
-same-length c = search (needs, walking)
-
-same-length-2 : tie.Need-same-length-2 Inv-loop μ-loop
-same-length-2 c = search (needs, walking)
-
-same-length-3 : tie.Need-same-length-3 Inv-loop μ-loop
-same-length-3 c = search (needs, walking)
-
-same-length-4 : tie.Need-same-length-4 Inv-loop μ-loop
-same-length-4 c = search (needs, walking)
 
 returns : tie.Need-returns Inv-loop μ-loop
 returns c =
@@ -55,23 +34,7 @@ returns c =
 pub walk-chain-spec : {M : Type 1} → statement M
 walk-chain-spec =
     tie.close
-    (tie.spec
-    Inv-loop
-    μ-loop
-    place-requires
-    loop-holds
-    (λ c. search needs)
-    (λ c. search needs)
-    (λ c. search needs)
-    next-of-requires
-    (λ c. search needs)
-    (λ c. search needs)
-    place-requires-2
-    (λ c. search needs)
-    loop-again
-    (λ c. search needs)
-    same-length
-    same-length-2
-    same-length-3
-    same-length-4
-    returns)
+    (tie.spec Inv-loop μ-loop (λ c κs. search (needs, walking)) (λ c. search (needs, walking)) (λ c. search needs)
+    (λ c. search needs) (λ c. search needs) next-of-requires (λ c. search needs) (λ c. search needs) place-requires-2
+    (λ c. search needs) (λ c. search (needs, walking)) (λ c. search needs) (λ c. search (needs, walking))
+    (λ c. search (needs, walking)) (λ c. search (needs, walking)) (λ c. search (needs, walking)) returns)

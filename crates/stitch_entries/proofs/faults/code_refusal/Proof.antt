@@ -15,18 +15,8 @@ then-slices : (n p r vc1 vc2 selector : ℕ) (at : List ℕ) → n ≡ firstFrom
 then-slices n p r vc1 vc2 selector at e f =
     then-rows n p r (row (sizeFault vc1) 2 ∷ row (sizeFault vc2) 2 ∷ row (choiceFault selector) 3 ∷ []) (slices.codeRows at) e (unfold firstFrom in f)
 
-returns : tie.Need-returns
-returns c = search (then-slices, rows) depth 24
-
 pub code-refusal-spec : {M : Type 1} → statement M
 code-refusal-spec =
     tie.close
-    (tie.spec
-    (λ c κs. search needs)
-    (λ c κs. search needs)
-    (λ c κs. search needs)
-    (λ c κs. search needs)
-    (λ c κs. search needs)
-    (λ c κs. search needs)
-    (λ c κs. search needs)
-    returns)
+    (tie.spec (λ c κs. search needs) (λ c κs. search needs) (λ c κs. search needs) (λ c κs. search needs)
+    (λ c κs. search needs) (λ c κs. search needs) (λ c κs. search needs) (λ c. search (then-slices, rows) depth 24))

@@ -18,17 +18,8 @@ then-slices n q p r len1 vc1 len2 vc2 at numbers count e f g =
     then-rows n p r (row (lengthFault 3 len1 vc1) 1 ∷ row (lengthFault 3 len2 vc2) 1 ∷ []) (slices.listRows at numbers count ++ (row (ltb mostSlices count) 1 ∷ []))
     (then-rows n q p (slices.listRows at numbers count) (row (ltb mostSlices count) 1 ∷ []) (unfold firstFrom in e) f) (unfold firstFrom in g)
 
-returns : tie.Need-returns
-returns c = search (then-slices, rows) depth 24
-
 pub list-refusal-spec : {M : Type 1} → statement M
 list-refusal-spec =
     tie.close
-    (tie.spec
-    (λ c κs. search needs)
-    (λ c κs. search needs)
-    (λ c κs. search needs)
-    (λ c κs. search needs)
-    (λ c κs. search needs)
-    (λ c κs. search needs)
-    returns)
+    (tie.spec (λ c κs. search needs) (λ c κs. search needs) (λ c κs. search needs) (λ c κs. search needs)
+    (λ c κs. search needs) (λ c κs. search needs) (λ c. search (then-slices, rows) depth 24))

@@ -3,29 +3,14 @@ use borrow.Author.Needs.{needs}
 use Rattle.stitch_entries.proofs.stitching.stitched.Statement.{statement}
 use Rattle.stitch_entries.proofs.stitching.stitched.Tie as tie
 
-returns : tie.Need-returns
-returns c = search (needs, ways)
-
 write-stitch-requires : tie.Need-write-stitch-requires
 write-stitch-requires c κs =
     let passed = c .before .before .before .before .before in
     stitch-accepted _ _ _ _ (passed .before .refusal .ensures) (passed .if1 .left)
 
-returns-2 : tie.Need-returns-2
-returns-2 c = search (needs, ways)
-
 pub stitched-spec : {M : Type 1} → statement M
 stitched-spec =
     tie.close
-    (tie.spec
-    (λ c κs. search needs)
-    (λ c κs. search needs)
-    returns
-    write-stitch-requires
-    (λ c κs. search needs)
-    (λ c. search needs)
-    (λ c. search needs)
-    (λ c. search needs)
-    (λ c. search needs)
-    (λ c. search needs)
-    returns-2)
+    (tie.spec (λ c κs. search needs) (λ c κs. search needs) (λ c. search (needs, ways)) write-stitch-requires
+    (λ c κs. search needs) (λ c. search needs) (λ c. search needs) (λ c. search needs) (λ c. search needs)
+    (λ c. search needs) (λ c. search (needs, ways)))

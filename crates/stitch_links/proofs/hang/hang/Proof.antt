@@ -3,20 +3,8 @@ use borrow.Author.Needs.{needs}
 use Rattle.stitch_links.proofs.hang.hang.Statement.{statement}
 use Rattle.stitch_links.proofs.hang.hang.Tie as tie
 
-returns : tie.Need-returns
-returns c = search (needs, hanging)
-
-link-slices-requires : tie.Need-link-slices-requires
-link-slices-requires c κs = search (needs, hanging)
-
 pub hang-spec : {M : Type 1} → statement M
 hang-spec =
     tie.close
-    (tie.spec
-    (λ c κs. search needs)
-    returns
-    (λ c κs. search needs)
-    (λ c κs. search needs)
-    link-slices-requires
-    (λ c. search needs)
-    (λ c. search needs))
+    (tie.spec (λ c κs. search needs) (λ c. search (needs, hanging)) (λ c κs. search needs) (λ c κs. search needs)
+    (λ c κs. search (needs, hanging)) (λ c. search needs) (λ c. search needs))

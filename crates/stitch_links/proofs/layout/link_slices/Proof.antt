@@ -38,20 +38,6 @@ returns c = putting-end _ _ _ _ _ (c .before .loop .inv) (c .loop-test .left)
 pub link-slices-spec : {M : Type 1} → statement M
 link-slices-spec =
     tie.close
-    (tie.spec
-    Inv-loop
-    μ-loop
-    loop-holds
-    (λ c. search needs)
-    home-of-requires
-    (λ c. search needs)
-    mul-next
-    slice-read-next
-    (λ c. search needs)
-    (λ c. search needs)
-    mul-link-2
-    slice-write-link-2
-    (λ c. search needs)
-    loop-again
-    (λ c. search needs)
-    returns)
+    (tie.spec Inv-loop μ-loop loop-holds (λ c. search needs) home-of-requires (λ c. search needs) mul-next
+    slice-read-next (λ c. search needs) (λ c. search needs) mul-link-2 slice-write-link-2 (λ c. search needs) loop-again
+    (λ c. search needs) returns)

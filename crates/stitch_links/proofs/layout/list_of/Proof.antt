@@ -3,17 +3,9 @@ use borrow.Author.Needs.{needs}
 use Rattle.stitch_links.proofs.layout.list_of.Statement.{statement}
 use Rattle.stitch_links.proofs.layout.list_of.Tie as tie
 
-returns : tie.Need-returns
-unfolding listOf
-returns c = search needs
-
 pub list-of-spec : {M : Type 1} → statement M
+unfolding listOf
 list-of-spec =
-    tie.close (tie.spec
-    (λ c. search needs)
-    (λ c. search needs)
-    (λ c. search needs)
-    (λ c. search needs)
-    (λ c. search needs)
-    (λ c. search needs)
-    returns)
+    tie.close
+    (tie.spec (λ c. search needs) (λ c. search needs) (λ c. search needs) (λ c. search needs) (λ c. search needs)
+    (λ c. search needs) (λ c. search needs))

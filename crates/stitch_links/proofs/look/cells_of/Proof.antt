@@ -7,9 +7,5 @@ returns c = rw (c .before .before .before .cell .ensures, c .before .before .cel
 
 pub cells-of-spec : {M : Type 1} → statement M
 cells-of-spec =
-    tie.close (tie.spec
-    (λ c κs. search needs)
-    (λ c κs. search needs)
-    (λ c κs. search needs)
-    (λ c κs. search needs)
-    returns)
+    tie.close
+    (tie.spec (λ c κs. search needs) (λ c κs. search needs) (λ c κs. search needs) (λ c κs. search needs) returns)

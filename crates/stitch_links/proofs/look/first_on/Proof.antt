@@ -45,27 +45,7 @@ returns-2 c = seeking-end _ _ _ _ _ _ _ _ _ _ _ (c .before .loop .inv) (c .loop-
 pub first-on-spec : {M : Type 1} → statement M
 first-on-spec =
     tie.close
-    (tie.spec
-    Inv-loop
-    μ-loop
-    (λ c. search needs)
-    (λ c. search needs)
-    (λ c. search needs)
-    loop-holds
-    sub-j
-    is-free-requires
-    (λ c. search needs)
-    (λ c. search needs)
-    (λ c. search needs)
-    (λ c. search needs)
-    loop-less
-    loop-again
-    meets-requires
-    (λ c. search needs)
-    returns
-    (λ c. search needs)
-    (λ c. search needs)
-    loop-less-2
-    loop-again-2
-    (λ c. search needs)
-    returns-2)
+    (tie.spec Inv-loop μ-loop (λ c. search needs) (λ c. search needs) (λ c. search needs) loop-holds sub-j
+    is-free-requires (λ c. search needs) (λ c. search needs) (λ c. search needs) (λ c. search needs) loop-less
+    loop-again meets-requires (λ c. search needs) returns (λ c. search needs) (λ c. search needs) loop-less-2
+    loop-again-2 (λ c. search needs) returns-2)

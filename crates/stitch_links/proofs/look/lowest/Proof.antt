@@ -10,7 +10,4 @@ returns : tie.Need-returns
 returns c = lowest-of _ _ _ _ _ _ _ _ (c .before .before .before .before .before .before .before .pre) (c .before .before .search .ensures)
 
 pub lowest-spec : {M : Type 1} → statement M
-lowest-spec = tie.close (tie.spec
-    search-requires
-    (λ c. search needs)
-    returns)
+lowest-spec = tie.close (tie.spec search-requires (λ c. search needs) returns)

@@ -13,8 +13,4 @@ unfolding meetsOf
 returns-2 c = rw (told-not-no _ _ (c .before .before .before .starts-in .ensures) (c .before .before .if1 .left), c .before .group-of .ensures)
 
 pub meets-spec : {M : Type 1} → statement M
-meets-spec = tie.close (tie.spec
-    (λ c κs. search needs)
-    returns
-    (λ c κs. search needs)
-    returns-2)
+meets-spec = tie.close (tie.spec (λ c κs. search needs) returns (λ c κs. search needs) returns-2)

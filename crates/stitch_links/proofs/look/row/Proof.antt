@@ -40,15 +40,5 @@ returns c = row-end _ _ _ _ _ _ _ _ _ _ _ (c .before .loop .inv) (c .loop-test .
 pub row-spec : {M : Type 1} → statement M
 row-spec =
     tie.close
-    (tie.spec
-    Inv-loop
-    μ-loop
-    loop-holds
-    list-of-requires
-    first-on-requires
-    (λ c κs. search needs)
-    add-cy
-    loop-less
-    loop-again
-    same-length
-    returns)
+    (tie.spec Inv-loop μ-loop loop-holds list-of-requires first-on-requires (λ c κs. search needs) add-cy loop-less
+    loop-again same-length returns)

@@ -38,14 +38,5 @@ returns c = rows-end _ _ _ _ _ _ _ _ _ _ _ _ (c .before .loop .inv .1) (omega (a
 pub search-spec : {M : Type 1} → statement M
 search-spec =
     tie.close
-    (tie.spec
-    Inv-loop
-    μ-loop
-    loop-holds
-    row-requires
-    (λ c κs. search needs)
-    add-cx
-    loop-less
-    loop-again
-    same-length
+    (tie.spec Inv-loop μ-loop loop-holds row-requires (λ c κs. search needs) add-cx loop-less loop-again same-length
     returns)

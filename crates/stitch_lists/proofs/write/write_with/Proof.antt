@@ -67,18 +67,6 @@ returns c =
 pub write-with-spec : {M : Type 1} → statement M
 write-with-spec =
     tie.close
-    (tie.spec
-    (λ c κs. search needs)
-    (λ c κs. search needs)
-    take-turns-requires
-    room-need-requires
-    clear-rest-requires
-    same-length
-    (λ c. search needs)
-    same-length-3
-    (λ c. search needs)
-    (λ c. search needs)
-    (λ c. search needs)
-    (λ c. search needs)
-    (λ c. search needs)
-    returns)
+    (tie.spec (λ c κs. search needs) (λ c κs. search needs) take-turns-requires room-need-requires clear-rest-requires
+    same-length (λ c. search needs) same-length-3 (λ c. search needs) (λ c. search needs) (λ c. search needs)
+    (λ c. search needs) (λ c. search needs) returns)

@@ -3,12 +3,7 @@ use borrow.Author.Needs.{needs}
 use Rattle.stitch_round.proofs.scan.is_near.Statement.{statement}
 use Rattle.stitch_round.proofs.scan.is_near.Tie as tie
 
-returns : tie.Need-returns
-returns c = search (needs, near-of)
-
 pub is-near-spec : {M : Type 1} → statement M
-is-near-spec = tie.close (tie.spec
-    (λ c. search needs)
-    (λ c κs. search needs)
-    (λ c κs. search needs)
-    returns)
+is-near-spec =
+    tie.close
+    (tie.spec (λ c. search needs) (λ c κs. search needs) (λ c κs. search needs) (λ c. search (needs, near-of)))

@@ -11,33 +11,9 @@ Inv-loop points visited first end t starts choices count any₀ best₀ j₀ any
 abbrev μ-loop : tie.MeasureT-loop
 μ-loop points visited first end t starts choices count any₀ best₀ j₀ any best j = count - j
 
-loop-holds : tie.Need-loop-holds Inv-loop μ-loop
-loop-holds c = search (needs, meeting)
-
-loop-again : tie.Need-loop-again Inv-loop μ-loop
-loop-again c = search (needs, meeting)
-
-loop-again-2 : tie.Need-loop-again-2 Inv-loop μ-loop
-loop-again-2 c = search (needs, meeting)
-
-returns : tie.Need-returns Inv-loop μ-loop
-returns c = search (needs, meeting)
-
 pub scan-spec : {M : Type 1} → statement M
 scan-spec =
     tie.close
-    (tie.spec
-    Inv-loop
-    μ-loop
-    (λ c κs. search needs)
-    loop-holds
-    (λ c κs. search needs)
-    (λ c. search needs)
-    (λ c. search needs)
-    loop-again
-    (λ c κs. search needs)
-    (λ c κs. search needs)
-    (λ c. search needs)
-    (λ c. search needs)
-    loop-again-2
-    returns)
+    (tie.spec Inv-loop μ-loop (λ c κs. search needs) (λ c. search (needs, meeting)) (λ c κs. search needs)
+    (λ c. search needs) (λ c. search needs) (λ c. search (needs, meeting)) (λ c κs. search needs) (λ c κs. search needs)
+    (λ c. search needs) (λ c. search needs) (λ c. search (needs, meeting)) (λ c. search (needs, meeting)))

@@ -3,15 +3,8 @@ use borrow.Author.Needs.{needs}
 use Rattle.store_entries.proofs.answer.handle_from.Statement.{statement}
 use Rattle.store_entries.proofs.answer.handle_from.Tie as tie
 
-returns : tie.Need-returns
-returns c = search (needs, handle-given)
-
-returns-2 : tie.Need-returns-2
-returns-2 c = search (needs, handle-full)
-
 pub handle-from-spec : {M : Type 1} → statement M
-handle-from-spec = tie.close (tie.spec
-    (λ c. search needs)
-    (λ c. search needs)
-    returns
-    returns-2)
+handle-from-spec =
+    tie.close
+    (tie.spec (λ c. search needs) (λ c. search needs) (λ c. search (needs, handle-given))
+    (λ c. search (needs, handle-full)))

@@ -4,12 +4,6 @@ use borrow.Author.Needs.{needs}
 use Rattle.store_entries.proofs.faults.number_refusal.Statement.{statement}
 use Rattle.store_entries.proofs.faults.number_refusal.Tie as tie
 
-returns : tie.Need-returns
-unfolding firstFrom
-returns c = search rows depth 24
-
 pub number-refusal-spec : {M : Type 1} → statement M
-number-refusal-spec = tie.close (tie.spec
-    (λ c κs. search needs)
-    (λ c κs. search needs)
-    returns)
+unfolding firstFrom
+number-refusal-spec = tie.close (tie.spec (λ c κs. search needs) (λ c κs. search needs) (λ c. search rows depth 24))

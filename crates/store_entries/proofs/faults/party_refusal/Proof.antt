@@ -4,11 +4,6 @@ use borrow.Author.Needs.{needs}
 use Rattle.store_entries.proofs.faults.party_refusal.Statement.{statement}
 use Rattle.store_entries.proofs.faults.party_refusal.Tie as tie
 
-returns : tie.Need-returns
-unfolding firstFrom
-returns c = search rows depth 24
-
 pub party-refusal-spec : {M : Type 1} → statement M
-party-refusal-spec = tie.close (tie.spec
-    (λ c κs. search needs)
-    returns)
+unfolding firstFrom
+party-refusal-spec = tie.close (tie.spec (λ c κs. search needs) (λ c. search rows depth 24))

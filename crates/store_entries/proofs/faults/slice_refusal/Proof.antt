@@ -3,14 +3,7 @@ use borrow.Author.Needs.{needs}
 use Rattle.store_entries.proofs.faults.slice_refusal.Statement.{statement}
 use Rattle.store_entries.proofs.faults.slice_refusal.Tie as tie
 
-returns : tie.Need-returns
-returns c = search parts depth 16
-
 pub slice-refusal-spec : {M : Type 1} → statement M
 slice-refusal-spec =
     tie.close
-    (tie.spec
-    (λ c κs. search needs)
-    (λ c κs. search needs)
-    (λ c κs. search needs)
-    returns)
+    (tie.spec (λ c κs. search needs) (λ c κs. search needs) (λ c κs. search needs) (λ c. search parts depth 16))

@@ -3,22 +3,8 @@ use borrow.Author.Needs.{needs}
 use Rattle.store_party.proofs.half.release.Statement.{statement}
 use Rattle.store_party.proofs.half.release.Tie as tie
 
-release-slice-requires : tie.Need-release-slice-requires
-release-slice-requires c κs = search release-fits
-
-returns : tie.Need-returns
-returns c = search release-part
-
 pub release-spec : {M : Type 1} → statement M
 release-spec =
     tie.close
-    (tie.spec
-    (λ c κs. search needs)
-    (λ c. search needs)
-    (λ c. search needs)
-    (λ c. search needs)
-    (λ c. search needs)
-    (λ c. search needs)
-    release-slice-requires
-    (λ c. search needs)
-    returns)
+    (tie.spec (λ c κs. search needs) (λ c. search needs) (λ c. search needs) (λ c. search needs) (λ c. search needs)
+    (λ c. search needs) (λ c κs. search release-fits) (λ c. search needs) (λ c. search release-part))

@@ -3,21 +3,6 @@ use borrow.Author.Needs.{needs}
 use Rattle.store_write.proofs.keep.list_slices.Statement.{statement}
 use Rattle.store_write.proofs.keep.list_slices.Tie as tie
 
-live-marks-requires : tie.Need-live-marks-requires
-live-marks-requires c κs = blank-start _ (search needs)
-
-show-handles-requires : tie.Need-show-handles-requires
-show-handles-requires c κs = search show-handles
-
-show-codes-requires : tie.Need-show-codes-requires
-show-codes-requires c κs = search show-codes
-
-show-numbers-requires : tie.Need-show-numbers-requires
-show-numbers-requires c κs = search show-numbers
-
-show-editions-requires : tie.Need-show-editions-requires
-show-editions-requires c κs = search show-editions
-
 returns : tie.Need-returns
 returns c =
     let editions = c .before .before in
@@ -33,14 +18,6 @@ returns c =
 pub list-slices-spec : {M : Type 1} → statement M
 list-slices-spec =
     tie.close
-    (tie.spec
-    live-marks-requires
-    show-handles-requires
-    show-codes-requires
-    show-numbers-requires
-    show-editions-requires
-    (λ c. search needs)
-    (λ c. search needs)
-    (λ c. search needs)
-    (λ c. search needs)
-    returns)
+    (tie.spec (λ c κs. blank-start _ (search needs)) (λ c κs. search show-handles) (λ c κs. search show-codes)
+    (λ c κs. search show-numbers) (λ c κs. search show-editions) (λ c. search needs) (λ c. search needs)
+    (λ c. search needs) (λ c. search needs) returns)

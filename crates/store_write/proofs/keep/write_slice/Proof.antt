@@ -3,20 +3,8 @@ use borrow.Author.Needs.{needs}
 use Rattle.store_write.proofs.keep.write_slice.Statement.{statement}
 use Rattle.store_write.proofs.keep.write_slice.Tie as tie
 
-returns : tie.Need-returns
-returns c = search (needs, write-done)
-
 pub write-slice-spec : {M : Type 1} → statement M
 write-slice-spec =
     tie.close
-    (tie.spec
-    (λ c. search needs)
-    (λ c κs. search needs)
-    (λ c. search needs)
-    (λ c κs. search needs)
-    (λ c. search needs)
-    (λ c. search needs)
-    (λ c. search needs)
-    (λ c. search needs)
-    (λ c. search needs)
-    returns)
+    (tie.spec (λ c. search needs) (λ c κs. search needs) (λ c. search needs) (λ c κs. search needs) (λ c. search needs)
+    (λ c. search needs) (λ c. search needs) (λ c. search needs) (λ c. search needs) (λ c. search (needs, write-done)))

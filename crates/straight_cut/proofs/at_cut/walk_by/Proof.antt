@@ -3,12 +3,7 @@ use borrow.Author.Needs.{needs}
 use Rattle.straight_cut.proofs.at_cut.walk_by.Statement.{statement}
 use Rattle.straight_cut.proofs.at_cut.walk_by.Tie as tie
 
-returns : tie.Need-returns
-returns c = search (needs, walks)
-
 pub walk-by-spec : {M : Type 1} → statement M
-walk-by-spec = tie.close (tie.spec
-    (λ c κs. search needs)
-    (λ c. search needs)
-    (λ c κs. search needs)
-    returns)
+walk-by-spec =
+    tie.close
+    (tie.spec (λ c κs. search needs) (λ c. search needs) (λ c κs. search needs) (λ c. search (needs, walks)))

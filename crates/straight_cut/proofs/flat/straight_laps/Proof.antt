@@ -34,13 +34,7 @@ unfolding straightLaps
 returns c = each-end _ _ _ _ (search needs) (c .loop-test .left) (c .before .loop .inv .1)
 
 pub straight-laps-spec : {M : Type 1} → statement M
-straight-laps-spec = tie.close (tie.spec
-    Inv-loop
-    μ-loop
-    loop-holds
-    shape-at-requires
-    (λ c κs. search needs)
-    add-i
-    (λ c. search needs)
-    loop-again
+straight-laps-spec =
+    tie.close
+    (tie.spec Inv-loop μ-loop loop-holds shape-at-requires (λ c κs. search needs) add-i (λ c. search needs) loop-again
     returns)

@@ -34,13 +34,7 @@ unfolding straightOutline
 returns c = each-end _ _ _ _ (search needs) (c .loop-test .left) (c .before .loop .inv .1)
 
 pub straight-outline-spec : {M : Type 1} → statement M
-straight-outline-spec = tie.close (tie.spec
-    Inv-loop
-    μ-loop
-    loop-holds
-    vertex-at-requires
-    (λ c κs. search needs)
-    add-i
-    (λ c. search needs)
-    loop-again
+straight-outline-spec =
+    tie.close
+    (tie.spec Inv-loop μ-loop loop-holds vertex-at-requires (λ c κs. search needs) add-i (λ c. search needs) loop-again
     returns)

@@ -3,14 +3,7 @@ use borrow.Author.Needs.{needs}
 use Rattle.straight_cut.proofs.flat.straight_shape.Statement.{statement}
 use Rattle.straight_cut.proofs.flat.straight_shape.Tie as tie
 
-returns : tie.Need-returns
-returns c = search (needs, shape-is)
-
 pub straight-shape-spec : {M : Type 1} → statement M
 straight-shape-spec =
     tie.close
-    (tie.spec
-    (λ c κs. search needs)
-    (λ c κs. search needs)
-    (λ c κs. search needs)
-    returns)
+    (tie.spec (λ c κs. search needs) (λ c κs. search needs) (λ c κs. search needs) (λ c. search (needs, shape-is)))

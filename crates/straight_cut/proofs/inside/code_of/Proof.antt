@@ -16,9 +16,4 @@ returns-3 c = let first = c .before .before in
     code-none _ _ (toZ-ofZ (first .before .before .fits .w)) _ (first .before .below .ensures) _ (c .before .below2 .ensures) (first .if1 .left) (c .if2 .left)
 
 pub code-of-spec : {M : Type 1} → statement M
-code-of-spec = tie.close (tie.spec
-    (λ c κs. search needs)
-    returns
-    (λ c κs. search needs)
-    returns-2
-    returns-3)
+code-of-spec = tie.close (tie.spec (λ c κs. search needs) returns (λ c κs. search needs) returns-2 returns-3)

@@ -16,8 +16,4 @@ returns c = let a = c .before .known-value in
     mid-read _ _ (got (a .result) (a .ok) ∙ a .ensures) (got (b .result) (b .ok) ∙ b .ensures)
 
 pub doubled-mid-spec : {M : Type 1} → statement M
-doubled-mid-spec = tie.close (tie.spec
-    (λ c κs. search needs)
-    (λ c κs. search needs)
-    add-result
-    returns)
+doubled-mid-spec = tie.close (tie.spec (λ c κs. search needs) (λ c κs. search needs) add-result returns)

@@ -20,9 +20,4 @@ returns c = let w = c .before .winding-of in
 pub inside-of-spec : {M : Type 1} → statement M
 inside-of-spec =
     tie.close
-    (tie.spec
-    (λ c κs. search needs)
-    (λ c κs. search needs)
-    winding-of-requires
-    (λ c κs. search needs)
-    returns)
+    (tie.spec (λ c κs. search needs) (λ c κs. search needs) winding-of-requires (λ c κs. search needs) returns)

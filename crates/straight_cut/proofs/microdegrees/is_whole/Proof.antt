@@ -44,11 +44,5 @@ returns-4 c = whole-below (c .before .args .x) (c .if1 .left)
 pub is-whole-spec : {M : Type 1} → statement M
 is-whole-spec =
     tie.close
-    (tie.spec
-    truncating-f64-to-i64-requires
-    (λ c κs. search needs)
-    float-of-requires
-    returns
-    returns-2
-    returns-3
+    (tie.spec truncating-f64-to-i64-requires (λ c κs. search needs) float-of-requires returns returns-2 returns-3
     returns-4)

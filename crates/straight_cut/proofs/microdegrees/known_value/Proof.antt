@@ -12,7 +12,4 @@ returns-2 : tie.Need-returns-2
 returns-2 c = known-read _ (known-other _ (c .before .before .pre) (c .before .if1 .left))
 
 pub known-value-spec : {M : Type 1} → statement M
-known-value-spec = tie.close (tie.spec
-    returns
-    float-to-int-result
-    returns-2)
+known-value-spec = tie.close (tie.spec returns float-to-int-result returns-2)

@@ -9,12 +9,6 @@ use Rattle.straight_cut.specs.KnownLaws.{knowns}
 use Rattle.straight_cut.proofs.microdegrees.put_vertex.Statement.{statement}
 use Rattle.straight_cut.proofs.microdegrees.put_vertex.Tie as tie
 
-known-value-requires : tie.Need-known-value-requires
-known-value-requires c κs = search (needs, knowns)
-
-known-value-requires-2 : tie.Need-known-value-requires-2
-known-value-requires-2 c κs = search (needs, knowns)
-
 returns : tie.Need-returns
 returns c =
     let y = c .before .before .known-value2 in
@@ -27,12 +21,5 @@ returns c =
 pub put-vertex-spec : {M : Type 1} → statement M
 put-vertex-spec =
     tie.close
-    (tie.spec
-    (λ c κs. search needs)
-    known-value-requires
-    (λ c κs. search needs)
-    (λ c. search needs)
-    known-value-requires-2
-    (λ c κs. search needs)
-    (λ c. search needs)
-    returns)
+    (tie.spec (λ c κs. search needs) (λ c κs. search (needs, knowns)) (λ c κs. search needs) (λ c. search needs)
+    (λ c κs. search (needs, knowns)) (λ c κs. search needs) (λ c. search needs) returns)

@@ -3,21 +3,9 @@ use borrow.Author.Needs.{needs}
 use Rattle.straight_side.proofs.keeping.kept.Statement.{statement}
 use Rattle.straight_side.proofs.keeping.kept.Tie as tie
 
-kept-few-requires : tie.Need-kept-few-requires
-kept-few-requires c κs = search (needs, few-fits)
-
 pub kept-spec : {M : Type 1} → statement M
 kept-spec =
     tie.close
-    (tie.spec
-    (λ c κs. search needs)
-    kept-few-requires
-    (λ c. search needs)
-    (λ c. search needs)
-    (λ c. search needs)
-    (λ c. search needs)
-    (λ c κs. search needs)
-    (λ c. search needs)
-    (λ c. search needs)
-    (λ c. search needs)
-    (λ c. search needs))
+    (tie.spec (λ c κs. search needs) (λ c κs. search (needs, few-fits)) (λ c. search needs) (λ c. search needs)
+    (λ c. search needs) (λ c. search needs) (λ c κs. search needs) (λ c. search needs) (λ c. search needs)
+    (λ c. search needs) (λ c. search needs))

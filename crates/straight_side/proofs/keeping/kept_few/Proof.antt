@@ -13,13 +13,5 @@ kept-with-requires c κs = few-lists _ _ _ _ _ _ _ _ 8 16 (search c) (length-rep
 pub kept-few-spec : {M : Type 1} → statement M
 kept-few-spec =
     tie.close
-    (tie.spec
-    (λ c. search needs)
-    (λ c. search needs)
-    (λ c. search needs)
-    (λ c. search needs)
-    kept-with-requires
-    (λ c. search needs)
-    (λ c. search needs)
-    (λ c. search needs)
-    (λ c. search needs))
+    (tie.spec (λ c. search needs) (λ c. search needs) (λ c. search needs) (λ c. search needs) kept-with-requires
+    (λ c. search needs) (λ c. search needs) (λ c. search needs) (λ c. search needs))

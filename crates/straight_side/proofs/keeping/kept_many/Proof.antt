@@ -13,13 +13,5 @@ kept-with-requires c κs = most-lists _ _ _ _ _ _ _ _ (search c) (length-replica
 pub kept-many-spec : {M : Type 1} → statement M
 kept-many-spec =
     tie.close
-    (tie.spec
-    (λ c. search needs)
-    (λ c. search needs)
-    (λ c. search needs)
-    (λ c. search needs)
-    kept-with-requires
-    (λ c. search needs)
-    (λ c. search needs)
-    (λ c. search needs)
-    (λ c. search needs))
+    (tie.spec (λ c. search needs) (λ c. search needs) (λ c. search needs) (λ c. search needs) kept-with-requires
+    (λ c. search needs) (λ c. search needs) (λ c. search needs) (λ c. search needs))

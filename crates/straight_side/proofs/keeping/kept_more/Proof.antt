@@ -3,21 +3,9 @@ use borrow.Author.Needs.{needs}
 use Rattle.straight_side.proofs.keeping.kept_more.Statement.{statement}
 use Rattle.straight_side.proofs.keeping.kept_more.Tie as tie
 
-kept-some-requires : tie.Need-kept-some-requires
-kept-some-requires c κs = search (needs, few-fits)
-
 pub kept-more-spec : {M : Type 1} → statement M
 kept-more-spec =
     tie.close
-    (tie.spec
-    (λ c κs. search needs)
-    kept-some-requires
-    (λ c. search needs)
-    (λ c. search needs)
-    (λ c. search needs)
-    (λ c. search needs)
-    (λ c κs. search needs)
-    (λ c. search needs)
-    (λ c. search needs)
-    (λ c. search needs)
-    (λ c. search needs))
+    (tie.spec (λ c κs. search needs) (λ c κs. search (needs, few-fits)) (λ c. search needs) (λ c. search needs)
+    (λ c. search needs) (λ c. search needs) (λ c κs. search needs) (λ c. search needs) (λ c. search needs)
+    (λ c. search needs) (λ c. search needs))

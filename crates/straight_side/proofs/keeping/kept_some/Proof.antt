@@ -13,13 +13,5 @@ kept-with-requires c κs = few-lists _ _ _ _ _ _ _ _ 64 128 (search c) (length-r
 pub kept-some-spec : {M : Type 1} → statement M
 kept-some-spec =
     tie.close
-    (tie.spec
-    (λ c. search needs)
-    (λ c. search needs)
-    (λ c. search needs)
-    (λ c. search needs)
-    kept-with-requires
-    (λ c. search needs)
-    (λ c. search needs)
-    (λ c. search needs)
-    (λ c. search needs))
+    (tie.spec (λ c. search needs) (λ c. search needs) (λ c. search needs) (λ c. search needs) kept-with-requires
+    (λ c. search needs) (λ c. search needs) (λ c. search needs) (λ c. search needs))

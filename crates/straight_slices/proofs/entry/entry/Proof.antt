@@ -68,19 +68,6 @@ returns-3 c =
 pub entry-spec : {M : Type 1} → statement M
 entry-spec =
     tie.close
-    (tie.spec
-    (λ c κs. search needs)
-    (λ c κs. search needs)
-    returns
-    mul-count
-    add-count
-    need-of-requires
-    lent-refusal-requires
-    (λ c κs. search needs)
-    returns-2
-    sliced-requires
-    (λ c κs. search needs)
-    (λ c. search needs)
-    (λ c. search needs)
-    (λ c. search needs)
-    returns-3)
+    (tie.spec (λ c κs. search needs) (λ c κs. search needs) returns mul-count add-count need-of-requires
+    lent-refusal-requires (λ c κs. search needs) returns-2 sliced-requires (λ c κs. search needs) (λ c. search needs)
+    (λ c. search needs) (λ c. search needs) returns-3)

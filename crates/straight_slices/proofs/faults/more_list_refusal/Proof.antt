@@ -4,16 +4,9 @@ use borrow.Author.Needs.{needs}
 use Rattle.straight_slices.proofs.faults.more_list_refusal.Statement.{statement}
 use Rattle.straight_slices.proofs.faults.more_list_refusal.Tie as tie
 
-returns : tie.Need-returns
-unfolding firstFrom
-returns c = search rows depth 20
-
 pub more-list-refusal-spec : {M : Type 1} → statement M
+unfolding firstFrom
 more-list-refusal-spec =
     tie.close
-    (tie.spec
-    (λ c κs. search needs)
-    (λ c κs. search needs)
-    (λ c κs. search needs)
-    (λ c κs. search needs)
-    returns)
+    (tie.spec (λ c κs. search needs) (λ c κs. search needs) (λ c κs. search needs) (λ c κs. search needs)
+    (λ c. search rows depth 20))

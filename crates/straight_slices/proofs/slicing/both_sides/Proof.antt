@@ -35,13 +35,5 @@ returns c =
 pub both-sides-spec : {M : Type 1} → statement M
 both-sides-spec =
     tie.close
-    (tie.spec
-    (λ c κs. search needs)
-    (λ c κs. search needs)
-    kept-requires
-    (λ c κs. search needs)
-    kept-requires-2
-    (λ c. search needs)
-    (λ c. search needs)
-    (λ c. search needs)
-    returns)
+    (tie.spec (λ c κs. search needs) (λ c κs. search needs) kept-requires (λ c κs. search needs) kept-requires-2
+    (λ c. search needs) (λ c. search needs) (λ c. search needs) returns)

@@ -23,10 +23,4 @@ returns c =
 pub sliced-spec : {M : Type 1} → statement M
 sliced-spec =
     tie.close
-    (tie.spec
-    (λ c κs. search needs)
-    finish-requires
-    (λ c. search needs)
-    (λ c. search needs)
-    (λ c. search needs)
-    returns)
+    (tie.spec (λ c κs. search needs) finish-requires (λ c. search needs) (λ c. search needs) (λ c. search needs) returns)

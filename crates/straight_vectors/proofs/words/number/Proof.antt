@@ -13,9 +13,6 @@ sub-result c =
     (fit (sub-near {a = pos (c .before .before .word .result)} {b = pos 2305843009213693952} (record { near = le-of-lt (c .before .if1 .left) }) (record { near = le-refl 2305843009213693952 })) tt)
 
 pub number-spec : {M : Type 1} → statement M
-number-spec = tie.close (tie.spec
-    (λ c κs. search needs)
-    (λ c. search needs)
-    (λ c κs. search needs)
-    sub-result
-    (λ c. search needs))
+number-spec =
+    tie.close
+    (tie.spec (λ c κs. search needs) (λ c. search needs) (λ c κs. search needs) sub-result (λ c. search needs))

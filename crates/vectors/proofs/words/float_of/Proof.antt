@@ -15,7 +15,4 @@ float-from-bits-result : tie.Need-float-from-bits-result
 float-from-bits-result c = rw (no-nan _ (c .if1 .taken)) tt
 
 pub float-of-spec : {M : Type 1} → statement M
-float-of-spec = tie.close (tie.spec
-    float-from-bits-result
-    (λ c. search needs)
-    (λ c. search needs))
+float-of-spec = tie.close (tie.spec float-from-bits-result (λ c. search needs) (λ c. search needs))

@@ -4,18 +4,8 @@ use borrow.Author.Needs.{needs}
 use Rattle.verdict.proofs.validate.end_verdict.Statement.{statement}
 use Rattle.verdict.proofs.validate.end_verdict.Tie as tie
 
-returns : tie.Need-returns
-unfolding endVerdict
-returns c = search (needs, cases)
-
-returns-2 : tie.Need-returns-2
-unfolding endVerdict
-returns-2 c = search (needs, cases)
-
 pub end-verdict-spec : {M : Type 1} → statement M
+unfolding endVerdict
 end-verdict-spec =
-    tie.close (tie.spec
-    (λ c κs. search needs)
-    returns
-    (λ c κs. search needs)
-    returns-2)
+    tie.close
+    (tie.spec (λ c κs. search needs) (λ c. search (needs, cases)) (λ c κs. search needs) (λ c. search (needs, cases)))

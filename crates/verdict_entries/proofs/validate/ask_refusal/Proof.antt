@@ -5,27 +5,11 @@ use borrow.Author.Needs.{needs}
 use Rattle.verdict_entries.proofs.validate.ask_refusal.Statement.{statement}
 use Rattle.verdict_entries.proofs.validate.ask_refusal.Tie as tie
 
-returns : tie.Need-returns
-unfolding askRefusal firstFrom
-returns c = search rows depth 26
-
 pub ask-refusal-spec : {M : Type 1} → statement M
+unfolding askRefusal firstFrom
 ask-refusal-spec =
     tie.close
-    (tie.spec
-    (λ c κs. search needs)
-    (λ c κs. search needs)
-    (λ c κs. search needs)
-    (λ c κs. search needs)
-    (λ c κs. search needs)
-    (λ c κs. search needs)
-    (λ c κs. search needs)
-    (λ c κs. search needs)
-    (λ c κs. search needs)
-    (λ c κs. search needs)
-    (λ c κs. search needs)
-    (λ c κs. search needs)
-    (λ c κs. search needs)
-    (λ c κs. search needs)
-    (λ c κs. search needs)
-    returns)
+    (tie.spec (λ c κs. search needs) (λ c κs. search needs) (λ c κs. search needs) (λ c κs. search needs)
+    (λ c κs. search needs) (λ c κs. search needs) (λ c κs. search needs) (λ c κs. search needs) (λ c κs. search needs)
+    (λ c κs. search needs) (λ c κs. search needs) (λ c κs. search needs) (λ c κs. search needs) (λ c κs. search needs)
+    (λ c κs. search needs) (λ c. search rows depth 26))

@@ -6,6 +6,4 @@ returns : tie.Need-returns
 returns c = rw (c .choice .ensures)
 
 pub flat-view-spec : {M : Type 1} → statement M
-flat-view-spec = tie.close (tie.spec
-    (λ c κs. search needs)
-    returns)
+flat-view-spec = tie.close (tie.spec (λ c κs. search needs) returns)

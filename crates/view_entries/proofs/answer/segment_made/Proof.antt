@@ -15,10 +15,4 @@ returns-2 c = c .view-refused .ensures ∙ ap segmentMade (sym (c .before .enum-
 pub segment-made-spec : {M : Type 1} → statement M
 segment-made-spec =
     tie.close
-    (tie.spec
-    (λ c. search needs)
-    (λ c κs. search needs)
-    (λ c. search needs)
-    (λ c κs. search needs)
-    returns
-    returns-2)
+    (tie.spec (λ c. search needs) (λ c κs. search needs) (λ c. search needs) (λ c κs. search needs) returns returns-2)

@@ -14,9 +14,5 @@ returns-2 c = c .vertex-refused .ensures ∙ ap vertexFound (sym (c .before .enu
 
 pub vertex-found-spec : {M : Type 1} → statement M
 vertex-found-spec =
-    tie.close (tie.spec
-    (λ c. search needs)
-    (λ c. search needs)
-    (λ c κs. search needs)
-    returns
-    returns-2)
+    tie.close
+    (tie.spec (λ c. search needs) (λ c. search needs) (λ c κs. search needs) returns returns-2)

@@ -8,6 +8,4 @@ unfolding viewMade
 returns c = rw (c .flat-view .ensures)
 
 pub view-made-spec : {M : Type 1} → statement M
-view-made-spec = tie.close (tie.spec
-    (λ c κs. search needs)
-    returns)
+view-made-spec = tie.close (tie.spec (λ c κs. search needs) returns)

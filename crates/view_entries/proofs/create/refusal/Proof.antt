@@ -5,26 +5,11 @@ use borrow.Author.Needs.{needs}
 use Rattle.view_entries.proofs.create.refusal.Statement.{statement}
 use Rattle.view_entries.proofs.create.refusal.Tie as tie
 
-returns : tie.Need-returns
-unfolding createRefusal firstFrom
-returns c = search rows depth 26
-
 pub refusal-spec : {M : Type 1} → statement M
+unfolding createRefusal firstFrom
 refusal-spec =
     tie.close
-    (tie.spec
-    (λ c κs. search needs)
-    (λ c κs. search needs)
-    (λ c κs. search needs)
-    (λ c κs. search needs)
-    (λ c κs. search needs)
-    (λ c κs. search needs)
-    (λ c κs. search needs)
-    (λ c κs. search needs)
-    (λ c κs. search needs)
-    (λ c κs. search needs)
-    (λ c κs. search needs)
-    (λ c κs. search needs)
-    (λ c κs. search needs)
-    (λ c κs. search needs)
-    returns)
+    (tie.spec (λ c κs. search needs) (λ c κs. search needs) (λ c κs. search needs) (λ c κs. search needs)
+    (λ c κs. search needs) (λ c κs. search needs) (λ c κs. search needs) (λ c κs. search needs) (λ c κs. search needs)
+    (λ c κs. search needs) (λ c κs. search needs) (λ c κs. search needs) (λ c κs. search needs) (λ c κs. search needs)
+    (λ c. search rows depth 26))

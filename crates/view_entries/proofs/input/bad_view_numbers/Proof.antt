@@ -8,8 +8,4 @@ returns : tie.Need-returns
 returns c = ap not (c .all-in-range .ensures)
 
 pub bad-view-numbers-spec : {M : Type 1} → statement M
-bad-view-numbers-spec =
-    tie.close (tie.spec
-    (λ c. search needs)
-    (λ c κs. search needs)
-    returns)
+bad-view-numbers-spec = tie.close (tie.spec (λ c. search needs) (λ c κs. search needs) returns)

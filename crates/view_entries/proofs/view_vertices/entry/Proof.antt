@@ -4,12 +4,6 @@ use borrow.Author.Needs.{needs}
 use Rattle.view_entries.proofs.view_vertices.entry.Statement.{statement}
 use Rattle.view_entries.proofs.view_vertices.entry.Tie as tie
 
-returns : tie.Need-returns
-returns c = search (needs, listLaws)
-
-write-vertices-requires : tie.Need-write-vertices-requires
-write-vertices-requires c κs = search (needs, listLaws)
-
 add-counted-as : tie.Need-add-counted-as
 add-counted-as c =
     let drawn = c .before .before .before .before .before in
@@ -18,19 +12,9 @@ add-counted-as c =
     let fit = list-accepted _ _ _ (start .args .vertices .now) _ (looked .refusal .ensures) _ (drawn .before .if1 .left) (drawn .view-data .ensures) in
     record { fits = omega (arith, fit .view .reaches, fit .view .whole .most) }
 
-returns-2 : tie.Need-returns-2
-returns-2 c = search (needs, listLaws)
-
 pub entry-spec : {M : Type 1} → statement M
 entry-spec =
     tie.close
-    (tie.spec
-    (λ c κs. search needs)
-    (λ c κs. search needs)
-    returns
-    (λ c κs. search needs)
-    write-vertices-requires
-    add-counted-as
-    (λ c κs. search needs)
-    (λ c. search needs)
-    returns-2)
+    (tie.spec (λ c κs. search needs) (λ c κs. search needs) (λ c. search (needs, listLaws)) (λ c κs. search needs)
+    (λ c κs. search (needs, listLaws)) add-counted-as (λ c κs. search needs) (λ c. search needs)
+    (λ c. search (needs, listLaws)))

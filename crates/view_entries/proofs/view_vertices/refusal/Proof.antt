@@ -4,26 +4,14 @@ use Rattle.view_entries.specs.ViewVertices.{list-shaped, listRows}
 use Rattle.view_entries.proofs.view_vertices.refusal.Statement.{statement}
 use Rattle.view_entries.proofs.view_vertices.refusal.Tie as tie
 
-returns : tie.Need-returns
-returns c = search (needs, listRows)
-
 add-if2 : tie.Need-add-if2
 add-if2 c = let s = list-shaped _ _ _ 0 _ (c .before .before .refusal .ensures) (c .before .if1 .left) in omega arith
 
 mul-if2 : tie.Need-mul-if2
 mul-if2 c = let s = list-shaped _ _ _ 0 _ (c .before .before .refusal .ensures) (c .before .if1 .left) in omega arith
 
-returns-2 : tie.Need-returns-2
-returns-2 c = search (needs, listRows)
-
-returns-3 : tie.Need-returns-3
-returns-3 c = search (needs, listRows)
-
 pub refusal-spec : {M : Type 1} → statement M
-refusal-spec = tie.close (tie.spec
-    (λ c κs. search needs)
-    returns
-    add-if2
-    mul-if2
-    returns-2
-    returns-3)
+refusal-spec =
+    tie.close
+    (tie.spec (λ c κs. search needs) (λ c. search (needs, listRows)) add-if2 mul-if2 (λ c. search (needs, listRows))
+    (λ c. search (needs, listRows)))

@@ -3,14 +3,8 @@ use borrow.Author.Needs.{needs}
 use Rattle.view_start.proofs.new_start.last_ends.Statement.{statement}
 use Rattle.view_start.proofs.new_start.last_ends.Tie as tie
 
-returns : tie.Need-returns
-returns c = search (needs, news)
-
 pub last-ends-spec : {M : Type 1} → statement M
 last-ends-spec =
-    tie.close (tie.spec
-    (λ c. search needs)
-    (λ c κs. search needs)
-    (λ c κs. search needs)
-    (λ c. search needs)
-    returns)
+    tie.close
+    (tie.spec (λ c. search needs) (λ c κs. search needs) (λ c κs. search needs) (λ c. search needs)
+    (λ c. search (needs, news)))

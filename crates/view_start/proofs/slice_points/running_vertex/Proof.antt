@@ -4,16 +4,8 @@ use borrow.Author.Needs.{needs}
 use Rattle.view_start.proofs.slice_points.running_vertex.Statement.{statement}
 use Rattle.view_start.proofs.slice_points.running_vertex.Tie as tie
 
-returns : tie.Need-returns
-unfolding runningVertex
-returns c = search (needs, cases)
-
-returns-2 : tie.Need-returns-2
-unfolding runningVertex
-returns-2 c = search (needs, cases)
-
 pub running-vertex-spec : {M : Type 1} → statement M
-running-vertex-spec = tie.close (tie.spec
-    (λ c κs. search needs)
-    returns
-    returns-2)
+unfolding runningVertex
+running-vertex-spec =
+    tie.close
+    (tie.spec (λ c κs. search needs) (λ c. search (needs, cases)) (λ c. search (needs, cases)))

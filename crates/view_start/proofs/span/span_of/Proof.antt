@@ -3,16 +3,7 @@ use borrow.Author.Needs.{needs}
 use Rattle.view_start.proofs.span.span_of.Statement.{statement}
 use Rattle.view_start.proofs.span.span_of.Tie as tie
 
-traverse-from-requires : tie.Need-traverse-from-requires
-traverse-from-requires c κs = search (needs, spans)
-
-returns : tie.Need-returns
-returns c = search (needs, spans)
-
 pub span-of-spec : {M : Type 1} → statement M
 span-of-spec =
-    tie.close (tie.spec
-    (λ c κs. search needs)
-    (λ c κs. search needs)
-    traverse-from-requires
-    returns)
+    tie.close
+    (tie.spec (λ c κs. search needs) (λ c κs. search needs) (λ c κs. search (needs, spans)) (λ c. search (needs, spans)))

@@ -3,15 +3,8 @@ use borrow.Author.Needs.{needs}
 use Rattle.view_start.proofs.span.start_nearer.Statement.{statement}
 use Rattle.view_start.proofs.span.start_nearer.Tie as tie
 
-returns : tie.Need-returns
-returns c = search (needs, spans)
-
 pub start-nearer-spec : {M : Type 1} → statement M
 start-nearer-spec =
     tie.close
-    (tie.spec
-    (λ c κs. search needs)
-    (λ c κs. search needs)
-    (λ c κs. search needs)
-    (λ c κs. search needs)
-    returns)
+    (tie.spec (λ c κs. search needs) (λ c κs. search needs) (λ c κs. search needs) (λ c κs. search needs)
+    (λ c. search (needs, spans)))

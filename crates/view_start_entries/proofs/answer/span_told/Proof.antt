@@ -8,6 +8,4 @@ unfolding spanTold
 returns c = rw (c .choice .ensures)
 
 pub span-told-spec : {M : Type 1} → statement M
-span-told-spec = tie.close (tie.spec
-    (λ c κs. search needs)
-    returns)
+span-told-spec = tie.close (tie.spec (λ c κs. search needs) returns)

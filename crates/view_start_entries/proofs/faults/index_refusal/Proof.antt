@@ -4,16 +4,9 @@ use borrow.Author.Needs.{needs}
 use Rattle.view_start_entries.proofs.faults.index_refusal.Statement.{statement}
 use Rattle.view_start_entries.proofs.faults.index_refusal.Tie as tie
 
-returns : tie.Need-returns
-unfolding firstFrom
-returns c = search rows depth 24
-
 pub index-refusal-spec : {M : Type 1} → statement M
+unfolding firstFrom
 index-refusal-spec =
     tie.close
-    (tie.spec
-    (λ c κs. search needs)
-    (λ c κs. search needs)
-    (λ c κs. search needs)
-    (λ c κs. search needs)
-    returns)
+    (tie.spec (λ c κs. search needs) (λ c κs. search needs) (λ c κs. search needs) (λ c κs. search needs)
+    (λ c. search rows depth 24))

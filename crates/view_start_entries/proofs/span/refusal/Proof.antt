@@ -5,16 +5,9 @@ use borrow.Author.Needs.{needs}
 use Rattle.view_start_entries.proofs.span.refusal.Statement.{statement}
 use Rattle.view_start_entries.proofs.span.refusal.Tie as tie
 
-returns : tie.Need-returns
-unfolding spanRefusal
-returns c = search (parts, ones) depth 14
-
 pub refusal-spec : {M : Type 1} → statement M
+unfolding spanRefusal
 refusal-spec =
     tie.close
-    (tie.spec
-    (λ c κs. search needs)
-    (λ c κs. search needs)
-    (λ c κs. search needs)
-    (λ c κs. search needs)
-    returns)
+    (tie.spec (λ c κs. search needs) (λ c κs. search needs) (λ c κs. search needs) (λ c κs. search needs)
+    (λ c. search (parts, ones) depth 14))
