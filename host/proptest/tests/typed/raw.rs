@@ -282,37 +282,20 @@ fn slice_room(slices: usize, spare: Spare) -> (Vec<usize>, Vec<f64>, Vec<u32>) {
     (room(4 * slices, spare[0]), room(6 * slices, spare[1]), room(slices, spare[2]))
 }
 
+#[rustfmt::skip] // as many parameters to a line as go on it
 pub fn prune(mode: Mode, opposing: bool, vertex_counts: [usize; 2], answered: [&Answered; 2], laps: &Overlaps, spare: Spare) -> Raw {
     let [c1, c2] = answered.map(|one| flat_candidates(&one.candidates));
     let [i1, i2] = answered.map(|one| one.inside.iter().map(|&yes| u8::from(yes)).collect::<Vec<u8>>());
     let l = flat_laps(laps);
     let (mut at, mut slice, mut editions) = slice_room(c1.count + c2.count + 2 * l.count, spare);
     let answer = entries::prune(
-        mode_code(mode),
-        code(opposing),
-        vertex_counts[0],
-        vertex_counts[1],
-        &c1.at,
-        &c1.numbers,
-        &c1.editions,
-        &i1,
-        c1.count,
-        &c2.at,
-        &c2.numbers,
-        &c2.editions,
-        &i2,
-        c2.count,
-        &l.at,
-        &l.numbers,
-        &l.editions,
-        l.count,
-        &mut at,
-        &mut slice,
-        &mut editions,
+        mode_code(mode), code(opposing), vertex_counts[0], vertex_counts[1], &c1.at, &c1.numbers, &c1.editions, &i1, c1.count, &c2.at,
+        &c2.numbers, &c2.editions, &i2, c2.count, &l.at, &l.numbers, &l.editions, l.count, &mut at, &mut slice, &mut editions,
     );
     Raw::of("mask_prune", answer, vec![words![at], words![slice], words![editions]])
 }
 
+#[rustfmt::skip] // as many parameters to a line as go on it
 pub fn straight_slices(
     mode: Mode,
     opposing: bool,
@@ -326,26 +309,8 @@ pub fn straight_slices(
     let (h, l) = (flat_hits(hits), flat_laps(laps));
     let (mut at, mut slice, mut editions) = slice_room(2 * (h.count + 2 * l.count) + 2 * l.count, spare);
     let answer = entries::straight_slices(
-        mode_code(mode),
-        code(opposing),
-        &o1,
-        vc1,
-        edition1,
-        &o2,
-        vc2,
-        edition2,
-        &h.at,
-        &h.numbers,
-        h.count,
-        &l.at,
-        &l.numbers,
-        &l.editions,
-        l.count,
-        t.x,
-        t.y,
-        &mut at,
-        &mut slice,
-        &mut editions,
+        mode_code(mode), code(opposing), &o1, vc1, edition1, &o2, vc2, edition2, &h.at, &h.numbers, h.count, &l.at, &l.numbers, &l.editions,
+        l.count, t.x, t.y, &mut at, &mut slice, &mut editions,
     );
     Raw::of("mask_straight_slices", answer, vec![words![at], words![slice], words![editions]])
 }
@@ -373,6 +338,7 @@ pub fn vertices_needed(slices: &Slices) -> usize {
     first + slices.iter().map(|s| s.view.end_index_offset.min(1024) + 1).sum::<usize>()
 }
 
+#[rustfmt::skip] // as many parameters to a line as go on it
 pub fn stitch(outlines: [&Outline; 2], slices: &Slices, selector: Selector, setting: Named<'_>, spare: Spare) -> Raw {
     let [(o1, vc1, edition1), (o2, vc2, edition2)] = outlines.map(outline);
     let (s, starts) = (flat_slices(slices.iter().map(coded)), slices.starts);
@@ -380,27 +346,8 @@ pub fn stitch(outlines: [&Outline; 2], slices: &Slices, selector: Selector, sett
     let mut lists = StitchLists::new(vertices_needed(slices), s.count, spare);
     let [ends, chain, chain_ends, chain_how] = &mut lists.of_slices;
     let answer = entries::stitch(
-        &o1,
-        vc1,
-        edition1,
-        &o2,
-        vc2,
-        edition2,
-        &s.at,
-        &s.numbers,
-        &s.editions,
-        s.count,
-        starts.pline2,
-        starts.pline1_overlapping,
-        starts.pline2_overlapping,
-        selector_code(selector),
-        &entered,
-        &numbers,
-        setting.edition,
-        &mut lists.room,
-        ends,
-        chain,
-        chain_ends,
+        &o1, vc1, edition1, &o2, vc2, edition2, &s.at, &s.numbers, &s.editions, s.count, starts.pline2, starts.pline1_overlapping,
+        starts.pline2_overlapping, selector_code(selector), &entered, &numbers, setting.edition, &mut lists.room, ends, chain, chain_ends,
         chain_how,
     );
     Raw::of("mask_stitch", answer, lists.words())
@@ -456,29 +403,14 @@ impl<'a> Written<'a> {
     }
 }
 
+#[rustfmt::skip] // as many parameters to a line as go on it
 pub fn record_write(version: u32, written: &Written<'_>, spare: Spare) -> Raw {
     let [(o1, vc1, edition1), (o2, vc2, edition2)] = written.outlines.map(outline);
     let (s, starts, t) = (flat_slices(written.slices.iter().copied()), written.starts, written.tolerance);
     let mut bytes = room(written.need(version), spare[0]);
     let answer = entries::record_write(
-        version,
-        &o1,
-        vc1,
-        edition1,
-        &o2,
-        vc2,
-        edition2,
-        &s.at,
-        &s.numbers,
-        &s.editions,
-        s.count,
-        starts.pline2,
-        starts.pline1_overlapping,
-        starts.pline2_overlapping,
-        written.selector,
-        t.x,
-        t.y,
-        &mut bytes,
+        version, &o1, vc1, edition1, &o2, vc2, edition2, &s.at, &s.numbers, &s.editions, s.count, starts.pline2, starts.pline1_overlapping,
+        starts.pline2_overlapping, written.selector, t.x, t.y, &mut bytes,
     );
     Raw::of("mask_record_write", answer, vec![words![bytes]])
 }
@@ -540,17 +472,11 @@ impl RawStore {
         words![self.held, self.slice_at, self.slice, self.slice_edition]
     }
 
+    #[rustfmt::skip] // as many parameters to a line as go on it
     pub fn put(&mut self, party: u32, slice: Slice) -> Raw {
         let put = flat_slices(std::iter::once(coded(slice)));
         let answer = entries::store_put(
-            &mut self.held,
-            &mut self.slice_at,
-            &mut self.slice,
-            &mut self.slice_edition,
-            party,
-            &put.at,
-            &put.numbers,
-            put.editions[0],
+            &mut self.held, &mut self.slice_at, &mut self.slice, &mut self.slice_edition, party, &put.at, &put.numbers, put.editions[0],
         );
         Raw::of("mask_store_put", answer, vec![])
     }
@@ -560,19 +486,12 @@ impl RawStore {
         Raw::of("mask_store_release", answer, vec![])
     }
 
+    #[rustfmt::skip] // as many parameters to a line as go on it
     pub fn list(&self, party: u32) -> Raw {
         let mut handles = room(896, 0);
         let (mut at, mut slice, mut editions) = slice_room(896, NEED);
         let answer = entries::store_list(
-            &self.held,
-            &self.slice_at,
-            &self.slice,
-            &self.slice_edition,
-            party,
-            &mut handles,
-            &mut at,
-            &mut slice,
-            &mut editions,
+            &self.held, &self.slice_at, &self.slice, &self.slice_edition, party, &mut handles, &mut at, &mut slice, &mut editions,
         );
         Raw::of("mask_store_list", answer, vec![words![handles], words![at], words![slice], words![editions]])
     }
