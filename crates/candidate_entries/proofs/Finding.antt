@@ -26,7 +26,7 @@ use Rattle.candidate.specs.Ready.{Rooms, Ready, Written}
 use Rattle.candidate_write.specs.CandidateTheorems.{count-most}
 use Rattle.cut_entries.specs.CutRows.{listRows, valueRows, indexRows}
 use Rattle.cut_entries.specs.CutRowsLaws.{few-passed}
-use Rattle.candidate_entries.specs.declared.slicing.Lengths.{Lengths}
+use Rattle.candidate_faults.specs.declared.Lengths.{Lengths}
 use Rattle.candidate_entries.specs.declared.slicing.Tried.{Tried}
 use Rattle.candidate_entries.specs.declared.slicing.Tried.the-variants.{Cut, Not}
 use Rattle.candidate_entries.specs.Candidates.{alongCuts, Tries, Lent, roomsOf, lengths, laterRows, candidatesRefusal, candNumber, Sliced, Accepted, Roomed, Dated, frontsOf, InFront, FoundRoom, Few}

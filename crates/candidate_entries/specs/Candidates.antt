@@ -19,7 +19,8 @@ use Rattle.cut.specs.Order.{cutNumbers, cutPoints}
 use Rattle.candidate.specs.Candidates as slices
 use Rattle.candidate.specs.Ready.{Rooms, rooms, Roomy, Ready, Written}
 use Rattle.cut_entries.specs.CutRows.{listRows, valueRows, indexRows, FewCuts}
-use Rattle.candidate_entries.specs.declared.slicing.Lengths.{Lengths}
+use Rattle.candidate_faults.specs.declared.Lengths.{Lengths}
+use Rattle.candidate_faults.specs.CandidateRows.{splitLengthRows, splitRows, candRoomRows}
 use Rattle.candidate_entries.specs.declared.slicing.Tried.{Tried}
 use Rattle.candidate_entries.specs.declared.slicing.Tried.the-variants.{Cut, Not}
 
@@ -45,19 +46,6 @@ roomsOf l = rooms (l .at) (l .cand) (l .probe)
 -- how long the lent lists are
 abbrev pub lengths : Lent → Lengths
 lengths l = record { at = length (l .at); cand = length (l .cand); probe = length (l .probe); edition = length (l .edition) }
-
--- 1: nine numbers of splits a cut
-abbrev pub splitLengthRows : ℕ → ℕ → List Row
-splitLengthRows count len = row (lengthFault 9 len count) 1 ∷ []
-
--- 5
-abbrev pub splitRows : List Float → List Row
-splitRows splits = row (not (allWithin splits)) 5 ∷ []
-
--- 9: `cand_at` has 2 elements a cut, `cand` and `probe` have 6, `cand_edition` has 1
-abbrev pub candRoomRows : ℕ → Lengths → List Row
-candRoomRows count n =
-    row (ltb (n .at) (2 * count)) 9 ∷ row (ltb (n .cand) (6 * count)) 9 ∷ row (ltb (n .probe) (6 * count)) 9 ∷ row (ltb (n .edition) count) 9 ∷ []
 
 -- all that is looked at behind the first lists' lengths and counts, 1 to 9
 unfoldable pub laterRows : Given → List Float → Lengths → List Row

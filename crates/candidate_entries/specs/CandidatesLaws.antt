@@ -15,8 +15,9 @@ use Rattle.cut_order.specs.CutsLaws.{numbers-length, points-length, segment-bel
 use Rattle.candidate.specs.Ready.{Sound}
 use Rattle.cut_entries.specs.CutRows.{listRows, valueRows, indexRows}
 use Rattle.cut_entries.specs.CutRowsLaws.{CutsPass, cuts-pass, cuts-accepted}
-use Rattle.candidate_entries.specs.declared.slicing.Lengths.{Lengths}
-use Rattle.candidate_entries.specs.Candidates.{alongCuts, Lent, roomsOf, lengths, splitLengthRows, splitRows, candRoomRows, laterRows, candidatesRows, candidatesRefusal, candNumber, Along, Accepted}
+use Rattle.candidate_faults.specs.declared.Lengths.{Lengths}
+use Rattle.candidate_faults.specs.CandidateRows.{splitLengthRows, splitRows, candRoomRows}
+use Rattle.candidate_entries.specs.Candidates.{alongCuts, Lent, roomsOf, lengths, laterRows, candidatesRows, candidatesRefusal, candNumber, Along, Accepted}
 
 -- the rows without a fault, one by one
 pub record SplitsPass (g : Given) (splits : List Float) (lent : Lengths) : Type 0 where

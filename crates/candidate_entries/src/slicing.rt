@@ -6,55 +6,21 @@ ghost use Rattle.basis.specs.Refuse.{firstFrom};
 ghost use Rattle.cut.specs.Cuts.{given, caseOf};
 ghost use Rattle.candidate.specs.Ready.{rooms, Written};
 ghost use Rattle.cut_entries.specs.CutRows.{FewCuts};
-ghost use Rattle.candidate_entries.specs.Candidates.{alongCuts, lent, frontsOf, InFront, splitLengthRows, splitRows, candRoomRows, laterRows, candidatesRefusal, Accepted, Roomed, Dated, Sliced, FoundRoom, Few, Tries};
+ghost use Rattle.candidate_entries.specs.Candidates.{alongCuts, lent, frontsOf, InFront, laterRows, candidatesRefusal, Accepted, Roomed, Dated, Sliced, FoundRoom, Few, Tries};
 use basis::answer;
 use basis::answer::CountAnswer;
-use basis::number;
 use basis::number::Tolerance;
-use basis::refuse;
 use basis::sizes::MOST_CANDIDATES;
+use candidate_faults::Lengths;
 use candidate_write::write;
 use cut::arrival::Case;
 use cut_entries::faults;
 use cut_order::along;
 
-// How long the four lent lists are.
-pub struct Lengths {
-    pub at: usize,
-    pub cand: usize,
-    pub probe: usize,
-    pub edition: usize,
-}
-
 // What came of the order that is told: so many candidates, or nothing, as it is not the order.
 pub enum Tried {
     Cut(usize),
     Not,
-}
-
-// Number 1, of the splits, for so many cuts.
-fn split_length_refusal(count: usize, len: usize) -> u32
-    ensures { λ n. ⌜ n ≡ firstFrom 0 (splitLengthRows count len) ⌝ }
-{
-    refuse::or_else(0, refuse::bad_length(len, 9, count), 1)
-}
-
-// Number 5, of the splits.
-fn split_refusal(r: u32, splits: &[f64]) -> u32
-    ensures { λ n. ⌜ n ≡ firstFrom r (splitRows (now (splits .entry))) ⌝ }
-{
-    refuse::or_else(r, !number::all_in_range(splits), 5)
-}
-
-// Number 9, for so many cuts.
-fn room_refusal(r: u32, count: usize, lent: Lengths) -> u32
-    requires { ⌜ FewCuts count ⌝ }
-    ensures { λ n. ⌜ n ≡ firstFrom r (candRoomRows count lent) ⌝ }
-{
-    let r = refuse::or_else(r, lent.at < 2 * count, 9);
-    let r = refuse::or_else(r, lent.cand < 6 * count, 9);
-    let r = refuse::or_else(r, lent.probe < 6 * count, 9);
-    refuse::or_else(r, lent.edition < count, 9)
 }
 
 // What is looked at behind the first lists' lengths and counts, once these are right: there are few cuts.
@@ -71,11 +37,11 @@ fn later_refusal(
     requires { ⌜ FewCuts (s .hits + 2 * s .laps) ⌝ }
     ensures { λ r. ⌜ r ≡ firstFrom 0 (laterRows (given (now (outline .entry)) (now («hit_at» .entry)) (now (hit .entry)) (now («lap_at» .entry)) (now (lap .entry)) s) (now (splits .entry)) lent) ⌝ }
 {
-    let r = split_length_refusal(s.hits + 2 * s.laps, splits.len());
+    let r = candidate_faults::split_length_refusal(s.hits + 2 * s.laps, splits.len());
     let r = faults::value_refusal(r, outline, hit_at, hit, lap_at, lap, s);
-    let r = split_refusal(r, splits);
+    let r = candidate_faults::split_refusal(r, splits);
     let r = faults::index_refusal(r, outline, hit_at, hit, lap_at, lap, s);
-    room_refusal(r, s.hits + 2 * s.laps, lent)
+    candidate_faults::room_refusal(r, s.hits + 2 * s.laps, lent)
 }
 
 // All numbers. Number 10 is proved never to be given, so nothing is looked at for it.

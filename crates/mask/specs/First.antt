@@ -27,7 +27,7 @@ use Rattle.unmoved_entries.specs.UnmovedEntry.{unmovedRows, unmovedRefusal}
 use Rattle.cut.specs.Cuts as cuts
 use Rattle.cut_entries.specs.CutRows.{listRows, valueRows, indexRows}
 use Rattle.cut_entries.specs.CutOrder.{cutInputRows, cutOrderRows, cutOrderRefusal}
-use Rattle.candidate_entries.specs.declared.slicing.Lengths as candidate
+use Rattle.candidate_faults.specs.declared.Lengths as candidate
 use Rattle.candidate_entries.specs.Candidates.{laterRows, candidatesRows, candidatesRefusal}
 use Rattle.prune.specs.Prune as Prune
 use Rattle.prune_entries.specs.PruneEntry.{inputRows, lentRows, pruneRefusal}

@@ -1,8 +1,8 @@
 use Rattle.basis.specs.Refuse.{firstFrom}
 use Rattle.basis.specs.RefuseLaws.{rows}
 use borrow.Author.Needs.{needs}
-use Rattle.candidate_entries.proofs.slicing.room_refusal.Statement.{statement}
-use Rattle.candidate_entries.proofs.slicing.room_refusal.Tie as tie
+use Rattle.candidate_faults.proofs.room_refusal.Statement.{statement}
+use Rattle.candidate_faults.proofs.room_refusal.Tie as tie
 
 pub room-refusal-spec : {M : Type 1} → statement M
 unfolding firstFrom
