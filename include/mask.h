@@ -56,9 +56,9 @@ extern "C" {
 #endif
 
 /* This library's version. */
-#define MASK_VERSION "0.6.0"
+#define MASK_VERSION "0.7.0"
 #define MASK_VERSION_MAJOR 0
-#define MASK_VERSION_MINOR 6
+#define MASK_VERSION_MINOR 7
 #define MASK_VERSION_PATCH 0
 
 /* Widths: how many elements an item of a list has. */
