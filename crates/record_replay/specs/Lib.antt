@@ -1,4 +1,3 @@
 pub mod Replayed
 pub mod Ready
-pub mod ReplayLaws
 pub mod ReplayTheorems

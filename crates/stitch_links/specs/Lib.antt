@@ -4,6 +4,5 @@ pub mod Ready
 pub mod LinkLaws
 pub mod LoopLaws
 pub mod BlockLaws
-pub mod RowLaws
 pub mod Hung
 pub mod Hanging

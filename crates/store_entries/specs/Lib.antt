@@ -3,5 +3,4 @@ pub mod StoreRows
 pub mod StoreEntry
 pub mod StoreTheorems
 pub mod PartyTheorems
-pub mod StoreEntryLaws
 pub mod Examples

@@ -1,7 +1,6 @@
 pub mod Microdegrees
 pub mod MicrodegreesLaws
 pub mod Straight
-pub mod StraightLaws
 pub mod KnownLaws
 pub mod Splits
 pub mod SplitsLaws

@@ -1,7 +1,7 @@
 use borrow.Author.Needs.{needs}
 use native.Mathlib.Omega.{arith}
 use mathlib.Core.Path.{refl}
-use Rattle.record_replay.specs.ReplayLaws.{seen-form, version-fits, held-fits, replay-refused, replay-stitched}
+use Rattle.record_replay.proofs.ReplayLaws.{seen-form, version-fits, held-fits, replay-refused, replay-stitched}
 use Rattle.record_replay.proofs.replay.replay.Statement.{statement}
 use Rattle.record_replay.proofs.replay.replay.Tie as tie
 

@@ -1,6 +1,6 @@
 use borrow.Author.Needs.{needs}
 use native.Mathlib.Omega.{arith}
-use Rattle.record_replay.specs.ReplayLaws.{fronts-of}
+use Rattle.record_replay.proofs.ReplayLaws.{fronts-of}
 use Rattle.record_replay.proofs.replay.stitch_held.Statement.{statement}
 use Rattle.record_replay.proofs.replay.stitch_held.Tie as tie
 

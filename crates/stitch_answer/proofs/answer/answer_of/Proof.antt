@@ -1,4 +1,4 @@
-use Rattle.stitch_answer.specs.AnswerLaws.{asking-ready, asking-answered}
+use Rattle.stitch_answer.proofs.AnswerLaws.{asking-ready, asking-answered}
 use borrow.Author.Needs.{needs}
 use Rattle.stitch_answer.proofs.answer.answer_of.Statement.{statement}
 use Rattle.stitch_answer.proofs.answer.answer_of.Tie as tie

@@ -1,5 +1,5 @@
 use native.Mathlib.Omega.{arith}
-use Rattle.stitch_answer.specs.LookLaws.{asked-first, asked-again, chosen-first, chosen-second, none-chosen, overlap-refused, overlap-chosen, first-few}
+use Rattle.stitch_answer.proofs.LookLaws.{asked-first, asked-again, chosen-first, chosen-second, none-chosen, overlap-refused, overlap-chosen, first-few}
 use borrow.Author.Needs.{needs}
 use Rattle.stitch_answer.proofs.answer.by_groups.Statement.{statement}
 use Rattle.stitch_answer.proofs.answer.by_groups.Tie as tie

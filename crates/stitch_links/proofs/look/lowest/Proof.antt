@@ -1,4 +1,4 @@
-use Rattle.stitch_links.specs.RowLaws.{rows-of, lowest-of}
+use Rattle.stitch_links.proofs.RowLaws.{rows-of, lowest-of}
 use borrow.Author.Needs.{needs}
 use Rattle.stitch_links.proofs.look.lowest.Statement.{statement}
 use Rattle.stitch_links.proofs.look.lowest.Tie as tie

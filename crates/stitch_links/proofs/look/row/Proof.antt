@@ -1,6 +1,6 @@
 use native.Mathlib.Omega.{arith}
 use Prim.Native.Nat.{_+_, _-_}
-use Rattle.stitch_links.specs.RowLaws.{Swept, swept-row, swept-list, swept-up, row-end}
+use Rattle.stitch_links.proofs.RowLaws.{Swept, swept-row, swept-list, swept-up, row-end}
 use borrow.Author.Needs.{needs}
 use Rattle.stitch_links.proofs.look.row.Statement.{statement}
 use Rattle.stitch_links.proofs.look.row.Tie as tie

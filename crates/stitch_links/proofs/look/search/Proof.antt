@@ -1,7 +1,7 @@
 use mathlib.Core.Path.{_≡_, refl}
 use native.Mathlib.Omega.{arith}
 use Prim.Native.Nat.{_+_, _-_}
-use Rattle.stitch_links.specs.RowLaws.{Swept, swept-rows, swept-on, rows-end}
+use Rattle.stitch_links.proofs.RowLaws.{Swept, swept-rows, swept-on, rows-end}
 use borrow.Author.Needs.{needs}
 use Rattle.stitch_links.proofs.look.search.Statement.{statement}
 use Rattle.stitch_links.proofs.look.search.Tie as tie

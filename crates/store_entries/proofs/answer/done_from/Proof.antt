@@ -1,4 +1,4 @@
-use Rattle.store_entries.specs.StoreEntryLaws.{done-yes, done-no}
+use Rattle.store_entries.proofs.StoreEntryLaws.{done-yes, done-no}
 use borrow.Author.Needs.{needs}
 use Rattle.store_entries.proofs.answer.done_from.Statement.{statement}
 use Rattle.store_entries.proofs.answer.done_from.Tie as tie

@@ -1,4 +1,4 @@
-use Rattle.store_entries.specs.StoreEntryLaws.{handle-given, handle-full}
+use Rattle.store_entries.proofs.StoreEntryLaws.{handle-given, handle-full}
 use borrow.Author.Needs.{needs}
 use Rattle.store_entries.proofs.answer.handle_from.Statement.{statement}
 use Rattle.store_entries.proofs.answer.handle_from.Tie as tie

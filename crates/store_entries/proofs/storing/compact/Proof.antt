@@ -1,4 +1,4 @@
-use Rattle.store_entries.specs.StoreEntryLaws.{compact-refused, compact-fits, compact-given}
+use Rattle.store_entries.proofs.StoreEntryLaws.{compact-refused, compact-fits, compact-given}
 use borrow.Author.Needs.{needs}
 use Rattle.store_entries.proofs.storing.compact.Statement.{statement}
 use Rattle.store_entries.proofs.storing.compact.Tie as tie

@@ -1,4 +1,4 @@
-use Rattle.store_entries.specs.StoreEntryLaws.{list-refused, list-fits, list-given}
+use Rattle.store_entries.proofs.StoreEntryLaws.{list-refused, list-fits, list-given}
 use borrow.Author.Needs.{needs}
 use Rattle.store_entries.proofs.storing.list.Statement.{statement}
 use Rattle.store_entries.proofs.storing.list.Tie as tie

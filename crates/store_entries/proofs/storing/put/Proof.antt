@@ -1,4 +1,4 @@
-use Rattle.store_entries.specs.StoreEntryLaws.{put-refused, put-fits, put-given}
+use Rattle.store_entries.proofs.StoreEntryLaws.{put-refused, put-fits, put-given}
 use borrow.Author.Needs.{needs}
 use Rattle.store_entries.proofs.storing.put.Statement.{statement}
 use Rattle.store_entries.proofs.storing.put.Tie as tie

@@ -1,4 +1,4 @@
-use Rattle.store_entries.specs.StoreEntryLaws.{release-refused, release-fits, release-given}
+use Rattle.store_entries.proofs.StoreEntryLaws.{release-refused, release-fits, release-given}
 use borrow.Author.Needs.{needs}
 use Rattle.store_entries.proofs.storing.release.Statement.{statement}
 use Rattle.store_entries.proofs.storing.release.Tie as tie

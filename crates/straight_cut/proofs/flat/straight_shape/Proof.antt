@@ -1,4 +1,4 @@
-use Rattle.straight_cut.specs.StraightLaws.{shape-is}
+use Rattle.straight_cut.proofs.StraightLaws.{shape-is}
 use borrow.Author.Needs.{needs}
 use Rattle.straight_cut.proofs.flat.straight_shape.Statement.{statement}
 use Rattle.straight_cut.proofs.flat.straight_shape.Tie as tie

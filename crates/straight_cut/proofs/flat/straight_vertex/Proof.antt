@@ -1,4 +1,4 @@
-use Rattle.straight_cut.specs.StraightLaws.{vertex-is}
+use Rattle.straight_cut.proofs.StraightLaws.{vertex-is}
 use borrow.Author.Needs.{needs}
 use Rattle.straight_cut.proofs.flat.straight_vertex.Statement.{statement}
 use Rattle.straight_cut.proofs.flat.straight_vertex.Tie as tie
