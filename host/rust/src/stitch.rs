@@ -156,7 +156,8 @@ fn part<'a, T>(list: &'a [T], ends: &[usize], index: usize) -> Option<&'a [T]> {
 /// The tolerances are those of the setting.
 ///
 /// Refusals: `Length`, `Outline`, `UnknownSetting`, `Tolerance`, `Number`, `Index`, `Count`,
-/// `Starts`, `Edition`.
+/// `Starts`, `Edition`; and `Code` where the slices were listed by a store whose memory no store wrote
+/// ([`Store::from_bytes`](crate::Store::from_bytes)).
 pub fn stitch(
     pline1: &Outline,
     pline2: &Outline,
