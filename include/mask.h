@@ -18,7 +18,7 @@
  *
  * Positions are compared with two tolerances, `tolerance_x` for x and `tolerance_y` for y,
  * each above 0 and at most 1. Two points agree where they differ by less than that, on
- * each axis. Where one tolerance will do, give it twice.
+ * each axis. Where one tolerance is enough, give it twice.
  *
  * An outline has an edition, a number of 32 bits. The host gives it, and gives another
  * one whenever it changes the outline; 0 is one like any other. What is cut from an

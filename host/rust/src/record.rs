@@ -139,7 +139,7 @@ impl Record {
         })
     }
 
-    /// What a call writes that is lent room for the most.
+    /// What a call writes that is lent room for the longest record.
     fn written(call: impl FnOnce(&mut [u8]) -> Result<usize, Refusal>) -> Result<Record, Refusal> {
         let mut bytes = vec![0; Record::MOST_BYTES];
         let length = call(&mut bytes)?;

@@ -124,7 +124,7 @@ impl Refusal {
             Refusal::Count => (7, "an offset or a traverse count is out of range"),
             Refusal::Starts => (
                 8,
-                "the starts of the classes fall back, or lie past the slices",
+                "the starts of the classes are not in order, or lie past the slices",
             ),
             Refusal::Room => (9, "lent room is smaller than the need"),
             Refusal::Mark => (11, "a record does not begin with its mark, PBR"),

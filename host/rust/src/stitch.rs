@@ -170,8 +170,8 @@ pub fn stitch(
     Ok(lists.keep(counts))
 }
 
-/// The need of a call that is not refused for its slices: their number or their offsets. Else
-/// any room will do.
+/// The need of a call that is not refused for its slices: their number or their offsets. For a
+/// call that is refused, any room is enough.
 fn room_for_vertices(slices: &Slices) -> usize {
     if slices.len() > MOST_SLICES || slices.iter().any(out_of_range) {
         return 0;
