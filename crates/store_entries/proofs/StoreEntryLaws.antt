@@ -16,7 +16,7 @@ use Rattle.basis.specs.RefuseLaws.{numbered, Clear, clear, clear-left, clear-ri
 use Rattle.store_write.specs.declared.keep.Handle.{Handle}
 use Rattle.store_write.specs.declared.keep.Handle.the-variants.{Given, Full}
 use Rattle.store.specs.Keys.{keyed}
-use Rattle.store.specs.Machine.{Turn, turn}
+use Rattle.basis.specs.Machine.{Turn, turn}
 use Rattle.store.specs.Slice.{Slice, sliceOf}
 use Rattle.store.specs.Plain.{put, release, list, compact, Answer, refused, given, done, listed}
 use Rattle.store.specs.Blocks.{block}

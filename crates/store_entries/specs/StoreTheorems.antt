@@ -12,7 +12,7 @@ use Rattle.basis.specs.Choice.{by-test}
 use Rattle.basis.specs.Refuse.{Row, row, firstOf, answer, lengthFault}
 use Rattle.basis.specs.RefuseLaws.{numbered, Clear, clear, clear-both, clear-left, first-found, first-later, length-ok, ok-length}
 use Rattle.store.specs.Keys.{keyed}
-use Rattle.store.specs.Machine.{Turn, turn, answers, after, Alike, all-alike, all-mean}
+use Rattle.basis.specs.Machine.{Turn, turn, answers, after, Alike, all-alike, all-mean}
 use Rattle.store.specs.Slice.{Slice, Whole}
 use Rattle.store.specs.Plain.{Kept, has, put, release, list, compact, Answer, refused, given, done, listed, plainStep, freeHandle}
 use Rattle.store.specs.Marks.{handleOf}
