@@ -22,7 +22,7 @@ fn count_of(area: f64, limit: f64) -> usize
 }
 
 // Writes the numbers of the loops that stay, in order, then 0 up to one entry per loop, and says how many there are. Each number is written behind those that stay, and
-// the next goes over it where its loop does not; so nothing hangs on a guess of which loops stay. Each place is set to 0 on the way, so there is no second pass.
+// the next goes over it where its loop does not; so no branch here depends on which loops stay. Each place is set to 0 on the way, so there is no second pass.
 pub fn write_kept(areas: &[f64], limit: f64, kept: &mut [usize]) -> usize
     requires { ⌜ Roomy (now areas) limit (now kept) ⌝ }
     ensures { λ r. ⌜ Kept (now (areas .entry)) limit (now (kept .entry)) r (now (kept .exit)) ⌝ }

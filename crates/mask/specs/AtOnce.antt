@@ -57,7 +57,7 @@ use Rattle.straight_slices.specs.Slices.{Given, firstCuts, secondCuts, pruning,
 use Rattle.straight_slices.specs.Rows as rows
 use Rattle.straight_slices.specs.Rows.{slicesRefusal, slicesNumber, SlicesLeft}
 
--- ---- `mask_straight_winding` accepts every outline and every doubled midpoint that comes of it
+-- ---- `mask_straight_winding` accepts every outline and every doubled midpoint of a candidate's two vertices
 
 near-reach : (m : ℕ) (z : ℤ) → Near m z → inReach m z ≡ true
 unfolding inReach

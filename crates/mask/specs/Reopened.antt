@@ -1,4 +1,4 @@
--- K3: what a reopened slice is in a stitch. "Only "valid" gives the slice the new edition": from then on it is a slice of the new outline, and neither 6 nor 7 nor 14 comes of it.
+-- K3: what a reopened slice is in a stitch. "Only "valid" gives the slice the new edition": from then on it is a slice of the new outline, and it causes neither 6 nor 7 nor 14.
 use Prim.Native.Nat.{ℕ, _*_, _≤_, _<_}
 use mathlib.Core.Bool.{true, not}
 use mathlib.Core.Path.{_≡_, sym, ap, subst, _∙_}
@@ -69,7 +69,7 @@ module _ (g : Given) (e : Editions) (i : ℕ) (re : Reopened g e i) where
   unfolding offsetInside
   reopened-offset = le-leb (codesAt (g .sliceAt) i .offset) vc (subst (λ (n : ℕ). n ≤ vc) (sym (re .offset)) (fit .reaches))
 
-  -- so where each other slice has its own number in order, the stitch is not refused with that number: it does not come of the reopened slice
+  -- so where each other slice has its own number in order, the stitch is not refused with that number: the reopened slice does not cause it
   module _ (h : Held) (setting : ℕ) (l : Lengths) (whole : length (g .sliceAt) ≡ codeWidth * g .slices) where
     abbrev Others : (ℕ → Type 0) → Type 0
     Others P = (j : ℕ) → j < g .slices → (j ≡ i → ⊥) → P j

@@ -42,7 +42,7 @@ pub extern "C" fn mask_cut_order(
 }
 
 // The candidates of the outline that the source names: the pieces between neighbouring cuts, and the walks from a segment's last cut to the next segment that has one.
-// Beside each stands the outline's edition. No order is handed on.
+// Beside each stands the outline's edition. It is `mask_candidates_along` with an empty hint.
 #[no_mangle]
 pub extern "C" fn mask_candidates(
     outline: &[f64],

@@ -105,7 +105,7 @@ pub extern "C" fn mask_from_entire_pline(outline: &[f64], vc: usize, closed: u32
     view_entries::entire::entry(outline, vc, closed)
 }
 
-// The verdict on view data over an outline, with the host's answers whether the start and the end lie on their segments. The view is one of the outline's edition.
+// The verdict on view data over an outline, with the host's answers whether the start and the end lie on their segments. A view of another edition than the outline's is refused (14).
 #[no_mangle]
 pub extern "C" fn mask_validate_for_source(
     outline: &[f64],

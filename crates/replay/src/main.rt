@@ -1,4 +1,4 @@
-// Runs an archived stitch again: reads the record in the file that the argument names, or from standard input where there is none, and prints what came of it.
+// Runs an archived stitch again: reads the record in the file that the argument names, or from standard input where there is none, and prints the outcome.
 // What cannot be read, and a second name, is said on standard error, and then nothing is printed.
 mod read;
 mod show;

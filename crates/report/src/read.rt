@@ -36,7 +36,7 @@ fn read_some(fd: i32, s: State, points: &mut [i64]) -> State
     take_all(s, points, &buf[..n])
 }
 
-// A proved loop ends, and nothing says that an input does: the turns are counted down, from a number that no run uses up.
+// A proved loop must end, and an input need not. So the turns are counted down, from a number that no run reaches.
 fn read_all(fd: i32, points: &mut [i64]) -> State
     ensures { λ r. ⌜ Reported (r .«so_far») ⌝ }
 {

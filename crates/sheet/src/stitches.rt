@@ -107,7 +107,7 @@ fn joined(
     )
 }
 
-// What came of a stitch: the rounds, and the loop where there is one.
+// The outcome of a stitch: the rounds, and the loop where there is one.
 fn show_stitched(answer: StitchAnswer, room: &[f64], end: usize) {
     if answer.refusal != 0 {
         print::refused(answer.refusal);
@@ -132,7 +132,7 @@ fn show_room(numbers: usize) {
     print::word(b": ");
 }
 
-// Stitches slices of the two squares by a setting with this tolerance on both axes, and says what came of it.
+// Stitches slices of the two squares by a setting with this tolerance on both axes, and says the outcome.
 pub(crate) fn stitch(
     slice_at: &[usize],
     slice: &[f64],

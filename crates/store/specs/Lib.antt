@@ -1,6 +1,5 @@
 pub mod Keys
 pub mod KeysLaws
-pub mod Machine
 pub mod Slice
 pub mod Plain
 pub mod Blocks

@@ -9,7 +9,7 @@ use lib.Dec.{eqb}
 use lib.Ieee.{Float}
 use Rattle.basis.specs.Number.{+0}
 use Rattle.store.specs.Keys.{keyed, without, lowestFrom}
-use Rattle.store.specs.Machine.{Turn, turn}
+use Rattle.basis.specs.Machine.{Turn, turn}
 use Rattle.store.specs.Slice.{Slice}
 use Rattle.store.specs.Plain.{Kept, Call, put, release, list, compact, Answer, refused, given, done, listed}
 use Rattle.store.specs.Blocks.{block}

@@ -5,7 +5,7 @@ use mathlib.Core.List.{List, [], _∷_, _++_}
 use lib.ListN.{length}
 use lib.Dec.{eqb}
 use Rattle.store.specs.Keys.{keyed, without, lowestFrom}
-use Rattle.store.specs.Machine.{Turn, turn}
+use Rattle.basis.specs.Machine.{Turn, turn}
 
 -- a live slice, with the handle that it keeps "until released"
 pub record Kept (A : Type 0) : Type 0 where

@@ -9,7 +9,7 @@ use lib.Dec.{eqb}
 use borrow.Author.Tests.{eqb-false}
 use Rattle.basis.specs.Choice.{by-test}
 use Rattle.store.specs.Keys.{keyed}
-use Rattle.store.specs.Machine.{answers, after, Alike, all-alike, all-mean}
+use Rattle.basis.specs.Machine.{answers, after, Alike, all-alike, all-mean}
 use Rattle.store.specs.Slice.{Slice, Whole}
 use Rattle.store.specs.Plain.{Kept, has, Call, put, release, list, compact, plainStep}
 use Rattle.store.specs.Marks.{handleOf}

@@ -16,7 +16,7 @@ use Rattle.basis.specs.RefuseLaws.{numbered, Clear, clear, clear-left, clear-ri
 use Rattle.store_write.specs.declared.keep.Handle.{Handle}
 use Rattle.store_write.specs.declared.keep.Handle.the-variants.{Given, Full}
 use Rattle.store.specs.Keys.{keyed}
-use Rattle.store.specs.Machine.{Turn, turn}
+use Rattle.basis.specs.Machine.{Turn, turn}
 use Rattle.store.specs.Slice.{Slice, sliceOf}
 use Rattle.store.specs.Plain.{put, release, list, compact, Answer, refused, given, done, listed}
 use Rattle.store.specs.Blocks.{block}
@@ -165,9 +165,6 @@ module _ (held at : List ℕ) (shape : List Float) (edition : List ℕ) where
     release-given k found r held′ z t x =
         left-given doneAnswer (lists held at shape edition) (called q (toRelease k)) n r (lists held′ at shape edition) (release-number k) z (x ∙ said) left-is
       where
-        f : PartFits (lists held at shape edition) q
-        f = fits-both z
-
         same : doneFrom (keyed handleOf (livesOf share (block share held q)) k) ≡ doneAnswer (partyStep share q (lists held at shape edition) (callOf (toRelease k)) .answer)
         same = unfold callOf partyStep partOf listStep in by-test (keyed handleOf (livesOf share (block share held q)) k) (λ y. rw y) (λ y. rw y)
 
@@ -175,7 +172,7 @@ module _ (held at : List ℕ) (shape : List Float) (edition : List ℕ) where
         said = ap doneFrom (t .found) ∙ same
 
         left-is : lists held′ at shape edition ≡ partyStep share q (lists held at shape edition) (callOf (toRelease k)) .left
-        left-is = unfold callOf in released-left (lists held at shape edition) q k held′ f t
+        left-is = unfold callOf in released-left (lists held at shape edition) q k held′ t
 
     pub compact-refused : (r : DoneAnswer) → (n ≡ 0 → ⊥) → r ≡ doneRefused n → StoreLeft doneAnswer (lists held at shape edition) (called q toCompact) r (lists held at shape edition)
     compact-refused r h x = left-refused doneAnswer (lists held at shape edition) (called q toCompact) n r compact-number h x

@@ -3,7 +3,7 @@ use Prim.Native.Nat.{ℕ}
 use mathlib.Core.Path.{_≡_, refl}
 use mathlib.Core.List.{List, [], _∷_}
 use Rattle.store.specs.Keys.{keyed, without, lowestFrom}
-use Rattle.store.specs.Machine.{answers}
+use Rattle.basis.specs.Machine.{answers}
 use Rattle.store.specs.Plain.{Kept, kept, put, release, list, compact, refused, given, done, listed, plainStep}
 use Rattle.store.specs.Marks.{markOf, handleOf, placeOf, named, fresh, thenLive, livesTo}
 

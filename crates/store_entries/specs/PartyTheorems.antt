@@ -10,7 +10,7 @@ use borrow.Author.Tests.{eqb-true, eqb-false, ne-eqb, ltb-true, ltb-false, lt-lt
 use Rattle.basis.specs.Choice.{by-test, T-left, T-right, true-of}
 use Rattle.basis.specs.Refuse.{Row, row, firstOf, answer}
 use Rattle.basis.specs.RefuseLaws.{Clear, clear, clear-both, first-found, first-later, none-clear}
-use Rattle.store.specs.Machine.{Turn, turn, answers}
+use Rattle.basis.specs.Machine.{Turn, turn, answers}
 use Rattle.store.specs.Slice.{Slice}
 use Rattle.store.specs.Plain.{Kept, has, Answer, refused, plainStep}
 use Rattle.store.specs.Lists.{Lists, Sized, livesIn, plainOf, listStep}

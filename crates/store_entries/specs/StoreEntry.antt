@@ -8,7 +8,7 @@ use lib.Dec.{eqb}
 use Rattle.basis.specs.declared.answer.CountAnswer.{CountAnswer}
 use Rattle.basis.specs.Refuse.{Row, row, firstOf, answer}
 use Rattle.store.specs.Keys.{keyed}
-use Rattle.store.specs.Machine.{Turn, turn}
+use Rattle.basis.specs.Machine.{Turn, turn}
 use Rattle.store.specs.Slice.{Slice}
 use Rattle.store.specs.Plain.{Kept, Call, put, release, list, compact, Answer, refused, given, done, listed, plainStep}
 use Rattle.store.specs.Marks.{handleOf}

@@ -1,5 +1,5 @@
--- K9: "Whatever the sequence of calls, it answers as a plain list would", for every content of lists of any number of places, refused calls included; and the whole table of
--- an entry's refusals.
+-- K9: "Whatever the sequence of calls, it answers as a plain list would", for every content of lists of any number of places, refused calls included; the whole table of
+-- an entry's refusals; and that a refusal leaves every list as it was.
 use Prim.Native.Nat.{ℕ, zero, suc, _*_, _≤_, _<_}
 use mathlib.Core.Bool.{Bool, true, false, not}
 use mathlib.Core.Path.{_≡_, refl, sym, ap, _∙_}
@@ -8,21 +8,27 @@ use native.Mathlib.Omega.{arith}
 use lib.ListN.{length, getD}
 use lib.Dec.{T, eqb}
 use borrow.Author.Tests.{eqb-true, eqb-false, eq-eqb, ne-eqb}
+use Rattle.basis.specs.declared.answer.CountAnswer.{CountAnswer}
 use Rattle.basis.specs.Choice.{by-test}
 use Rattle.basis.specs.Refuse.{Row, row, firstOf, answer, lengthFault}
 use Rattle.basis.specs.RefuseLaws.{numbered, Clear, clear, clear-both, clear-left, first-found, first-later, length-ok, ok-length}
 use Rattle.store.specs.Keys.{keyed}
-use Rattle.store.specs.Machine.{Turn, turn, answers, after, Alike, all-alike, all-mean}
+use Rattle.basis.specs.Machine.{Turn, turn, answers, after, Alike, all-alike, all-mean}
 use Rattle.store.specs.Slice.{Slice, Whole}
 use Rattle.store.specs.Plain.{Kept, has, put, release, list, compact, Answer, refused, given, done, listed, plainStep, freeHandle}
 use Rattle.store.specs.Marks.{handleOf}
 use Rattle.store.specs.Lists.{Lists, Sized, livesIn, plainOf, listStep}
 use Rattle.store.specs.ListsLaws.{plain-length, plain-has, empty-plain}
 use Rattle.store.specs.Refines.{Sound, sound-put, sound-release, sound-list, sound-compact, alike}
+use Rattle.store_write.specs.Calls.{Rooms}
 use Rattle.store_party.specs.Parties.{partOf, partyStep}
+use Rattle.store_party.specs.PartiesLaws.{rejoined-same}
 use Rattle.store_party.specs.Ready.{share}
+use Rattle.store_entries.specs.declared.answer.HandleAnswer.{HandleAnswer}
+use Rattle.store_entries.specs.declared.answer.DoneAnswer.{DoneAnswer}
+use Rattle.store_entries.specs.Answers.{handleAnswer, doneAnswer, countAnswer}
 use Rattle.store_entries.specs.StoreRows.{places, sliceRows, partyRows}
-use Rattle.store_entries.specs.StoreEntry.{Asked, toPut, toRelease, toList, toCompact, callOf, ownRows, askedTurn, plainTurn, Called, listsRows, callRows, callRefusal, storeTurn, lastRows, wholeRows, refusalIn}
+use Rattle.store_entries.specs.StoreEntry.{Asked, toPut, toRelease, toList, toCompact, callOf, ownRows, askedTurn, plainTurn, Called, called, listsRows, callRows, callRefusal, storeTurn, StoreLeft, shownBy, listTurn, ListLeft, lastRows, wholeRows, refusalIn}
 
 -- ---- lists of the right lengths are not refused by number 1
 
@@ -113,3 +119,70 @@ whole-table w v = go (firstOf (callRows w v)) refl
         last-number share (partOf share (v .party) w) (v .asked)
         ∙ sym (first-later (callRows w v) (lastRows share (partOf share (v .party) w) (v .asked)) (clear (callRows w v) (numbered-call w v) e))
     go (suc n) e = unfold answer refusalIn in sym (first-found (callRows w v) (lastRows share (partOf share (v .party) w) (v .asked)) (λ z. let q : suc n ≡ 0 = sym e ∙ z in omega arith) ∙ e)
+
+-- ---- "nothing lent is written": a refused call leaves every list as it was, all of it, and not only the party's part
+
+step-refused : (cap : ℕ) (s : Lists) (a : Asked) → (refusalIn (listStep cap s (callOf a) .answer) ≡ 0 → ⊥) → listStep cap s (callOf a) .left ≡ s
+unfolding refusalIn listStep callOf
+step-refused cap s (toPut x) h = by-test (eqb (length (livesIn cap s)) cap) (λ e. rw e) (λ e. absurd (h (rw e)))
+step-refused cap s (toRelease k) h = by-test (keyed handleOf (livesIn cap s) k) (λ e. absurd (h (rw e))) (λ e. rw e)
+step-refused cap s (toList k a s′ d) h = refl
+step-refused cap s toCompact h = absurd (h refl)
+
+pub turn-refused : (w : Lists) (v : Called) → (refusalIn (storeTurn w v .answer) ≡ 0 → ⊥) → storeTurn w v .left ≡ w
+unfolding storeTurn answer partyStep
+turn-refused w v = go (callRefusal w v)
+  where
+    go : (n : ℕ) → (refusalIn (answer (λ k. turn (refused k) w) n (partyStep share (v .party) w (callOf (v .asked))) .answer) ≡ 0 → ⊥)
+        → answer (λ k. turn (refused k) w) n (partyStep share (v .party) w (callOf (v .asked))) .left ≡ w
+    go zero h = rw (step-refused share (partOf share (v .party) w) (v .asked) h) (rejoined-same share (v .party) w)
+    go (suc n) h = refl
+
+shown-refused : (a : Answer Slice) (o : Rooms) → (refusalIn a ≡ 0 → ⊥) → shownBy a o ≡ o
+unfolding shownBy refusalIn
+shown-refused (refused n) o h = refl
+shown-refused (given k) o h = refl
+shown-refused done o h = refl
+shown-refused (listed l) o h = absurd (h refl)
+
+-- the number of each entry's answer is the one that the store gives
+
+handle-number : (a : Answer Slice) → handleAnswer a .refusal ≡ refusalIn a
+unfolding refusalIn
+handle-number (refused n) = refl
+handle-number (given k) = refl
+handle-number done = refl
+handle-number (listed l) = refl
+
+done-number : (a : Answer Slice) → doneAnswer a .refusal ≡ refusalIn a
+unfolding refusalIn
+done-number (refused n) = refl
+done-number (given k) = refl
+done-number done = refl
+done-number (listed l) = refl
+
+count-number : (a : Answer Slice) → countAnswer a .refusal ≡ refusalIn a
+unfolding refusalIn
+count-number (refused n) = refl
+count-number (given k) = refl
+count-number done = refl
+count-number (listed l) = refl
+
+-- ---- of each entry, from its contract alone: whatever number other than 0 it gives, each list is at exit what it was at entry
+
+pub put-untouched : (w : Lists) (p : ℕ) (x : Slice) (r : HandleAnswer) (left : Lists) → StoreLeft handleAnswer w (called p (toPut x)) r left → (r .refusal ≡ 0 → ⊥) → left ≡ w
+put-untouched w p x r left holds some =
+    holds .lists ∙ turn-refused w (called p (toPut x)) (λ z. some (ap (λ (a : HandleAnswer). a .refusal) (holds .answers) ∙ handle-number (storeTurn w (called p (toPut x)) .answer) ∙ z))
+
+pub release-untouched : (w : Lists) (p k : ℕ) (r : DoneAnswer) (left : Lists) → StoreLeft doneAnswer w (called p (toRelease k)) r left → (r .refusal ≡ 0 → ⊥) → left ≡ w
+release-untouched w p k r left holds some =
+    holds .lists ∙ turn-refused w (called p (toRelease k)) (λ z. some (ap (λ (a : DoneAnswer). a .refusal) (holds .answers) ∙ done-number (storeTurn w (called p (toRelease k)) .answer) ∙ z))
+
+pub compact-untouched : (w : Lists) (p : ℕ) (r : DoneAnswer) (left : Lists) → StoreLeft doneAnswer w (called p toCompact) r left → (r .refusal ≡ 0 → ⊥) → left ≡ w
+compact-untouched w p r left holds some =
+    holds .lists ∙ turn-refused w (called p toCompact) (λ z. some (ap (λ (a : DoneAnswer). a .refusal) (holds .answers) ∙ done-number (storeTurn w (called p toCompact) .answer) ∙ z))
+
+-- the store's own lists are only read by this one
+pub list-untouched : (w : Lists) (p : ℕ) (o : Rooms) (r : CountAnswer) (left : Rooms) → ListLeft w p o r left → (r .refusal ≡ 0 → ⊥) → left ≡ o
+list-untouched w p o r left holds some =
+    holds .room ∙ shown-refused (listTurn w p o .answer) o (λ z. some (ap (λ (a : CountAnswer). a .refusal) (holds .answers) ∙ count-number (listTurn w p o .answer) ∙ z))

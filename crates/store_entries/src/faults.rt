@@ -41,7 +41,7 @@ pub(crate) fn slice_refusal(r: u32, put_at: &[usize], put_shape: &[f64]) -> u32
     number_refusal(r, put_shape)
 }
 
-// Number 9: a list lent for the list is shorter than for every place that a party has.
+// Number 9: a list lent for the answer is too short for a slice in every place of a party.
 pub(crate) fn room_refusal(r: u32, handles: usize, at: usize, shape: usize, edition: usize) -> u32
     ensures { λ n. ⌜ n ≡ firstFrom r (roomRows 896 handles at shape edition) ⌝ }
 {

@@ -3,7 +3,7 @@
 use Prim.Native.Nat.{ℕ, _*_}
 use mathlib.Core.List.{List}
 use lib.Seq.{paste}
-use Rattle.store.specs.Machine.{Turn, turn}
+use Rattle.basis.specs.Machine.{Turn, turn}
 use Rattle.store.specs.Slice.{Slice}
 use Rattle.store.specs.Plain.{Call, Answer}
 use Rattle.store.specs.Blocks.{block}

@@ -4,7 +4,7 @@ use mathlib.Core.Bool.{Bool, true, false}
 use mathlib.Core.Path.{_≡_, refl, sym, _∙_}
 use mathlib.Core.List.{List, _++_}
 use native.Mathlib.Omega.{arith}
-use native.Mathlib.Nat.{mul-suc, mul-le-mul-left}
+use native.Mathlib.Nat.{mul-le-mul-left}
 use lib.ListN.{length, take, drop, take-append-drop}
 use lib.Seq.{paste, take-take, take-add}
 use Rattle.store.specs.Keys.{keyed, without}
@@ -14,7 +14,7 @@ use Rattle.store.specs.BlocksLaws.{length-block, block-paste-at, block-paste-ot
 use Rattle.store.specs.Marks.{handleOf, livesOf, filled}
 use Rattle.store.specs.Lists.{Lists, lists, Sized, releasedIn, listStep}
 use Rattle.store_party.specs.Parties.{partOf, rejoined, partyStep}
-use Rattle.store_party.specs.Ready.{share, PartFits, PartReleased}
+use Rattle.store_party.specs.Ready.{share, PartReleased}
 
 module _ (cap : ℕ) where
   pub part-sized : (p : ℕ) (w : Lists) → p < 2 → Sized (2 * cap) w → Sized cap (partOf cap p w)
@@ -65,23 +65,26 @@ module _ (cap : ℕ) where
           ones = length-paste-place cap (w .edition) p (s .edition) (y .ones) (enough cap (w .edition) (z .ones ∙ omega arith)) ∙ z .ones;
         }
 
--- ---- a release writes the marks alone: the other lists of the part are put back as they were
+-- ---- a part that is put back as it was changes nothing, whatever the lists hold
 
-same-part : {A : Type 0} (w p : ℕ) (l : List A) → w * suc p ≤ length l → paste l (w * p) (block w l p) w ≡ l
+same-part : {A : Type 0} (w p : ℕ) (l : List A) → paste l (w * p) (block w l p) w ≡ l
 unfolding block
-same-part w p l h =
-    let u : w * suc p ≡ w * p + w = mul-suc w p in
+same-part w p l =
     let e : take w (take w (drop (w * p) l)) ≡ take w (drop (w * p) l) = take-take w w (drop (w * p) l) (omega arith) in
     let f : take (w * p) l ++ take w (drop (w * p) l) ≡ take (w * p + w) l = sym (take-add (w * p) w l) in
     rw (e, f) (take-append-drop (w * p + w) l)
 
-pub released-left : (w : Lists) (p h : ℕ) (held′ : List ℕ) → PartFits w p → {r : Bool} → PartReleased (w .held) p h r held′
-    → lists held′ (w .at) (w .shape) (w .edition) ≡ partyStep share p w (release h) .left
-released-left w p h held′ f t = go (keyed handleOf (livesOf share (block share (w .held) p)) h) refl
-  where
-    two : (v : ℕ) {A : Type 0} (l : List A) → length l ≡ v * 2 → v * suc p ≤ length l
-    two v l e = let k : v * suc p ≤ v * 2 = mul-le-mul-left v (f .known) in omega arith
+pub rejoined-same : (cap p : ℕ) (w : Lists) → rejoined cap p w (partOf cap p w) ≡ w
+unfolding partOf rejoined
+rejoined-same cap p w =
+    rw (same-part cap p (w .held), same-part (4 * cap) p (w .at), same-part (6 * cap) p (w .shape), same-part cap p (w .edition))
 
+-- ---- a release writes the marks alone: the other lists of the part are put back as they were
+
+pub released-left : (w : Lists) (p h : ℕ) (held′ : List ℕ) {r : Bool} → PartReleased (w .held) p h r held′
+    → lists held′ (w .at) (w .shape) (w .edition) ≡ partyStep share p w (release h) .left
+released-left w p h held′ t = go (keyed handleOf (livesOf share (block share (w .held) p)) h) refl
+  where
     kept : keyed handleOf (livesOf share (block share (w .held) p)) h ≡ false → held′ ≡ paste (w .held) (share * p) (block share (w .held) p) share
     kept e = rw e at (t .marks)
 
@@ -92,19 +95,7 @@ released-left w p h held′ f t = go (keyed handleOf (livesOf share (block share
     go : (b : Bool) → keyed handleOf (livesOf share (block share (w .held) p)) h ≡ b → lists held′ (w .at) (w .shape) (w .edition) ≡ partyStep share p w (release h) .left
     go true e =
         unfold partyStep rejoined partOf listStep releasedIn in
-        rw (
-          e,
-          gone e,
-          same-part 3584 p (w .at) (two 3584 (w .at) (f .sized .fours)),
-          same-part 5376 p (w .shape) (two 5376 (w .shape) (f .sized .sixes)),
-          same-part 896 p (w .edition) (two 896 (w .edition) (f .sized .ones)),
-        )
+        rw (e, gone e, same-part 3584 p (w .at), same-part 5376 p (w .shape), same-part 896 p (w .edition))
     go false e =
         unfold partyStep rejoined partOf listStep in
-        rw (
-          e,
-          kept e,
-          same-part 3584 p (w .at) (two 3584 (w .at) (f .sized .fours)),
-          same-part 5376 p (w .shape) (two 5376 (w .shape) (f .sized .sixes)),
-          same-part 896 p (w .edition) (two 896 (w .edition) (f .sized .ones)),
-        )
+        rw (e, kept e, same-part 3584 p (w .at), same-part 5376 p (w .shape), same-part 896 p (w .edition))

@@ -11,7 +11,7 @@ use Rattle.basis.specs.Room.{roomOf}
 use Rattle.store_write.specs.declared.keep.Handle.{Handle}
 use Rattle.store_write.specs.declared.keep.Handle.the-variants.{Given, Full}
 use Rattle.store.specs.Keys.{keyed, without}
-use Rattle.store.specs.Machine.{Turn}
+use Rattle.basis.specs.Machine.{Turn}
 use Rattle.store.specs.Slice.{Slice, Whole}
 use Rattle.store.specs.Plain.{Kept, Answer, refused, given, done, listed}
 use Rattle.store.specs.Marks.{mostPlaces, handleOf, livesOf, filled}

@@ -137,7 +137,7 @@ report-none : reportAnswer [] [] 0 ≡ record { refusal = 0; count = 0; zero = 0
 unfolding reportRefusal answer firstOf lengthFault sizeFault sizesFault lastOf allOf inReach outlines zeros sizes area spots around sums cross
 report-none = refl
 
--- ends that fall back are an outline that is too short
+-- an end below the one before it gives an outline that is too short
 report-back : reportRefusal listA (4 ∷ 2 ∷ 4 ∷ []) 3 ≡ 2
 unfolding reportRefusal firstOf lengthFault sizeFault sizesFault lastOf allOf inReach
 report-back = refl

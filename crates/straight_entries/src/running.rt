@@ -1,4 +1,4 @@
-// A report that is made one outline at a time, for who has no room for all of them at once.
+// A report that is made one outline at a time, for a caller that has no room for all of them at once.
 ghost use mathlib.Core.Path.{_≡_};
 ghost use mathlib.Core.List.{[], _∷_};
 ghost use Rattle.straight_entries.specs.ReportEntry.{reportAnswer};

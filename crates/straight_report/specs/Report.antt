@@ -40,7 +40,7 @@ unfoldable pub lastOf : ℕ → List ℕ → ℕ
 lastOf d [] = d
 lastOf d (e ∷ es) = lastOf e es
 
--- 2: some outline is too short or too long. Ends that fall back are an outline that is too short
+-- 2: some outline is too short or too long. An end below the one before it gives an outline that is too short
 unfoldable pub sizesFault : ℕ → List ℕ → Bool
 sizesFault from [] = false
 sizesFault from (e ∷ es) = sizeFault (e - from) || sizesFault e es

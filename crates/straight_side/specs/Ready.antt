@@ -76,7 +76,7 @@ pub record KeptWith (g : Given) (other : List Float) (side : Side) (sorted cutAt
   pub pointRoom : 2 * cutCount g ≤ length cut
   pub wholesRoom : 2 * side .«other_vc» ≤ length wholes
 
--- so few cuts and so few vertices that lists for that many will do
+-- and there are no more cuts and vertices than the working lists have places for
 pub record KeptFew (cuts vertices : ℕ) (g : Given) (other : List Float) (side : Side) (room : Rooms) : Type 0 where
   pub ok : KeptRoom g other side room
   pub fewCuts : cutCount g ≤ cuts

@@ -62,7 +62,8 @@ fn kept_with(
     )
 }
 
-// The same by lists for 8 cuts and 16 vertices, which cost little to set up; by lists for 64 and 128; and by lists for the most.
+// The same with working lists for 8 cuts and 16 vertices, which cost little to set up. The next two functions have lists for 64 and 128, and for 768 and 1,024, which is
+// the most.
 fn kept_few(
     outline: &[f64],
     other: &[f64],
@@ -174,7 +175,7 @@ fn kept_many(
     )
 }
 
-// Whether lists for so many cuts and so many vertices will do.
+// Whether lists for so many cuts and so many vertices are long enough.
 fn fits(side: Side, cuts: usize, vertices: usize) -> bool
     requires { ⌜ FewCuts (side .cuts .hits + 2 * side .cuts .laps) ⌝ }
     ensures { λ r. ⌜ Fits side cuts vertices r ⌝ }

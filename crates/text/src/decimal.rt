@@ -15,7 +15,7 @@ pub struct Tenth {
 // The digits of the largest number of two words.
 pub const MOST_DIGITS: usize = 39;
 
-// The low word is divided in halves, so that what is left over of the part before fits beside each.
+// The low word is divided in two halves, so that the remainder of the part before fits in front of each.
 fn tenth_of(t: Two) -> Tenth
     ensures { λ r. ⌜ r ≡ tenthsOf (value t) ⌝ }
 {

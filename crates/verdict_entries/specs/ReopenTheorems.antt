@@ -83,7 +83,7 @@ module _ (o : List Float) (vc : ℕ) (v : View) (startOn endOn : ℕ) where
         go zero q z e = unfold answer newEdition in (rw q (rw (ne-eqb _ _ (rw q at e))))
         go (suc n) q z e = absurd (unfold answer verdictRefused in (omega (arith, rw q at z)))
 
-    -- from then on the slice passes `mask_validate_for_source`, which answers as the reopening did: no 14 comes of it
+    -- from then on the slice passes `mask_validate_for_source`, which answers as the reopening did: it is not refused with 14
     pub validates : r .verdict ≡ 7 → validateAnswer o vc edition v (r .edition) startOn endOn ≡ verdictPart r
     validates e = ap (λ (n : ℕ). validateAnswer o vc edition v n startOn endOn) (valid-edition e) ∙ sym same-verdict
 

@@ -1,4 +1,4 @@
--- The flat answers of `mask_validate_for_source` and `mask_reopen`: this paper's number and values for each case of the verdict.
+-- The flat answers of `mask_validate_for_source` and `mask_reopen`: document 01's number and values for each case of the verdict.
 use Prim.Native.Nat.{ℕ}
 use lib.Ieee.{Float}
 use Rattle.basis.specs.Number.{+0}

@@ -10,7 +10,7 @@ use outline::point::Point;
 use outline::point::Vertex;
 use outline::read;
 
-// What `create` is given beside the outline. The split is the host's, of the segment at the intersect index at the end: its start bulge.
+// What `create` is given beside the outline. Of the host's split of the segment at the intersect index, at the end point, it has the bulge of the first part.
 pub struct Walk {
     pub start_index: usize,
     pub end_intersect: Point,
