@@ -33,11 +33,36 @@ meets-requires c κs = there _ _ _ (c .before .before .before .loop .inv .fit) (
 returns : tie.Need-returns Inv-loop μ-loop
 returns c = seeking-found _ _ _ _ _ _ _ _ _ _ _ (c .before .before .before .before .before .loop .inv) (c .before .before .before .before .loop-test .taken) (told-not-no _ _ (c .before .before .before .is-free .ensures) (c .before .before .if1 .left)) (told-yes _ _ (c .before .meets .ensures) (c .if2 .taken))
 
+add-run : tie.Need-add-run Inv-loop μ-loop
+add-run c =
+    let tested = c .before .before .before .before .before in
+    omega (arith, (onward _ _ _ _ _ _ _ _ _ _ _ (tested .before .loop .inv) (tested .loop-test .taken)) .inside)
+
+slice-read-at : tie.Need-slice-read-at Inv-loop μ-loop
+slice-read-at c =
+    let tested = c .before .before .before .before .before .before in
+    (onward _ _ _ _ _ _ _ _ _ _ _ (tested .before .loop .inv) (tested .loop-test .taken)) .inside
+
+mul-next-2 : tie.Need-mul-next-2 Inv-loop μ-loop
+mul-next-2 c =
+    let tested = c .before .before .before .before .before .before in
+    omega (arith, (onward _ _ _ _ _ _ _ _ _ _ _ (tested .before .loop .inv) (tested .loop-test .taken)) .last-inside)
+
+slice-read-next-2 : tie.Need-slice-read-next-2 Inv-loop μ-loop
+slice-read-next-2 c =
+    let tested = c .before .before .before .before .before .before .before in
+    (onward _ _ _ _ _ _ _ _ _ _ _ (tested .before .loop .inv) (tested .loop-test .taken)) .last-inside
+
 loop-less-2 : tie.Need-loop-less-2 Inv-loop μ-loop
-loop-less-2 c = omega (arith, (onward _ _ _ _ _ _ _ _ _ _ _ (c .before .before .before .before .before .before .loop .inv) (c .before .before .before .before .before .loop-test .taken)) .higher)
+loop-less-2 c =
+    let tested = c .before .before .before .before .before .before .before in
+    omega (arith, (onward _ _ _ _ _ _ _ _ _ _ _ (tested .before .loop .inv) (tested .loop-test .taken)) .further)
 
 loop-again-2 : tie.Need-loop-again-2 Inv-loop μ-loop
-loop-again-2 c = seeking-on _ _ _ _ _ _ _ _ _ _ _ (c .before .before .before .before .before .before .loop .inv) (c .before .before .before .before .before .loop-test .taken) (told-no _ _ (c .before .before .meets .ensures) (c .before .if2 .left))
+loop-again-2 c =
+    let met = c .before .before .before .before in
+    let tested = met .before .before .before in
+    seeking-on _ _ _ _ _ _ _ _ _ _ _ (tested .before .loop .inv) (tested .loop-test .taken) (told-no _ _ (met .meets .ensures) (c .before .before .before .if2 .left))
 
 returns-2 : tie.Need-returns-2 Inv-loop μ-loop
 returns-2 c = seeking-end _ _ _ _ _ _ _ _ _ _ _ (c .before .loop .inv) (c .loop-test .left)
@@ -47,5 +72,5 @@ first-on-spec =
     tie.close
     (tie.spec Inv-loop μ-loop (λ c. search needs) (λ c. search needs) (λ c. search needs) loop-holds sub-j
     is-free-requires (λ c. search needs) (λ c. search needs) (λ c. search needs) (λ c. search needs) loop-less
-    loop-again meets-requires (λ c. search needs) returns (λ c. search needs) (λ c. search needs) loop-less-2
-    loop-again-2 (λ c. search needs) returns-2)
+    loop-again meets-requires (λ c. search needs) returns add-run (λ c. search needs) slice-read-at mul-next-2
+    slice-read-next-2 loop-less-2 loop-again-2 (λ c. search needs) returns-2)
