@@ -227,36 +227,26 @@ module _ (f hit : ℕ → Bool) (L : ℕ → ℕ) (meets : Query → ℕ → Boo
       pub looking-home : L (next - lists) ≡ h
       looking-home = at-here .mine k
 
-      -- the last of its run
-      abbrev pub last : ℕ
-      last = getD link (next + n) 0
-
-      pub looking-run : Run L meets lists n (next - lists) last
-      looking-run =
-          let b = beyond in
-          let z : lists + (next - lists) ≡ next = omega arith in
-          let x = t .linked .runs (next - lists) (omega arith) in
-          rw z at x
-
-      home-last : placeOf L lists last ≡ h
-      unfolding placeOf
-      home-last = let b = beyond in let r = looking-run in rw (le-ltb last lists (omega (arith, r .higher))) (r .mine ∙ at-here .mine k)
-
-      at-last : Next f L lists n h (suc last - lists) (getD link last 0)
-      at-last = let x = t .linked .at last (looking-run .inside) in rw home-last at x
-
-      pub looking-further : next < getD link last 0
-      looking-further = let b = beyond in omega (arith, at-last .higher, looking-run .higher)
-
       -- a run of which no slice is a hit is passed
-      pub looking-on : ((j : ℕ) → next - lists ≤ j → lists + j ≤ last → L j ≡ h → hit j ≡ false) → Looking f hit L meets lists n h link last (getD link last 0)
-      looking-on m =
-          record { linked = t .linked; place = looking-run .inside; home = home-last; here = refl; passed = λ j p q. go j p q (decLt j (suc at - lists)) (decLt j (next - lists)) }
-        where
-          go : (j : ℕ) → j < suc last - lists → L j ≡ h → Dec (j < suc at - lists) → Dec (j < next - lists) → hit j ≡ false
-          go j p q (yes u) v = t .passed j u q
-          go j p q (no u) (yes v) = let b = beyond in asks j (at-here .passed j (omega arith) (omega arith) (omega arith) q)
-          go j p q (no u) (no v) = let b = beyond in m j (omega arith) (omega (arith, looking-run .higher)) q
+      module _ (last : ℕ) (r : Run L meets lists n (next - lists) last) where
+        home-last : placeOf L lists last ≡ h
+        unfolding placeOf
+        home-last = let b = beyond in rw (le-ltb last lists (omega (arith, r .higher))) (r .mine ∙ at-here .mine k)
+
+        at-last : Next f L lists n h (suc last - lists) (getD link last 0)
+        at-last = let x = t .linked .at last (r .inside) in rw home-last at x
+
+        pub looking-further : next < getD link last 0
+        looking-further = let b = beyond in omega (arith, at-last .higher, r .higher)
+
+        pub looking-on : ((j : ℕ) → next - lists ≤ j → lists + j ≤ last → L j ≡ h → hit j ≡ false) → Looking f hit L meets lists n h link last (getD link last 0)
+        looking-on m =
+            record { linked = t .linked; place = r .inside; home = home-last; here = refl; passed = λ j p q. go j p q (decLt j (suc at - lists)) (decLt j (next - lists)) }
+          where
+            go : (j : ℕ) → j < suc last - lists → L j ≡ h → Dec (j < suc at - lists) → Dec (j < next - lists) → hit j ≡ false
+            go j p q (yes u) v = t .passed j u q
+            go j p q (no u) (yes v) = let b = beyond in asks j (at-here .passed j (omega arith) (omega arith) (omega arith) q)
+            go j p q (no u) (no v) = let b = beyond in m j (omega arith) (omega (arith, r .higher)) q
 
       -- a slice that is not free is taken off
       pub looking-skip : f (next - lists) ≡ false → Looking f hit L meets lists n h (set link at (getD link next 0)) at (getD link next 0)

@@ -12,9 +12,9 @@ use Rattle.stitch_links.specs.declared.layout.Layout.{Layout}
 use Rattle.stitch_links.specs.declared.look.Query.{Query}
 use Rattle.stitch_run.specs.Run.{free}
 use Rattle.stitch_links.specs.Slices.{listOf, homeOf, groupOf, columnOf, lineOf, meetsOf, hitOf, Alike}
-use Rattle.stitch_links.specs.Ready.{Masked, There, Both, Home, Marked, Fit, Empty, Behind, Lookable, OnList}
+use Rattle.stitch_links.specs.Ready.{Masked, There, Both, Home, Marked, Fit, Empty, Runs, Before, Passed, Lookable, OnList}
 use Rattle.stitch_links.specs.Links.{Next, Run, Linked, Linking, everFree, Looked}
-use Rattle.stitch_links.specs.LinkLaws.{Looking, linking-none, linking-more, linking-end, run-alone, run-more, looking-none, looking-less, looking-run, looking-further, looking-slice, looking-home, looking-under, looking-on, looking-skip, looking-found, looking-end}
+use Rattle.stitch_links.specs.LinkLaws.{Looking, linking-none, linking-more, linking-end, run-alone, run-more, looking-none, looking-less, looking-further, looking-slice, looking-home, looking-under, looking-on, looking-skip, looking-found, looking-end}
 
 pub list-under : (lists cx cy g : ℕ) → Masked lists → listOf lists cx cy g < lists
 unfolding listOf
@@ -47,16 +47,14 @@ module _ (points : List Float) (w : Layout) where
   putting-inside link₀ link i j h t e = omega (arith, t .linking .size, home-under j (t .fit .lists))
 
   -- what stands at the head of slice i - 1's list, for its run
-  pub putting-behind : (link₀ link : List ℕ) (i h : ℕ) → Putting link₀ link i → 0 < i → h ≡ homeOf points w (i - 1) → Behind points w link (i - 1) (getD link h 0)
-  putting-behind link₀ link i h t p e =
+  pub putting-before : (link₀ link : List ℕ) (i h : ℕ) → Putting link₀ link i → 0 < i → h ≡ homeOf points w (i - 1) → Before points w link (i - 1) (getD link h 0)
+  putting-before link₀ link i h t p e =
       let z : i ≡ suc (i - 1) = omega arith in
       let o = t .linking .heads h (rw e (home-under (i - 1) (t .fit .lists))) in
       record {
-        fit = t .fit;
+        runs = record { fit = t .fit; size = t .linking .size; run = λ k a b. t .linking .runs k (omega arith) b };
         here = omega (arith, t .left);
-        size = t .linking .size;
         first = subst (λ (k : ℕ). Next everFree (homeOf points w) (w .lists) (w .count) (homeOf points w (i - 1)) k (getD link h 0)) z (subst (λ (k : ℕ). Next everFree (homeOf points w) (w .lists) (w .count) k i (getD link h 0)) e o);
-        runs = λ k a b. t .linking .runs k (omega arith) b;
       }
 
   pub putting-more : (link₀ link : List ℕ) (i h last : ℕ) → Putting link₀ link i → 0 < i → h ≡ homeOf points w (i - 1) → Run (homeOf points w) (meetsOf points w) (w .lists) (w .count) (i - 1) last
@@ -76,18 +74,29 @@ module _ (points : List Float) (w : Layout) where
       linking-end (homeOf points w) (meetsOf points w) (w .lists) (w .count) link (rw z at l)
 
   -- ---- the run of a slice that is put on
-  module _ (link : List ℕ) (i next : ℕ) (t : Behind points w link i next) where
-    pub behind-both : next < w .lists + w .count → Both points (next - w .lists) i
-    behind-both l = record { one = there (next - w .lists) (t .fit) (omega (arith, t .first .higher)); other = there i (t .fit) (t .here) }
+  module _ (link : List ℕ) (i next : ℕ) (t : Before points w link i next) where
+    pub before-both : next < w .lists + w .count → Both points (next - w .lists) i
+    before-both l = record { one = there (next - w .lists) (t .runs .fit) (omega (arith, t .first .higher)); other = there i (t .runs .fit) (t .here) }
 
-    pub behind-alone : (r : ℕ) → r ≡ w .lists + i → Run (homeOf points w) (meetsOf points w) (w .lists) (w .count) i r
-    behind-alone r e = rw e (run-alone (homeOf points w) (meetsOf points w) (w .lists) (w .count) i (t .here))
+    pub before-alone : (r : ℕ) → r ≡ w .lists + i → Run (homeOf points w) (meetsOf points w) (w .lists) (w .count) i r
+    before-alone r e = rw e (run-alone (homeOf points w) (meetsOf points w) (w .lists) (w .count) i (t .here))
 
-    pub behind-more : next < w .lists + w .count → Alike points w (next - w .lists) i → Run (homeOf points w) (meetsOf points w) (w .lists) (w .count) i (getD link (next + w .count) 0)
-    behind-more l a =
+    pub before-more : next < w .lists + w .count → Alike points w (next - w .lists) i → Run (homeOf points w) (meetsOf points w) (w .lists) (w .count) i (getD link (next + w .count) 0)
+    before-more l a =
         let z : w .lists + (next - w .lists) ≡ next = omega (arith, t .first .higher) in
-        let r = t .runs (next - w .lists) (omega (arith, t .first .higher)) (omega (arith, t .first .higher)) in
+        let r = t .runs .run (next - w .lists) (omega (arith, t .first .higher)) (omega (arith, t .first .higher)) in
         run-more (homeOf points w) (meetsOf points w) (w .lists) (w .count) i next (getD link (next + w .count) 0) (t .first) l a (rw z at r)
+
+  -- ---- the run of a slice that is passed
+  module _ (link : List ℕ) (seen j : ℕ) (t : Passed points w link seen j) where
+    pub passed-both : Both points seen j
+    passed-both = record { one = there seen (t .runs .fit) (t .before); other = there j (t .runs .fit) (t .here) }
+
+    pub passed-alone : Run (homeOf points w) (meetsOf points w) (w .lists) (w .count) j (w .lists + j)
+    passed-alone = run-alone (homeOf points w) (meetsOf points w) (w .lists) (w .count) j (t .here)
+
+    pub passed-run : Run (homeOf points w) (meetsOf points w) (w .lists) (w .count) j (getD link (w .lists + j + w .count) 0)
+    passed-run = t .runs .run j (omega arith) (t .here)
 
 -- ---- a list is looked through
 module _ (points : List Float) (visited : List Bool) (w : Layout) (q : Query) where
@@ -106,15 +115,16 @@ module _ (points : List Float) (visited : List Bool) (w : Layout) (q : Query) wh
   asks : (j : ℕ) → f j ≡ false → hit j ≡ false
   asks j e = rw e
 
-  pub record Seeking (link₀ : List ℕ) (h lists end : ℕ) (link : List ℕ) (at next : ℕ) : Type 0 where
+  pub record Seeking (link₀ : List ℕ) (h lists end : ℕ) (link : List ℕ) (at next seen : ℕ) : Type 0 where
     pub fit : Fit points w
     pub marks : w .count ≤ length visited
     pub looking : Looking f hit L M (w .lists) (w .count) h link at next
     pub same : length link ≡ length link₀
     pub lists-is : lists ≡ w .lists
     pub end-is : end ≡ w .lists + w .count
+    pub seen-is : 0 < w .count → seen < w .count
 
-  pub seeking-none : (link : List ℕ) (h : ℕ) → OnList points visited w (q .first) link h → Seeking link h (w .lists) (w .lists + w .count) link h (getD link h 0)
+  pub seeking-none : (link : List ℕ) (h : ℕ) → OnList points visited w (q .first) link h → Seeking link h (w .lists) (w .lists + w .count) link h (getD link h 0) 0
   seeking-none link h t =
       record {
         fit = t .ready .fit;
@@ -123,17 +133,16 @@ module _ (points : List Float) (visited : List Bool) (w : Layout) (q : Query) wh
         same = refl;
         lists-is = refl;
         end-is = refl;
+        seen-is = λ s. s;
       }
 
-  module _ (link₀ : List ℕ) (h lists end : ℕ) (link : List ℕ) (at next : ℕ) (t : Seeking link₀ h lists end link at next) where
+  module _ (link₀ : List ℕ) (h lists end : ℕ) (link : List ℕ) (at next seen : ℕ) (t : Seeking link₀ h lists end link at next seen) where
     pub record Onward : Type 0 where
       pub under : lists ≤ next
       pub slice : next - lists < w .count
-      pub inside : next + w .count < length link
+      pub inside : next < length link
       pub higher : next < getD link next 0
       pub at-inside : at < length link
-      pub last-inside : getD link (next + w .count) 0 < length link
-      pub further : next < getD link (getD link (next + w .count) 0) 0
 
     pub onward : next < end → Onward
     onward k =
@@ -146,8 +155,6 @@ module _ (points : List Float) (visited : List Bool) (w : Layout) (q : Query) wh
           inside = omega (arith, t .looking .linked .size);
           higher = looking-less f hit L M (w .lists) (w .count) h asks link at next (t .looking) z;
           at-inside = omega (arith, t .looking .linked .size, t .looking .place);
-          last-inside = omega (arith, t .looking .linked .size, looking-run f hit L M (w .lists) (w .count) h asks link at next (t .looking) z .inside);
-          further = looking-further f hit L M (w .lists) (w .count) h asks link at next (t .looking) z;
         }
 
     module _ (k : next < end) where
@@ -157,7 +164,7 @@ module _ (points : List Float) (visited : List Bool) (w : Layout) (q : Query) wh
       y : next - w .lists ≡ next - lists
       y = let l = t .lists-is in omega arith
 
-      pub seeking-skip : f (next - lists) ≡ false → Seeking link₀ h lists end (set link at (getD link next 0)) at (getD link next 0)
+      pub seeking-skip : f (next - lists) ≡ false → Seeking link₀ h lists end (set link at (getD link next 0)) at (getD link next 0) seen
       seeking-skip m =
           record {
             fit = t .fit;
@@ -166,27 +173,45 @@ module _ (points : List Float) (visited : List Bool) (w : Layout) (q : Query) wh
             same = length-set link at (getD link next 0) ∙ t .same;
             lists-is = t .lists-is;
             end-is = t .end-is;
+            seen-is = t .seen-is;
           }
 
-      pub seeking-on : meetsOf points w q (next - lists) ≡ false → Seeking link₀ h lists end link (getD link (next + w .count) 0) (getD link (getD link (next + w .count) 0) 0)
-      seeking-on m =
+      pub seeking-pass : Passed points w link seen (next - lists)
+      seeking-pass =
+          let s = onward k .slice in
           record {
-            fit = t .fit;
-            marks = t .marks;
-            looking = looking-on f hit L M (w .lists) (w .count) h asks link at next (t .looking) z (λ j a b c. missed j (r .alike q j a b (c ∙ sym home) ∙ ap (M q) y ∙ m));
-            same = t .same;
-            lists-is = t .lists-is;
-            end-is = t .end-is;
+            runs = record { fit = t .fit; size = t .looking .linked .size; run = λ j a b. t .looking .linked .runs j b };
+            here = s;
+            before = t .seen-is (omega arith);
           }
-        where
-          r : Run L M (w .lists) (w .count) (next - w .lists) (getD link (next + w .count) 0)
-          r = looking-run f hit L M (w .lists) (w .count) h asks link at next (t .looking) z
 
-          home : L (next - w .lists) ≡ h
-          home = looking-home f hit L M (w .lists) (w .count) h asks link at next (t .looking) z
+      module _ (last : ℕ) (r : Run L M (w .lists) (w .count) (next - lists) last) where
+        r′ : Run L M (w .lists) (w .count) (next - w .lists) last
+        r′ = rw y r
 
-          missed : (j : ℕ) → meetsOf points w q j ≡ false → hit j ≡ false
-          missed j e = rw e (and-false (f j))
+        pub last-inside : last < length link
+        last-inside = omega (arith, t .looking .linked .size, r .inside)
+
+        pub last-further : next < getD link last 0
+        last-further = looking-further f hit L M (w .lists) (w .count) h asks link at next (t .looking) z last r′
+
+        pub seeking-on : meetsOf points w q (next - lists) ≡ false → Seeking link₀ h lists end link last (getD link last 0) (next - lists)
+        seeking-on m =
+            record {
+              fit = t .fit;
+              marks = t .marks;
+              looking = looking-on f hit L M (w .lists) (w .count) h asks link at next (t .looking) z last r′ (λ j a b c. missed j (r′ .alike q j a b (c ∙ sym home) ∙ ap (M q) y ∙ m));
+              same = t .same;
+              lists-is = t .lists-is;
+              end-is = t .end-is;
+              seen-is = λ s. onward k .slice;
+            }
+          where
+            home : L (next - w .lists) ≡ h
+            home = looking-home f hit L M (w .lists) (w .count) h asks link at next (t .looking) z
+
+            missed : (j : ℕ) → meetsOf points w q j ≡ false → hit j ≡ false
+            missed j e = rw e (and-false (f j))
 
       pub seeking-found : f (next - lists) ≡ true → meetsOf points w q (next - lists) ≡ true → Looked f hit L M (λ j. L j ≡ h) (w .lists) (w .count) link (next - lists)
       seeking-found a b =

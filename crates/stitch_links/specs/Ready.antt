@@ -54,13 +54,23 @@ pub record Empty (points : List Float) (w : Layout) (link : List ℕ) : Type 0 w
   pub size : w .lists + w .count + w .count ≤ length link
   pub none : (h : ℕ) → h < w .lists → w .lists + w .count ≤ getD link h 0
 
--- the first on slice i's list, before i is put in front of it
-pub record Behind (points : List Float) (w : Layout) (link : List ℕ) (i next : ℕ) : Type 0 where
+-- the runs of the slices from `from` on
+pub record Runs (points : List Float) (w : Layout) (link : List ℕ) (from : ℕ) : Type 0 where
   pub fit : Fit points w
-  pub here : i < w .count
   pub size : w .lists + w .count + w .count ≤ length link
+  pub run : (k : ℕ) → from ≤ k → k < w .count → Run (homeOf points w) (meetsOf points w) (w .lists) (w .count) k (getD link (w .lists + k + w .count) 0)
+
+-- the first on slice i's list, before i is put in front of it
+pub record Before (points : List Float) (w : Layout) (link : List ℕ) (i next : ℕ) : Type 0 where
+  pub runs : Runs points w link (suc i)
+  pub here : i < w .count
   pub first : Next everFree (homeOf points w) (w .lists) (w .count) (homeOf points w i) (suc i) next
-  pub runs : (k : ℕ) → i < k → k < w .count → Run (homeOf points w) (meetsOf points w) (w .lists) (w .count) k (getD link (w .lists + k + w .count) 0)
+
+-- a slice that was not met, after another
+pub record Passed (points : List Float) (w : Layout) (link : List ℕ) (seen j : ℕ) : Type 0 where
+  pub runs : Runs points w link 0
+  pub here : j < w .count
+  pub before : seen < w .count
 
 -- slices that hang on their lists
 pub record Lookable (points : List Float) (visited : List Bool) (w : Layout) (first : ℕ) (link : List ℕ) : Type 0 where

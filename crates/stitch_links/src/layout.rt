@@ -3,7 +3,7 @@ ghost use mathlib.Core.Path.{_≡_};
 ghost use mathlib.Core.Bool.{true};
 ghost use Rattle.stitch_links.specs.Slices.{groupOf, listOf, homeOf, meetsOf, sameStart, Alike};
 ghost use Rattle.stitch_links.specs.Links.{Run, Linked, everFree};
-ghost use Rattle.stitch_links.specs.Ready.{Masked, Home, Both, Behind, Empty};
+ghost use Rattle.stitch_links.specs.Ready.{Masked, Home, Both, Before, Passed, Empty};
 use stitch_cell::cell;
 use stitch_cell::cell::Plane;
 
@@ -74,7 +74,7 @@ fn alike(points: &[f64], w: Layout, i: usize, j: usize) -> bool
 
 // Slices of a list that follow one another and are alike make a run. The last of slice i's run, which is to stand before `next`.
 fn last_of_run(points: &[f64], link: &[usize], w: Layout, i: usize, next: usize) -> usize
-    requires { ⌜ Behind (now points) w (now link) i next ⌝ }
+    requires { ⌜ Before (now points) w (now link) i next ⌝ }
     ensures { λ r. ⌜ Run (homeOf (now (points .entry)) w) (meetsOf (now (points .entry)) w) (w .lists) (w .count) i r ⌝ }
 {
     let at = w.lists + i;
@@ -85,6 +85,20 @@ fn last_of_run(points: &[f64], link: &[usize], w: Layout, i: usize, next: usize)
         return at;
     }
     let run = next + w.count;
+    link[run]
+}
+
+// From where a look goes on that did not meet slice j: the last of j's run. Where slice `seen`, which it did not meet before, begins elsewhere, j itself:
+// then j's run is most often j alone, and is not looked up, since on a list of many points that would take twice as long.
+pub(crate) fn passed_to(points: &[f64], link: &[usize], w: Layout, seen: usize, j: usize) -> usize
+    requires { ⌜ Passed (now points) w (now link) seen j ⌝ }
+    ensures { λ r. ⌜ Run (homeOf (now (points .entry)) w) (meetsOf (now (points .entry)) w) (w .lists) (w .count) j r ⌝ }
+{
+    let at = w.lists + j;
+    if !same_start(points, seen, j) {
+        return at;
+    }
+    let run = at + w.count;
     link[run]
 }
 

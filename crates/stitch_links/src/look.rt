@@ -78,6 +78,7 @@ fn first_on(
     let end = lists + w.count;
     let mut at = h;
     let mut next = link[at];
+    let mut seen = 0;
     while next < end {
         let j = next - lists;
         if !is_free(visited, q.first, j) {
@@ -89,9 +90,9 @@ fn first_on(
         if meets(points, w, q, j) {
             return j;
         }
-        let run = next + w.count;
-        at = link[run];
+        at = layout::passed_to(points, link, w, seen, j);
         next = link[at];
+        seen = j;
     }
     NO_NUMBER
 }

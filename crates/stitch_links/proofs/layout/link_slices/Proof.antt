@@ -1,6 +1,6 @@
 use lib.ListN.{length-set}
 use native.Mathlib.Omega.{arith}
-use Rattle.stitch_links.specs.LoopLaws.{Putting, putting-none, putting-behind, putting-more, putting-end, putting-inside, home-there}
+use Rattle.stitch_links.specs.LoopLaws.{Putting, putting-none, putting-before, putting-more, putting-end, putting-inside, home-there}
 use borrow.Author.Needs.{needs}
 use Rattle.stitch_links.proofs.layout.link_slices.Statement.{statement}
 use Rattle.stitch_links.proofs.layout.link_slices.Tie as tie
@@ -26,7 +26,7 @@ slice-read-next c = omega (arith, putting-inside _ _ _ _ _ _ _ (c .before .befor
 last-of-run-requires : tie.Need-last-of-run-requires Inv-loop μ-loop
 last-of-run-requires c κs =
     let home = c .before .before .before .before in
-    putting-behind _ _ _ _ _ _ (home .before .before .loop .inv) (home .before .loop-test .taken) (home .home-of .ensures)
+    putting-before _ _ _ _ _ _ (home .before .before .loop .inv) (home .before .loop-test .taken) (home .home-of .ensures)
 
 mul-link-2 : tie.Need-mul-link-2 Inv-loop μ-loop
 mul-link-2 c =
