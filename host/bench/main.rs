@@ -412,7 +412,7 @@ fn extreme(slices: Slices) -> Job {
 type MakeJob = fn(usize) -> Job;
 
 /// A name, how it is made, and up to which size.
-const JOBS: [(&str, MakeJob, usize); 14] = [
+const JOBS: [(&str, MakeJob, usize); 15] = [
     (
         "star, union",
         |n| pruned(shapes::star(n), UNION),
@@ -476,6 +476,11 @@ const JOBS: [(&str, MakeJob, usize); 14] = [
     (
         "all begin at one point, and end beside it",
         |n| extreme(shapes::beside_one_start(n)),
+        MOST_SLICES,
+    ),
+    (
+        "two points take turns, and all end beside them",
+        |n| extreme(shapes::beside_two_starts(n)),
         MOST_SLICES,
     ),
     (

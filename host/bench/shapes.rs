@@ -299,6 +299,17 @@ pub fn one_start(count: usize) -> Slices {
     slices
 }
 
+/// Slices begin at two points by turns, and all end three tolerances beside them, where no slice starts.
+pub fn beside_two_starts(count: usize) -> Slices {
+    let mut slices = Slices::default();
+    for i in 0..count {
+        let from = [[1.0, 1.0], [1.00003, 1.0]][i % 2];
+        push_slice(&mut slices, 0, from, [1.00006, 1.0]);
+    }
+    slices.starts = [count; 3];
+    slices
+}
+
 /// All slices begin at one point, and end four tolerances beside it, where no slice starts.
 pub fn beside_one_start(count: usize) -> Slices {
     let mut slices = Slices::default();

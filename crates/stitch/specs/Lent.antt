@@ -167,7 +167,7 @@ pub record Tabled (g : Given) (points : List Float) (visited : List Bool) (link 
   pub size : 2 * g .slices ≤ length points
   pub marks : visited ≡ replicate (g .slices) false
   pub small : held ≤ 4096
-  pub long : held + g .slices ≤ length link
+  pub long : 0 < held → held + g .slices + g .slices ≤ length link
   pub none : (h : ℕ) → h < held → held + g .slices ≤ getD link h 0
 
 -- the answer, and each list by the room rule: the items, zero up to the need, what it held before

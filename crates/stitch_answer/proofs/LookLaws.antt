@@ -39,7 +39,7 @@ module _ (points : List Float) (visited : List Bool) (w : Layout) (q : Query) wh
       let i = t .is in
       (rw e at i) ∙ lowest-same (hitOf points visited w (grouped q g)) (inGroup (offeredOf points visited q) w g) (w .count) (λ j l. hit-group g j)
 
-  still : (g : ℕ) (link : List ℕ) (r : ℕ) (v : Query) → v ≡ grouped q g → Lowest points visited w v link r → Linked (free visited (q .first)) (homeOf points w) (w .lists) (w .count) link
+  still : (g : ℕ) (link : List ℕ) (r : ℕ) (v : Query) → v ≡ grouped q g → Lowest points visited w v link r → Linked (free visited (q .first)) (homeOf points w) (meetsOf points w) (w .lists) (w .count) link
   still g link r v e t = let l = t .linked in rw e at l
 
   module _ (selector : ℕ) (s : Starts) where

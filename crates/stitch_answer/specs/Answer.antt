@@ -17,7 +17,7 @@ use Rattle.stitch_run.specs.declared.plan.Plan.{Plan}
 use Rattle.stitch_run.specs.Run.{free, passing}
 use Rattle.stitch_links.specs.declared.layout.Layout.{Layout}
 use Rattle.stitch_links.specs.declared.look.Query.{Query}
-use Rattle.stitch_links.specs.Slices.{groupOf, homeOf, startsIn}
+use Rattle.stitch_links.specs.Slices.{groupOf, homeOf, startsIn, meetsOf}
 use Rattle.stitch_links.specs.Links.{Linked}
 use Rattle.stitch_links.specs.Ready.{ScanFit, Lookable}
 use Rattle.stitch_links.specs.Hung.{Hung}
@@ -77,7 +77,7 @@ pub record Ready (points : List Float) (visited : List Bool) (w : Layout) (q : Q
 
 pub record Grouped (points : List Float) (visited : List Bool) (w : Layout) (q : Query) (selector : ℕ) (s : Starts) (current : ℕ) (link : List ℕ) (r : Answer) : Type 0 where
   pub is : r ≡ answerOf selector s current (passing (offeredOf points visited q) (w .count))
-  pub linked : Linked (free visited (q .first)) (homeOf points w) (w .lists) (w .count) link
+  pub linked : Linked (free visited (q .first)) (homeOf points w) (meetsOf points w) (w .lists) (w .count) link
 
 -- ---- of an end
 

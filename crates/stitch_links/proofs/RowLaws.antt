@@ -13,7 +13,7 @@ use Rattle.stitch_links.specs.declared.layout.Layout.{Layout}
 use Rattle.stitch_links.specs.declared.look.Query.{Query}
 use Rattle.stitch_links.specs.declared.look.Cells.{Cells}
 use Rattle.stitch_run.specs.Run.{free}
-use Rattle.stitch_links.specs.Slices.{listOf, homeOf, hitOf, cellsOf}
+use Rattle.stitch_links.specs.Slices.{listOf, homeOf, meetsOf, hitOf, cellsOf}
 use Rattle.stitch_links.specs.Links.{Linked, Found, Looked, Block}
 use Rattle.stitch_links.specs.Ready.{Lookable, OnList, Row, Rows, Asked, Lowest}
 use Rattle.stitch_links.specs.LoopLaws.{list-under}
@@ -21,7 +21,7 @@ use Rattle.stitch_links.specs.BlockLaws.{found-none, found-of, found-cel
 
 module _ (points : List Float) (visited : List Bool) (w : Layout) (q : Query) where
   abbrev Of : (ℕ → Type 0) → List ℕ → ℕ → Type 0
-  Of C link r = Looked (free visited (q .first)) (hitOf points visited w q) (homeOf points w) C (w .lists) (w .count) link r
+  Of C link r = Looked (free visited (q .first)) (hitOf points visited w q) (homeOf points w) (meetsOf points w) C (w .lists) (w .count) link r
 
   -- the block is looked through, and lists and marks are ready for more
   pub record Swept (link₀ link : List ℕ) (x0 x1 y0 y1 best : ℕ) : Type 0 where

@@ -10,7 +10,7 @@ use Rattle.basis.specs.Sizes.{mostSlices}
 use Rattle.select.specs.declared.class.Starts.{Starts}
 use Rattle.stitch_run.specs.declared.plan.Plan.{Plan}
 use Rattle.stitch_links.specs.declared.layout.Layout.{Layout}
-use Rattle.stitch_links.specs.Slices.{homeOf}
+use Rattle.stitch_links.specs.Slices.{homeOf, meetsOf}
 use Rattle.stitch_links.specs.Links.{Linked, everFree}
 use Rattle.stitch_links.specs.Ready.{Empty}
 use Rattle.stitch_links.specs.Hung.{Laid, Between, hung-fresh}
@@ -30,12 +30,12 @@ pub record LaidBy (w : Layout) (lists n : ℕ) (s : Starts) : Type 0 where
 pub record Hangable (points : List Float) (link : List ℕ) (p : Plan) (lists : ℕ) : Type 0 where
   pub far : FarFit points (p .slices)
   pub laying : Laying lists
-  pub long : lists + p .slices ≤ length link
+  pub long : 0 < lists → lists + p .slices + p .slices ≤ length link
   pub none : (h : ℕ) → h < lists → lists + p .slices ≤ getD link h 0
 
 pub record Hanged (points : List Float) (link : List ℕ) (p : Plan) (w : Layout) : Type 0 where
   pub laid : Laid w (p .slices) (p .starts)
-  pub linked : 0 < w .lists → Linked everFree (homeOf points w) (w .lists) (w .count) link
+  pub linked : 0 < w .lists → Linked everFree (homeOf points w) (meetsOf points w) (w .lists) (w .count) link
 
 -- with no lists nothing hangs
 pub hang-none : (points : List Float) (link : List ℕ) (p : Plan) (w : Layout) → LaidBy w 0 (p .slices) (p .starts) → Hanged points link p w
@@ -55,7 +55,7 @@ module _ (points : List Float) (link : List ℕ) (p : Plan) (lists : ℕ) (h : H
               x = l .laid .x;
               y = l .laid .y;
             };
-        size = omega (arith, h .long);
+        size = omega (arith, h .long (omega arith));
         none = λ i d. omega (arith, h .none i (omega arith));
       }
 

@@ -12,7 +12,7 @@ use Rattle.stitch_run.specs.declared.plan.Plan.{Plan}
 use Rattle.stitch_run.specs.Run.{free}
 use Rattle.stitch_cell.specs.Cell.{Steady}
 use Rattle.stitch_links.specs.declared.layout.Layout.{Layout}
-use Rattle.stitch_links.specs.Slices.{homeOf}
+use Rattle.stitch_links.specs.Slices.{homeOf, meetsOf}
 use Rattle.stitch_links.specs.Links.{Linked, everFree}
 use Rattle.stitch_links.specs.Ready.{ScanFit, Fit}
 use Rattle.stitch_links.specs.LinkLaws.{linked-fresh, linked-visit, linked-begin}
@@ -29,7 +29,7 @@ pub record Laid (w : Layout) (n : ℕ) (s : Starts) : Type 0 where
 -- a chain runs: its first slice is free, and so is what is not visited
 pub record Hung (points : List Float) (visited : List Bool) (first : ℕ) (w : Layout) (link : List ℕ) (n : ℕ) (s : Starts) : Type 0 where
   pub laid : Laid w n s
-  pub linked : 0 < w .lists → Linked (free visited first) (homeOf points w) (w .lists) (w .count) link
+  pub linked : 0 < w .lists → Linked (free visited first) (homeOf points w) (meetsOf points w) (w .lists) (w .count) link
 
 -- between two chains: the lists are good for the last chain's first slice, whichever it was
 pub record Between (points : List Float) (visited : List Bool) (w : Layout) (link : List ℕ) (n : ℕ) (s : Starts) : Type 0 where
@@ -50,12 +50,12 @@ module _ (points : List Float) (visited : List Bool) (first : ℕ) (w : Layout) 
 
   -- a slice is visited, while a chain runs
   pub hung-visit : (i : ℕ) → Hung points visited first w link n s → Hung points (set visited i true) first w link n s
-  hung-visit i h = record { laid = h .laid; linked = λ l. linked-visit (homeOf points w) (w .lists) (w .count) link visited first i (h .linked l) }
+  hung-visit i h = record { laid = h .laid; linked = λ l. linked-visit (homeOf points w) (meetsOf points w) (w .lists) (w .count) link visited first i (h .linked l) }
 
   -- a chain begins, with a slice that is not visited
   pub hung-begin : (i : ℕ) → getD visited i false ≡ false → Hung points visited first w link n s → Hung points (set visited i true) i w link n s
-  hung-begin i e h = record { laid = h .laid; linked = λ l. linked-begin (homeOf points w) (w .lists) (w .count) link visited first i e (h .linked l) }
+  hung-begin i e h = record { laid = h .laid; linked = λ l. linked-begin (homeOf points w) (meetsOf points w) (w .lists) (w .count) link visited first i e (h .linked l) }
 
   -- before any is
-  pub hung-fresh : Laid w n s → (0 < w .lists → Linked everFree (homeOf points w) (w .lists) (w .count) link) → Hung points visited first w link n s
-  hung-fresh a h = record { laid = a; linked = λ l. linked-fresh (homeOf points w) (w .lists) (w .count) link (free visited first) (h l) }
+  pub hung-fresh : Laid w n s → (0 < w .lists → Linked everFree (homeOf points w) (meetsOf points w) (w .lists) (w .count) link) → Hung points visited first w link n s
+  hung-fresh a h = record { laid = a; linked = λ l. linked-fresh (homeOf points w) (meetsOf points w) (w .lists) (w .count) link (free visited first) (h l) }

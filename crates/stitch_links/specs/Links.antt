@@ -1,5 +1,5 @@
 -- The lists of slices, in one list of links.
--- A slice j stands as lists + j. At a list's own number h stands its first slice, at lists + j the one after j; lists + n and above is none.
+-- A slice j stands as lists + j. At a list's own number h stands its first slice, at lists + j the one after j; lists + n and above is none. At lists + j + n stands the last of j's run.
 use Prim.Native.Nat.{ℕ, suc, _+_, _-_, _≤_, _<_}
 use mathlib.Core.Bool.{Bool, true, false, cond}
 use mathlib.Core.List.{List}
@@ -9,6 +9,7 @@ use lib.ListN.{length, getD}
 use lib.Ieee.{Float}
 use Rattle.select.specs.Select.{noNumber}
 use Rattle.stitch_links.specs.declared.layout.Layout.{Layout}
+use Rattle.stitch_links.specs.declared.look.Query.{Query}
 use Rattle.stitch_links.specs.Slices.{columnOf, lineOf}
 
 -- x stands at a place of list h, behind which slices from `from` on hang: what is passed over between is not free
@@ -21,20 +22,29 @@ pub record Next (free : ℕ → Bool) (L : ℕ → ℕ) (lists n h from x : ℕ)
 unfoldable pub placeOf : (ℕ → ℕ) → ℕ → ℕ → ℕ
 placeOf L lists at = cond (ltb at lists) at (L (at - lists))
 
--- The invariant. `free` says which slices may still be asked for, L the list of each
-pub record Linked (free : ℕ → Bool) (L : ℕ → ℕ) (lists n : ℕ) (link : List ℕ) : Type 0 where
-  pub size : lists + n ≤ length link
-  pub at : (a : ℕ) → a < lists + n → Next free L lists n (placeOf L lists a) (suc a - lists) (getD link a 0)
+-- x stands for the last slice of j's run: those of j's list up to there meet what j meets
+pub record Run (L : ℕ → ℕ) (meets : Query → ℕ → Bool) (lists n j x : ℕ) : Type 0 where
+  pub higher : lists + j ≤ x
+  pub inside : x < lists + n
+  pub mine : L (x - lists) ≡ L j
+  pub alike : (q : Query) (k : ℕ) → j ≤ k → lists + k ≤ x → L k ≡ L j → meets q k ≡ meets q j
 
--- while slices are put on, from the last to the first: those from i on are
-pub record Linking (free : ℕ → Bool) (L : ℕ → ℕ) (lists n i : ℕ) (link : List ℕ) : Type 0 where
-  pub size : lists + n ≤ length link
-  pub heads : (h : ℕ) → h < lists → Next free L lists n h i (getD link h 0)
-  pub tails : (k : ℕ) → i ≤ k → k < n → Next free L lists n (L k) (suc k) (getD link (lists + k) 0)
+-- The invariant. `free` says which slices may still be asked for, L the list of each, `meets` which slices a query meets
+pub record Linked (free : ℕ → Bool) (L : ℕ → ℕ) (meets : Query → ℕ → Bool) (lists n : ℕ) (link : List ℕ) : Type 0 where
+  pub size : lists + n + n ≤ length link
+  pub at : (a : ℕ) → a < lists + n → Next free L lists n (placeOf L lists a) (suc a - lists) (getD link a 0)
+  pub runs : (j : ℕ) → j < n → Run L meets lists n j (getD link (lists + j + n) 0)
 
 -- every slice, before any is visited
 abbrev pub everFree : ℕ → Bool
 everFree j = true
+
+-- while slices are put on, from the last to the first: those from i on are
+pub record Linking (L : ℕ → ℕ) (meets : Query → ℕ → Bool) (lists n i : ℕ) (link : List ℕ) : Type 0 where
+  pub size : lists + n + n ≤ length link
+  pub heads : (h : ℕ) → h < lists → Next everFree L lists n h i (getD link h 0)
+  pub tails : (k : ℕ) → i ≤ k → k < n → Next everFree L lists n (L k) (suc k) (getD link (lists + k) 0)
+  pub runs : (k : ℕ) → i ≤ k → k < n → Run L meets lists n k (getD link (lists + k + n) 0)
 
 -- r is a hit, or noNumber; among the slices of C there is no lower one
 pub record Found (hit : ℕ → Bool) (C : ℕ → Type 0) (n r : ℕ) : Type 0 where
@@ -43,8 +53,8 @@ pub record Found (hit : ℕ → Bool) (C : ℕ → Type 0) (n r : ℕ) : Type 0 
   pub passed : (j : ℕ) → j < n → j < r → C j → hit j ≡ false
 
 -- a look leaves the lists as good as they were
-pub record Looked (free hit : ℕ → Bool) (L : ℕ → ℕ) (C : ℕ → Type 0) (lists n : ℕ) (link : List ℕ) (r : ℕ) : Type 0 where
-  pub linked : Linked free L lists n link
+pub record Looked (free hit : ℕ → Bool) (L : ℕ → ℕ) (meets : Query → ℕ → Bool) (C : ℕ → Type 0) (lists n : ℕ) (link : List ℕ) (r : ℕ) : Type 0 where
+  pub linked : Linked free L meets lists n link
   pub found : Found hit C n r
 
 -- slice j's cells are in a block: columns from x0 on, below x1; lines from y0 on, below y1

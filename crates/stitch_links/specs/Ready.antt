@@ -1,5 +1,5 @@
 -- What each function requires.
-use Prim.Native.Nat.{ℕ, _+_, _*_, _≤_, _<_}
+use Prim.Native.Nat.{ℕ, suc, _+_, _*_, _≤_, _<_}
 use mathlib.Core.Bool.{Bool}
 use mathlib.Core.List.{List}
 use mathlib.Core.Path.{_≡_}
@@ -11,8 +11,8 @@ use Rattle.stitch_links.specs.declared.layout.Layout.{Layout}
 use Rattle.stitch_links.specs.declared.look.Query.{Query}
 use Rattle.stitch_links.specs.declared.look.Cells.{Cells}
 use Rattle.stitch_run.specs.Run.{free}
-use Rattle.stitch_links.specs.Slices.{homeOf, hitOf, lowestOf, cellsOf}
-use Rattle.stitch_links.specs.Links.{Linked}
+use Rattle.stitch_links.specs.Slices.{homeOf, meetsOf, hitOf, lowestOf, cellsOf}
+use Rattle.stitch_links.specs.Links.{Next, Run, Linked, everFree}
 
 pub record Masked (lists : ℕ) : Type 0 where
   pub some : 0 < lists
@@ -20,6 +20,10 @@ pub record Masked (lists : ℕ) : Type 0 where
 
 pub record There (points : List Float) (j : ℕ) : Type 0 where
   pub inside : 2 * j + 1 < length points
+
+pub record Both (points : List Float) (i j : ℕ) : Type 0 where
+  pub one : There points i
+  pub other : There points j
 
 pub record Marked (visited : List Bool) (j : ℕ) : Type 0 where
   pub inside : j < length visited
@@ -47,14 +51,32 @@ pub record ScanFit (points : List Float) (visited : List Bool) (n : ℕ) : Type 
 -- links before any slice is put on: none anywhere
 pub record Empty (points : List Float) (w : Layout) (link : List ℕ) : Type 0 where
   pub fit : Fit points w
-  pub size : w .lists + w .count ≤ length link
+  pub size : w .lists + w .count + w .count ≤ length link
   pub none : (h : ℕ) → h < w .lists → w .lists + w .count ≤ getD link h 0
+
+-- the runs of the slices from `from` on
+pub record Runs (points : List Float) (w : Layout) (link : List ℕ) (from : ℕ) : Type 0 where
+  pub fit : Fit points w
+  pub size : w .lists + w .count + w .count ≤ length link
+  pub run : (k : ℕ) → from ≤ k → k < w .count → Run (homeOf points w) (meetsOf points w) (w .lists) (w .count) k (getD link (w .lists + k + w .count) 0)
+
+-- the first on slice i's list, before i is put in front of it
+pub record Before (points : List Float) (w : Layout) (link : List ℕ) (i next : ℕ) : Type 0 where
+  pub runs : Runs points w link (suc i)
+  pub here : i < w .count
+  pub first : Next everFree (homeOf points w) (w .lists) (w .count) (homeOf points w i) (suc i) next
+
+-- a slice that was not met, after another
+pub record Passed (points : List Float) (w : Layout) (link : List ℕ) (seen j : ℕ) : Type 0 where
+  pub runs : Runs points w link 0
+  pub here : j < w .count
+  pub before : seen < w .count
 
 -- slices that hang on their lists
 pub record Lookable (points : List Float) (visited : List Bool) (w : Layout) (first : ℕ) (link : List ℕ) : Type 0 where
   pub fit : Fit points w
   pub marks : w .count ≤ length visited
-  pub linked : Linked (free visited first) (homeOf points w) (w .lists) (w .count) link
+  pub linked : Linked (free visited first) (homeOf points w) (meetsOf points w) (w .lists) (w .count) link
 
 -- a list to be looked through
 pub record OnList (points : List Float) (visited : List Bool) (w : Layout) (first : ℕ) (link : List ℕ) (h : ℕ) : Type 0 where
@@ -84,4 +106,4 @@ pub record Asked (points : List Float) (visited : List Bool) (w : Layout) (q : Q
 -- the lowest slice that is looked for, by the plain definition; and the lists are as good as they were
 pub record Lowest (points : List Float) (visited : List Bool) (w : Layout) (q : Query) (link : List ℕ) (r : ℕ) : Type 0 where
   pub is : r ≡ lowestOf (hitOf points visited w q) (w .count)
-  pub linked : Linked (free visited (q .first)) (homeOf points w) (w .lists) (w .count) link
+  pub linked : Linked (free visited (q .first)) (homeOf points w) (meetsOf points w) (w .lists) (w .count) link

@@ -2,10 +2,11 @@
 use Prim.Native.Nat.{ℕ, zero, suc, _+_, _-_, _*_, _/_, _%_}
 use mathlib.Core.Bool.{Bool, cond, _&&_}
 use mathlib.Core.List.{List}
+use mathlib.Core.Path.{_≡_}
 use lib.Bits.{bitAnd}
 use lib.Dec.{eqb, ltb}
 use lib.ListN.{getD}
-use lib.Ieee.{Float, nan, binary64, add, sub, le}
+use lib.Ieee.{Float, nan, binary64, add, sub, eq, le}
 use Rattle.select.specs.Select.{noNumber}
 use Rattle.basis.specs.declared.number.Tolerance.{Tolerance}
 use Rattle.outline.specs.declared.point.Point.{Point}
@@ -46,6 +47,14 @@ startsIn points q j =
 
 unfoldable pub meetsOf : List Float → Layout → Query → ℕ → Bool
 meetsOf points w q j = startsIn points q j && eqb (groupOf w j) (q .group)
+
+-- slices i and j begin at one point
+abbrev pub sameStart : List Float → ℕ → ℕ → Bool
+sameStart points i j = (eq (xOf points i) (xOf points j)) && (eq (yOf points i) (yOf points j))
+
+-- a query meets both or neither
+abbrev pub Alike : List Float → Layout → ℕ → ℕ → Type 0
+Alike points w i j = (q : Query) → meetsOf points w q i ≡ meetsOf points w q j
 
 -- slice j is looked for
 abbrev pub hitOf : List Float → List Bool → Layout → Query → ℕ → Bool

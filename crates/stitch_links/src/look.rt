@@ -62,7 +62,7 @@ fn meets(points: &[f64], w: Layout, q: Query, j: usize) -> bool
     layout::group_of(w, j) == q.group
 }
 
-// On one list: the lowest slice that is looked for. What is not free is taken off.
+// On one list: the lowest slice that is looked for. What is not free is taken off, and where a slice is not met its run is passed.
 fn first_on(
     points: &[f64],
     visited: &[bool],
@@ -72,12 +72,13 @@ fn first_on(
     h: usize,
 ) -> usize
     requires { ⌜ OnList (now points) (now visited) w (q .first) (now link) h ⌝ }
-    ensures { λ r. ⌜ Looked (free (now (visited .entry)) (q .first)) (hitOf (now (points .entry)) (now (visited .entry)) w q) (homeOf (now (points .entry)) w) (λ j. homeOf (now (points .entry)) w j ≡ h) (w .lists) (w .count) (now (link .exit)) r ⌝ }
+    ensures { λ r. ⌜ Looked (free (now (visited .entry)) (q .first)) (hitOf (now (points .entry)) (now (visited .entry)) w q) (homeOf (now (points .entry)) w) (meetsOf (now (points .entry)) w) (λ j. homeOf (now (points .entry)) w j ≡ h) (w .lists) (w .count) (now (link .exit)) r ⌝ }
 {
     let lists = w.lists;
     let end = lists + w.count;
     let mut at = h;
     let mut next = link[at];
+    let mut seen = 0;
     while next < end {
         let j = next - lists;
         if !is_free(visited, q.first, j) {
@@ -89,8 +90,9 @@ fn first_on(
         if meets(points, w, q, j) {
             return j;
         }
-        at = next;
+        at = layout::passed_to(points, link, w, seen, j);
         next = link[at];
+        seen = j;
     }
     NO_NUMBER
 }
@@ -107,7 +109,7 @@ fn row(
     y1: usize,
 ) -> usize
     requires { ⌜ Row (now points) (now visited) w (q .first) (now link) y1 ⌝ }
-    ensures { λ r. ⌜ Looked (free (now (visited .entry)) (q .first)) (hitOf (now (points .entry)) (now (visited .entry)) w q) (homeOf (now (points .entry)) w) (Block (now (points .entry)) w cx (cx + 1) y0 (y1 + 1)) (w .lists) (w .count) (now (link .exit)) r ⌝ }
+    ensures { λ r. ⌜ Looked (free (now (visited .entry)) (q .first)) (hitOf (now (points .entry)) (now (visited .entry)) w q) (homeOf (now (points .entry)) w) (meetsOf (now (points .entry)) w) (Block (now (points .entry)) w cx (cx + 1) y0 (y1 + 1)) (w .lists) (w .count) (now (link .exit)) r ⌝ }
 {
     let mut best = NO_NUMBER;
     let mut cy = y0;
@@ -130,7 +132,7 @@ fn search(
     c: Cells,
 ) -> usize
     requires { ⌜ Rows (now points) (now visited) w (q .first) (now link) c ⌝ }
-    ensures { λ r. ⌜ Looked (free (now (visited .entry)) (q .first)) (hitOf (now (points .entry)) (now (visited .entry)) w q) (homeOf (now (points .entry)) w) (Block (now (points .entry)) w (c .x0) (c .x1 + 1) (c .y0) (c .y1 + 1)) (w .lists) (w .count) (now (link .exit)) r ⌝ }
+    ensures { λ r. ⌜ Looked (free (now (visited .entry)) (q .first)) (hitOf (now (points .entry)) (now (visited .entry)) w q) (homeOf (now (points .entry)) w) (meetsOf (now (points .entry)) w) (Block (now (points .entry)) w (c .x0) (c .x1 + 1) (c .y0) (c .y1 + 1)) (w .lists) (w .count) (now (link .exit)) r ⌝ }
 {
     let last = c.x1;
     let mut best = NO_NUMBER;

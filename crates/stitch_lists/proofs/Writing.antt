@@ -1,5 +1,5 @@
 -- What the lent lists hold at the end, and what the working lists hold at first.
-use Prim.Native.Nat.{ℕ, zero, suc, _+_, _*_, _≤_}
+use Prim.Native.Nat.{ℕ, zero, suc, _+_, _*_, _≤_, _<_}
 use mathlib.Core.Bool.{Bool, false}
 use mathlib.Core.Path.{_≡_, refl, sym, ap, _∙_}
 use mathlib.Core.List.{List, _∷_}
@@ -73,15 +73,15 @@ marks-length most n h = sym (length-take-le n (replicate most false) (rw (length
 
 -- lists of their own for at most so many slices, and links for them by so many lists
 pub tabled-of : (most full held : ℕ) (g : Given) (x : Lists) → Few most g x → (points : List Float) (visited : List Bool) (link : List ℕ) → length points ≡ 2 * most
-    → visited ≡ take (g .slices) (replicate most false) → link ≡ replicate full full → held + most ≤ full → held ≤ 4096 → Tabled g points visited link held x
+    → visited ≡ take (g .slices) (replicate most false) → link ≡ replicate full full → (0 < held → held + most + most ≤ full) → held ≤ 4096 → Tabled g points visited link held x
 tabled-of most full held g x f points visited link e m l h s =
     record {
       fit = f .fit;
       size = omega (arith, f .few);
       marks = m ∙ take-marks (g .slices) most (f .few);
       small = s;
-      long = omega (arith, f .few, ap length l, length-replicate full full);
-      none = λ i d. rw (l, getD-replicate full i full 0 (omega arith)) (omega (arith, f .few));
+      long = λ d. omega (arith, f .few, ap length l, length-replicate full full, h d);
+      none = λ i d. (let k = h (omega arith) in rw (l, getD-replicate full i full 0 (omega arith)) (omega (arith, f .few)));
     }
 
 pub few-of : (g : Given) (x : Lists) → StitchFit g x → Few mostSlices g x

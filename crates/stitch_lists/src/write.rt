@@ -118,10 +118,10 @@ fn write_scanned(
     )
 }
 
-// So many slices have small working lists, which cost little to set up: so many lists of cells, and a link for each list and slice.
+// So many slices have small working lists, which cost little to set up: so many lists of cells, a link for each list and slice, and for each slice the last of its run.
 const FEW: usize = 64;
 
-const FEW_LINKS: usize = 128;
+const FEW_LINKS: usize = 192;
 
 fn write_few(
     outline1: &[f64],
@@ -162,7 +162,7 @@ fn write_few(
 // The same for the most.
 const MOST_LISTS: usize = 2048;
 
-const MOST_LINKS: usize = 3840;
+const MOST_LINKS: usize = 5632;
 
 fn write_many(
     outline1: &[f64],

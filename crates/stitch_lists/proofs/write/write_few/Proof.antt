@@ -18,7 +18,7 @@ write-with-requires c κs =
     let made = c .before .before .before .before .before .before .before in
     let lent = made .before .before .before .before in
     let entry = lent .before .before .before .before .before .before in
-    tabled-of 64 128 64 _ _ (entry .pre) _ _ _ (length-replicate 128 +0) refl refl (omega arith) (omega arith)
+    tabled-of 64 192 64 _ _ (entry .pre) _ _ _ (length-replicate 128 +0) refl refl (λ d. omega arith) (omega arith)
 
 pub write-few-spec : {M : Type 1} → statement M
 write-few-spec =

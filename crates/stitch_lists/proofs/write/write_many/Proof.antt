@@ -19,7 +19,7 @@ write-with-requires c κs =
     let made = c .before .before .before .before .before .before .before in
     let lent = made .before .before .before .before in
     let entry = lent .before .before .before .before .before .before in
-    tabled-of mostSlices 3840 2048 _ _ (few-of _ _ (entry .pre)) _ _ _ (length-replicate 3584 +0) refl refl (omega arith) (omega arith)
+    tabled-of mostSlices 5632 2048 _ _ (few-of _ _ (entry .pre)) _ _ _ (length-replicate 3584 +0) refl refl (λ d. omega arith) (omega arith)
 
 pub write-many-spec : {M : Type 1} → statement M
 write-many-spec =

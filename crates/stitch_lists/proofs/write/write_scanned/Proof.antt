@@ -18,7 +18,7 @@ write-with-requires c κs =
     let made = c .before .before .before .before .before .before .before in
     let lent = made .before .before .before .before in
     let entry = lent .before .before .before .before .before .before in
-    tabled-of 4 4 0 _ _ (entry .pre) _ _ _ (length-replicate 8 +0) refl refl (omega arith) (omega arith)
+    tabled-of 4 4 0 _ _ (entry .pre) _ _ _ (length-replicate 8 +0) refl refl (λ d. absurd (omega arith)) (omega arith)
 
 pub write-scanned-spec : {M : Type 1} → statement M
 write-scanned-spec =
