@@ -170,17 +170,18 @@ count-number (listed l) = refl
 
 -- ---- of each entry, from its contract alone: whatever number other than 0 it gives, each list is at exit what it was at entry
 
+untouched : {R : Type 0} (f : Answer Slice → R) (number : R → ℕ) → ((a : Answer Slice) → number (f a) ≡ refusalIn a)
+    → (w : Lists) (v : Called) (r : R) (left : Lists) → StoreLeft f w v r left → (number r ≡ 0 → ⊥) → left ≡ w
+untouched f number told w v r left holds some = holds .lists ∙ turn-refused w v (λ z. some (ap number (holds .answers) ∙ told (storeTurn w v .answer) ∙ z))
+
 pub put-untouched : (w : Lists) (p : ℕ) (x : Slice) (r : HandleAnswer) (left : Lists) → StoreLeft handleAnswer w (called p (toPut x)) r left → (r .refusal ≡ 0 → ⊥) → left ≡ w
-put-untouched w p x r left holds some =
-    holds .lists ∙ turn-refused w (called p (toPut x)) (λ z. some (ap (λ (a : HandleAnswer). a .refusal) (holds .answers) ∙ handle-number (storeTurn w (called p (toPut x)) .answer) ∙ z))
+put-untouched w p x = untouched handleAnswer (λ (a : HandleAnswer). a .refusal) handle-number w (called p (toPut x))
 
 pub release-untouched : (w : Lists) (p k : ℕ) (r : DoneAnswer) (left : Lists) → StoreLeft doneAnswer w (called p (toRelease k)) r left → (r .refusal ≡ 0 → ⊥) → left ≡ w
-release-untouched w p k r left holds some =
-    holds .lists ∙ turn-refused w (called p (toRelease k)) (λ z. some (ap (λ (a : DoneAnswer). a .refusal) (holds .answers) ∙ done-number (storeTurn w (called p (toRelease k)) .answer) ∙ z))
+release-untouched w p k = untouched doneAnswer (λ (a : DoneAnswer). a .refusal) done-number w (called p (toRelease k))
 
 pub compact-untouched : (w : Lists) (p : ℕ) (r : DoneAnswer) (left : Lists) → StoreLeft doneAnswer w (called p toCompact) r left → (r .refusal ≡ 0 → ⊥) → left ≡ w
-compact-untouched w p r left holds some =
-    holds .lists ∙ turn-refused w (called p toCompact) (λ z. some (ap (λ (a : DoneAnswer). a .refusal) (holds .answers) ∙ done-number (storeTurn w (called p toCompact) .answer) ∙ z))
+compact-untouched w p = untouched doneAnswer (λ (a : DoneAnswer). a .refusal) done-number w (called p toCompact)
 
 -- the store's own lists are only read by this one
 pub list-untouched : (w : Lists) (p : ℕ) (o : Rooms) (r : CountAnswer) (left : Rooms) → ListLeft w p o r left → (r .refusal ≡ 0 → ⊥) → left ≡ o
