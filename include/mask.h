@@ -18,22 +18,22 @@
  *
  * Positions are compared with two tolerances, `tolerance_x` for x and `tolerance_y` for y,
  * each above 0 and at most 1. Two points agree where they differ by less than that, on
- * each axis. Where one tolerance will do, give it twice.
+ * each axis. Where one tolerance is enough, give it twice.
  *
- * An outline has an edition, a number of 32 bits that the host gives it, another one
- * whenever it changes the outline; 0 is one like any other. What is cut of an outline
- * keeps its edition: `mask_candidates` writes it beside each candidate, the host keeps
- * that of outline 2 beside each overlap from when it found it, and `mask_prune` copies
- * both to the slices. `mask_stitch` and `mask_validate_for_source` compare it with the
- * outline's and refuse where it differs. So vertex numbers of an old outline are not
- * read on a new one. `mask_reopen` and `mask_unmoved` are for slices that a late outline
- * has left behind.
+ * An outline has an edition, a number of 32 bits. The host gives it, and gives another
+ * one whenever it changes the outline; 0 is one like any other. What is cut from an
+ * outline keeps its edition: `mask_candidates` writes it beside each candidate, the host
+ * keeps that of outline 2 beside each overlap from when it found the overlap, and
+ * `mask_prune` copies both to the slices. `mask_stitch` and `mask_validate_for_source`
+ * compare it with the outline's and refuse where it differs. So vertex numbers of an old
+ * outline are not read on a new one. `mask_reopen` and `mask_unmoved` are for slices whose
+ * outline has changed since they were cut.
  *
  * A list that is not const is room for the answer. Its need is stated beside the
  * entry. Where the call is accepted, the items are written from its start on, then
  * 0 up to the need. What lies beyond the need is left as it was. No two lists of a
- * call may share memory where one of them is room. The record of settings is read and
- * written in place; beside its entries stands what is written there.
+ * call may share memory where one of them is written. Two things are read and written in
+ * place: the record of settings and the store. Their entries say what is written there.
  *
  * Calls share no state. The library has no variables, keeps nothing from one call to the
  * next (a store is the host's own memory), allocates nothing, and calls nothing but memset
@@ -148,19 +148,20 @@ enum mask_refusal {
     MASK_REFUSED_MARK = 11,     /* a record has fewer than 5 bytes, or does not begin with PBR */
     MASK_REFUSED_VERSION = 12,  /* a version of the record is unknown */
     MASK_REFUSED_SIZE = 13,     /* a record's length is not as its counts say, or too high */
-    MASK_REFUSED_LENGTH = 1,    /* a list's length disagrees with its count, or that is too high */
+    MASK_REFUSED_LENGTH = 1,    /* a list's length disagrees with its count, or a count is too high */
     MASK_REFUSED_OUTLINE = 2,   /* fewer than 2 or more than 1024 vertices */
     MASK_REFUSED_CODE = 3,      /* an unknown mode, selector, source (1, 2) or yes/no code (0, 1) */
     MASK_REFUSED_UNKNOWN_SETTING = 16, /* no setting was entered under the edition */
     MASK_REFUSED_SETTINGS_FULL = 17, /* the record has its 16 settings */
-    MASK_REFUSED_TOLERANCE = 4, /* either is not finite or out of range (area limit: below 0) */
+    MASK_REFUSED_TOLERANCE = 4, /* a tolerance is not above 0 or is above 1; an area limit is below
+                                   0 or not finite */
     MASK_REFUSED_NUMBER = 5,    /* not finite, or beyond 2^30 (areas: not finite) */
     MASK_REFUSED_RANGE = 18,    /* a coordinate of a straight mask is out of range or not whole, or it has a bulge */
     MASK_REFUSED_LOOPS = 19,    /* more than 4096 outlines in a report */
     MASK_REFUSED_INDEX = 6,     /* an index is not below the vertex count */
     MASK_REFUSED_BACKWARD = 15, /* an open outline with its start index above its end index */
     MASK_REFUSED_COUNT = 7,     /* an offset or a traverse count is out of range */
-    MASK_REFUSED_STARTS = 8,    /* the starts of the classes fall back, or lie past the slices */
+    MASK_REFUSED_STARTS = 8,    /* the starts of the classes are not in order, or lie past the slices */
     MASK_REFUSED_EDITION = 14,  /* a slice or a view is of another edition than its outline */
     MASK_REFUSED_ROOM = 9,      /* a list lent to be written is shorter than the need */
     MASK_REFUSED_PARTY = 22,    /* a party of the store is neither 0 nor 1 */
@@ -215,7 +216,7 @@ typedef struct mask_vertex {
 /* A part of an outline, or the whole of it, forward or inverted. */
 typedef struct mask_view {
     size_t start_index;          /* the segment on which it starts */
-    size_t end_index_offset;     /* how many segments on it ends; at most vc */
+    size_t end_index_offset;     /* how many segments further it ends; at most vc */
     mask_vertex updated_start;   /* its first vertex */
     double updated_end_bulge;    /* the bulge of its last segment */
     mask_point end_point;        /* its last point */
@@ -297,8 +298,8 @@ mask_count_answer mask_view_vertices(const double *outline, size_t outline_len, 
 /*
  * The view that walks `traverse_count` segments on from `start_index`, to
  * `end_intersect` on segment `intersect_index`. `split` is the host's split of
- * that segment at that point. Its start bulge is used where the end does not
- * agree with the segment's first vertex. Refusals 1, 2, 4, 5, 6, 7.
+ * that segment at that point. The bulge of its `updated_start` is used where the end
+ * does not agree with the segment's first vertex. Refusals 1, 2, 4, 5, 6, 7.
  */
 mask_view_answer mask_create(const double *outline, size_t outline_len, size_t vc,
                              size_t start_index, mask_point end_intersect, size_t intersect_index,
@@ -340,14 +341,15 @@ typedef struct mask_span_answer {
     uint32_t refusal;
     uint32_t moved;        /* 1 where the start stood on the end of its segment and moved on */
     size_t start_index;    /* the start's segment, after it moved */
-    size_t traverse_count; /* how many segments on the end is: 0 to vc */
+    size_t traverse_count; /* how many segments further the end is: 0 to vc */
 } mask_span_answer;
 
 /*
- * The segment on which the view between two points starts, and how many segments on it
- * ends. On an open outline a start moves only where its index is below the end's. Where
- * both points are on one segment of a closed outline and do not agree, the view stays on
- * it where the start is nearer to its first vertex, and goes all the way round else.
+ * The segment on which the view between two points starts, and how many segments further
+ * it ends. On an open outline a start moves only where its index is below the end's. Where
+ * both points are on one segment of a closed outline and do not agree: the view stays on
+ * it where the start is nearer to its first vertex than the end, and else goes all the way
+ * round.
  * Refusals 1, 2, 3, 4, 5, 6, 15.
  */
 mask_span_answer mask_slice_span(const double *outline, size_t outline_len, size_t vc,
@@ -678,9 +680,9 @@ mask_replay_answer mask_record_replay(const uint8_t *bytes, size_t bytes_len, do
  *   slice          6 to a place, as for a stitch
  *   slice_edition  1 to a place: the edition of the outline that the slice was cut from
  * Two parties share it, 0 and 1. Each has MASK_STORE_SHARE places, the first half of every
- * list or the second, and handles of its own. What one party does, nobody sees who calls
- * for the other: its lists, handles and refusals are the same in any two histories that
- * agree on its own calls. A call writes nothing in the other party's half.
+ * list or the second, and handles of its own. A party sees nothing of what the other does:
+ * its lists, handles and refusals are the same in any two histories that agree on its own
+ * calls. A call writes nothing in the other party's half.
  *
  * All zeros is the empty store, and whatever else the lists hold is some store: no content
  * is refused. A list of another length is refused (1). The library holds nothing between
@@ -688,8 +690,8 @@ mask_replay_answer mask_record_replay(const uint8_t *bytes, size_t bytes_len, do
  * a file. Two calls on one store must not run at the same time.
  *
  * Whatever is called in whatever order, a party's half answers as a plain list would. Before
- * a host reads `slice_at` or `slice` itself it asks for the list: which place is whose is
- * written in `held` alone.
+ * a host reads `slice_at` or `slice` itself it asks for the list: only `held` says which
+ * places hold live slices.
  */
 
 /* The handle of a slice that was put. */
@@ -716,7 +718,7 @@ mask_handle_answer mask_store_put(size_t *held, size_t held_len, size_t *slice_a
                                   const double *put, size_t put_len, uint32_t put_edition);
 
 /*
- * Lets the party's slice with this handle go. Where there is none, nothing changes.
+ * Releases the party's slice with this handle. Where there is none, nothing changes.
  * Refusals 1, 22, 21.
  */
 mask_done_answer mask_store_release(size_t *held, size_t held_len, const size_t *slice_at,
@@ -759,10 +761,10 @@ mask_done_answer mask_store_compact(size_t *held, size_t held_len, size_t *slice
 
 typedef struct mask_winding_answer {
     uint32_t refusal;
-    int64_t winding; /* inside is any but 0 */
+    int64_t winding; /* any number but 0 is inside */
 } mask_winding_answer;
 
-/* The area is size or -size, where size is high * 2^64 + low. */
+/* The doubled area is size or -size, where size is high * 2^64 + low. */
 typedef struct mask_area_answer {
     uint32_t refusal;
     uint32_t negative; /* 1 where it is below 0, else 0 */
@@ -798,16 +800,17 @@ mask_area_answer mask_straight_area(const int64_t *outline, size_t outline_len, 
  * The report on `loops` outlines, at most 4096: how many they are, how many of them have
  * area zero, and the total of their absolute doubled areas. `points` has the vertices of
  * all outlines, one outline after the other; `ends` has for each how many vertices all
- * up to and with it have, as `mask_stitch` writes it. Refusals 1, 2, 18, 19. Too many
- * outlines are 19, and not 1.
+ * up to and with it have, as `mask_stitch` writes it. An end below the one before it is an
+ * outline that is too short (2). With 0 outlines the call is accepted, and all fields are
+ * 0. Refusals 1, 2, 18, 19. Too many outlines are 19, and not 1.
  */
 mask_report_answer mask_straight_report(const int64_t *points, size_t points_len,
                                         const size_t *ends, size_t ends_len, size_t loops);
 
 /*
  * The slices of two such masks in one call: what `mask_candidates` of outline 1,
- * `mask_candidates` of outline 2, the inside answers and `mask_prune` give in turn. No
- * host is asked between them. The outlines, intersections and overlaps are lent as to
+ * `mask_candidates` of outline 2, the inside answers and `mask_prune` give in turn. The
+ * host is not asked in between. The outlines, intersections and overlaps are lent as to
  * these three, so an outline has three numbers to a vertex and all are binary64; but
  * every coordinate of a vertex, of an intersection and of an overlap's two ends is whole,
  * of magnitude at most 400000000, and every bulge is 0 (-0 is 0 too).

@@ -2,7 +2,7 @@
 //!
 //! `bench FILE.svg` prints tables of ratios, and writes the plot of times against sizes to the file.
 //! `bench straight` prints only the tables of straight masks.
-//! `bench once` and `bench once straight` are what they start, some times over; `bench once STAGE` times one stage alone.
+//! Both start `bench once` or `bench once straight` several times, each in a process of its own; `bench once STAGE` times one stage alone.
 //! `bench repeat STAGE INPUT SIZE` makes one of our calls again and again, for a profiler.
 
 mod ours;

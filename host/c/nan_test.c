@@ -1,12 +1,13 @@
 /*
  * The bits of NaNs in lent room. The language that the entries are proved in has one
  * NaN, without payload, so what is proved of room that is not written says nothing of a
- * NaN's bits (docs/CONTRACTS.md). Here every room of every entry that is lent one holds
- * NaNs, quiet and signalling, of several payloads, and is compared as bits: beyond the
- * need after an accepted call, all of it after a refused one. NaNs among the numbers
- * handed in are refused, and leave the room as it was too. Rooms of editions hold bits
- * of their own, and are compared in the same way. The room of a replay, which is handed
- * bytes, is compared so in record_test.c.
+ * NaN's bits (docs/CONTRACTS.md). Here every room of the entries in ENTRIES holds NaNs,
+ * quiet and signalling, of several payloads, and is compared as bits: beyond the need
+ * after an accepted call, all of it after a refused one. NaNs among the numbers handed in
+ * are refused, and leave the room as it was too. Rooms of editions hold bits of their own,
+ * and are compared in the same way. Elsewhere: the rooms of mask_candidates_along in
+ * cuts_test.c, the room of a replay in record_test.c, the room of the store's list in
+ * host/storm.
  *
  * One line for each check; the status is 0 where none failed. How lists are lent, and
  * what they hold before a call, stands in testing.h.

@@ -1,10 +1,9 @@
 /*
- * Calls mask_prune, mask_stitch and mask_area_pass as a
- * host does, and compares every answer and every list lent, bit for bit and to its
- * last element, with what document 01 says. One line for each check; the status is 0
- * where none failed.
+ * Calls mask_prune, mask_stitch and mask_area_pass as a host does, and compares every
+ * answer and every list lent, bit for bit and to its last element, with what documents
+ * 01 and 02 say. One line for each check; the status is 0 where none failed.
  *
- * The reference below is written from document 01 and from nothing else. It needs
+ * The reference below is written from these documents and from nothing else. It needs
  * -ffp-contract=off: each sum is rounded once.
  *
  * How lists are lent, and what they hold before a call, stands in testing.h.

@@ -2,8 +2,8 @@
 compares what it makes with the examples, which the library's writer makes of the same texts (host/rust/examples/write_examples.rs). Who wants a record
 takes `masks record`.
 
-One item to a line, words parted by blanks; `#` starts a comment. The order of the lines is free but for vertices and slices, which
-count from the first on:
+One item to a line, words parted by blanks; `#` starts a comment. The lines may come in any order, but vertices and slices are numbered
+from 0 in the order of their lines:
 
     version 2                       1 where this line is missing
     selector or_and                 or: not_xor, or a number from 0 to 255

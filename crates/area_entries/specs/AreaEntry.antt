@@ -1,4 +1,4 @@
--- The entry `mask_area_pass`: its refusals, its answer, and what its lent list holds.
+-- The area pass by a limit: its refusals, its answer, and what its lent list holds. `mask_area_pass` is this with a setting: named_entries/specs/NamedArea.antt.
 use Prim.Native.Nat.{ℕ}
 use mathlib.Core.Bool.{not}
 use mathlib.Core.Path.{_≡_}

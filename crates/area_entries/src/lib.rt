@@ -1,2 +1,2 @@
-// The entry over the area pass: what is refused, then one call down. The crate `mask` exports it.
+// The area pass by a limit: what is refused, then one call down. `mask_area_pass` is this call with the limit of a setting (`named_entries`).
 pub mod areas;

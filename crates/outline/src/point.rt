@@ -53,7 +53,7 @@ pub fn dist_squared(p: Point, q: Point) -> f64
     dx * dx + dy * dy
 }
 
-// Both coordinates agree, each by the tolerance of its axis. Beside the test of its range, this function and the next alone look into a position tolerance.
+// Both coordinates agree, each by the tolerance of its axis.
 pub fn points_agree(a: Point, b: Point, t: Tolerance) -> bool
     ensures { λ r. ⌜ r ≡ pointsAgree t a b ⌝ }
 {

@@ -1,4 +1,4 @@
--- Demand 3 in words over the lists that `mask_stitch` lends back.
+-- Demand 3 in words over the lists that a stitch leaves.
 use Prim.Native.Nat.{ℕ, _-_, _*_, _≤_, _<_}
 use mathlib.Core.Path.{_≡_}
 use mathlib.Core.Logic.{_⊎_}

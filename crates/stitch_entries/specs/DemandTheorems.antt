@@ -1,4 +1,5 @@
--- Demand 3, said of the entry `mask_stitch`: from its contract `StitchLeft` alone, whatever answer and lists it permits.
+-- Demand 3, said of the stitch by tolerances: from its contract `StitchLeft` alone, whatever answer and lists it permits. Of `mask_stitch`, which names a setting:
+-- named_entries/specs/NamedTheorems.antt `named-demand`.
 use Prim.Native.Nat.{ℕ, zero, suc, _+_, _-_, _≤_}
 use mathlib.Core.Bool.{Bool, true, false, _&&_, false≢true}
 use mathlib.Core.Path.{_≡_, refl, sym, ap, _∙_}

@@ -1,4 +1,4 @@
--- The entry `mask_stitch`: its refusals, its answer, and what its five lent lists hold.
+-- The stitch by tolerances: its refusals, its answer, and what its five lent lists hold. `mask_stitch` is this with a setting: named_entries/specs/NamedStitch.antt.
 use Prim.Native.Nat.{ℕ}
 use mathlib.Core.Path.{_≡_}
 use mathlib.Core.List.{List, [], _∷_, _++_}

@@ -1,4 +1,4 @@
--- The refusals of `mask_stitch`: a table in parts.
+-- The refusals of a stitch by tolerances: a table in parts.
 use Prim.Native.Nat.{ℕ, _+_, _*_}
 use mathlib.Core.Bool.{Bool, not, _||_}
 use mathlib.Core.List.{List, [], _∷_, _++_}

@@ -1,4 +1,4 @@
-// The refusals of `mask_stitch`, part by part of their table. Each part goes on from what was found so far.
+// The refusals of a stitch by tolerances, part by part of their table. Each part goes on from what was found so far.
 ghost use mathlib.Core.Path.{_≡_};
 ghost use lib.ListN.{length};
 ghost use Rattle.basis.specs.Refuse.{firstFrom};

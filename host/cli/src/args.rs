@@ -111,7 +111,7 @@ pub struct Vault {
 /// `masks draw`
 #[derive(Debug, Args)]
 #[command(after_help = "\
-A refused record is drawn too, as far as its numbers go, and the reason stands in the picture; the status is then 1. \
+A refused record is drawn too, as far as its numbers name anything, with the reason in the picture; the status is then 1. \
 For a picture that ends in .png one of the programs rsvg-convert, inkscape or magick has to be there.")]
 pub struct Draw {
     /// The record
@@ -128,7 +128,7 @@ pub struct Draw {
 /// `masks record`
 #[derive(Debug, Args)]
 #[command(after_help = "\
-One item to a line, words parted by blanks; # starts a comment. Vertices and slices count from the first on:
+One item to a line, words parted by blanks; # starts a comment. Vertices and slices are numbered from 0:
 
   version 2                       1 where this line is left out
   selector or_and                 or not_xor
@@ -204,7 +204,7 @@ pub struct Check {
     /// The outline that they were cut from
     #[arg(value_name = "OLD_OUTLINE")]
     pub old: PathBuf,
-    /// The outline that came for it
+    /// The outline that came in its place
     #[arg(value_name = "NEW_OUTLINE")]
     pub new: PathBuf,
     /// Which outline of the record has changed, where the old one is both

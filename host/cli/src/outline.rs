@@ -51,7 +51,7 @@ fn item(outline: &mut OutlineText, words: &[&str]) -> Result<(), String> {
         [] => {}
         ["edition", edition] => {
             let why = |_| {
-                format!("`{edition}` is no edition: it is a whole number from 0 to 4,294,967,295")
+                format!("`{edition}` is no edition: that is a whole number from 0 to 4,294,967,295")
             };
             let edition = edition.parse().map_err(why)?;
             if outline.edition.replace(edition).is_some() {

@@ -1,4 +1,4 @@
-//! Where two outlines meet, the cuts that come of it, and the candidates between the cuts.
+//! Where two outlines meet, the cuts that this gives, and the candidates between the cuts.
 
 use crate::lent::{self, CandidateRoom};
 use crate::list::{Flat, Layout, List};
@@ -184,7 +184,8 @@ impl FromIterator<Candidate> for Candidates {
 /// The cuts of one outline in their order: by segment, then by distance from the segment's start
 /// vertex, then by arrival. `source` says which of the two outlines it is.
 ///
-/// Refusals: `Length`, `Outline`, `Tolerance`, `Number`, `Index`.
+/// Refusals: `Length`, `Outline`, `Tolerance`, `Number`, `Index`, and `Count` for the view of an
+/// overlap where the outline is outline 2.
 ///
 /// ```
 /// use mask_tools::{cut_order, Intersection, Intersections, Outline, Overlaps, Point, Source};
@@ -231,7 +232,7 @@ pub fn cut_order(
 /// from a segment's last cut to the next segment that has one. `splits` are the host's, one for
 /// each cut of [`cut_order`] with the same lists; [`split_cuts`](crate::split_cuts) asks for them.
 ///
-/// Refusals: `Length`, `Outline`, `Tolerance`, `Number`, `Index`.
+/// Refusals: those of [`cut_order`].
 pub fn candidates(
     outline: &Outline,
     source: Source,
@@ -254,8 +255,8 @@ pub fn candidates(
     })
 }
 
-/// The same with the cuts as [`cut_order`] gave them, which it takes less time to look at than to
-/// put in order again. They are a hint: with other cuts the answer is that of [`candidates`] too.
+/// The same with the cuts as [`cut_order`] gave them: to check that order takes less time than to
+/// find it again. The cuts are a hint: with any others the answer is that of [`candidates`] too.
 pub fn candidates_along(
     outline: &Outline,
     source: Source,

@@ -82,7 +82,7 @@
 //!
 //! # Outlines that change
 //!
-//! An outline has an edition, and what is cut of it keeps that edition: a [`View`], and with it each
+//! An outline has an edition, and what is cut from it keeps that edition: a [`View`], and with it each
 //! candidate, overlap and slice. Slices of one edition are not stitched with an outline of another:
 //! that is [`Refusal::Edition`], and the way out is to cut again. [`View::reopen`] and
 //! [`View::unmoved`] are for slices that are to be kept; docs/REOPENING.md says when that is honest.

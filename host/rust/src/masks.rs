@@ -123,8 +123,8 @@ impl Masks<'_> {
     }
 
     /// Goes on from the answers of [`answered`](Masks::answered) for outline 1 and outline 2. Where
-    /// one of the outlines has been changed since, its candidates are of another edition, and it
-    /// refuses with [`Refusal::Edition`], but where none of them stays.
+    /// one of the outlines has been changed since, its candidates are of another edition. Then it
+    /// refuses with [`Refusal::Edition`], unless none of these candidates stays.
     pub fn combine_answered<H: Host + ?Sized>(
         &self,
         mode: Mode,

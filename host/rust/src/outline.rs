@@ -85,7 +85,7 @@ impl Tolerance {
 ///
 /// The library takes outlines of 2 to 1,024 vertices, with numbers of magnitude at most 2^30.
 ///
-/// The edition tells an outline from what it was before. What is cut of an outline keeps its edition,
+/// The edition tells an outline from what it was before. What is cut from an outline keeps its edition,
 /// and is not joined to parts of another one: [`Refusal::Edition`](crate::Refusal). So a changed
 /// outline must have another edition, and [`replaced_by`](Outline::replaced_by) gives it the next. An
 /// outline that is new has edition 0 until [`with_edition`](Outline::with_edition) gives it another.

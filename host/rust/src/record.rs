@@ -39,7 +39,7 @@ impl RecordVersion {
     }
 }
 
-/// The record `PBR` of a stitch: bytes, whatever they hold. Whether they are a record, a replay says.
+/// The record `PBR` of a stitch: bytes, whatever they hold. A replay says whether they are a record.
 ///
 /// ```
 /// use mask_tools::{Outline, Point, Record, RecordVersion, Refusal, Selector, Slice, Slices};
@@ -124,7 +124,8 @@ impl Record {
     /// and no edition: it refuses two that differ, and leaves editions out. Slices of another edition
     /// than their outline are refused in both versions.
     ///
-    /// Refusals: `Length`, `Outline`, `Tolerance`, `Number`, `Index`, `Count`, `Starts`, `Edition`.
+    /// Refusals: `Length`, `Outline`, `Tolerance`, `Number`, `Index`, `Count`, `Starts`, `Edition`; and
+    /// `Code`, as of a stitch.
     pub fn write(
         version: RecordVersion,
         pline1: &Outline,
@@ -138,7 +139,7 @@ impl Record {
         })
     }
 
-    /// What a call writes that is lent room for the most.
+    /// What a call writes that is lent room for the longest record.
     fn written(call: impl FnOnce(&mut [u8]) -> Result<usize, Refusal>) -> Result<Record, Refusal> {
         let mut bytes = vec![0; Record::MOST_BYTES];
         let length = call(&mut bytes)?;
@@ -279,7 +280,7 @@ impl RecordContents {
     /// The record of them, in this version. So a record of version 1 is written again as version 2.
     /// Codes are handed on as they are: an unknown one is refused.
     ///
-    /// Refusals: as of [`Record::write`], and `Code`.
+    /// Refusals: as of [`Record::write`].
     pub fn write(&self, version: RecordVersion) -> Result<Record, Refusal> {
         let mut codes = Vec::new();
         let mut numbers = Vec::new();

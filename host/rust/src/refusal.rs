@@ -24,7 +24,8 @@ pub enum Refusal {
     /// 2: an outline has fewer than 2 or more than 1,024 vertices.
     Outline,
     /// 3: a mode, selector, source or yes/no code is unknown. The types of this crate leave no
-    /// way to write such a code.
+    /// way to write such a code. It can come from bytes, of a record or of a store, and from the
+    /// answers of [`lent::prune`](crate::lent::prune), which are numbers.
     Code,
     /// 4: a tolerance, of x or of y, is not finite, not above 0 or above 1; or an area limit is not
     /// finite or below 0.
@@ -35,7 +36,7 @@ pub enum Refusal {
     Index,
     /// 7: an offset is above the vertex count; or a traverse count is 0 or above it.
     Count,
-    /// 8: the starts of the classes of slices fall back, or lie past the slices.
+    /// 8: the starts of the classes of slices are not in order, or lie past the slices.
     Starts,
     /// 9: lent room is smaller than the need. Only the calls of [`lent`](crate::lent) can give it.
     Room,
@@ -123,7 +124,7 @@ impl Refusal {
             Refusal::Count => (7, "an offset or a traverse count is out of range"),
             Refusal::Starts => (
                 8,
-                "the starts of the classes fall back, or lie past the slices",
+                "the starts of the classes are not in order, or lie past the slices",
             ),
             Refusal::Room => (9, "lent room is smaller than the need"),
             Refusal::Mark => (11, "a record does not begin with its mark, PBR"),

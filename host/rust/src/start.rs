@@ -29,7 +29,7 @@ pub struct Span {
     pub moved: bool,
     /// The segment of the start, after it moved.
     pub start_index: usize,
-    /// How many segments on the end is: 0 to the vertex count.
+    /// How many segments further the end is: 0 to the vertex count.
     pub traverse_count: usize,
 }
 
@@ -67,7 +67,7 @@ impl View {
     /// them.
     ///
     /// On a closed outline it runs forward, past vertex 0 too. On one segment it stays there where the
-    /// start is nearer to the segment's first vertex than the end, and goes all the way round else. On
+    /// start is nearer to the segment's first vertex than the end, and else goes all the way round. On
     /// an open outline the end's index is not below the start's.
     ///
     /// Refusals: `Outline`, `Tolerance`, `Number`, `Index`, `Backward`.

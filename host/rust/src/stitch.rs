@@ -156,7 +156,8 @@ fn part<'a, T>(list: &'a [T], ends: &[usize], index: usize) -> Option<&'a [T]> {
 /// The tolerances are those of the setting.
 ///
 /// Refusals: `Length`, `Outline`, `UnknownSetting`, `Tolerance`, `Number`, `Index`, `Count`,
-/// `Starts`, `Edition`.
+/// `Starts`, `Edition`; and `Code` where the slices were listed by a store whose memory no store wrote
+/// ([`Store::from_bytes`](crate::Store::from_bytes)).
 pub fn stitch(
     pline1: &Outline,
     pline2: &Outline,
@@ -169,8 +170,8 @@ pub fn stitch(
     Ok(lists.keep(counts))
 }
 
-/// The need of a call that is not refused for its slices: their number or their offsets. Else
-/// any room will do.
+/// The need of a call that is not refused for its slices: their number or their offsets. For a
+/// call that is refused, any room is enough.
 fn room_for_vertices(slices: &Slices) -> usize {
     if slices.len() > MOST_SLICES || slices.iter().any(out_of_range) {
         return 0;

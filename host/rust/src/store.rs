@@ -224,8 +224,8 @@ impl Store {
     }
 
     /// The store of this memory; none where it has another length. Memory that no store wrote can
-    /// hold codes that are none: a list reads them as outline 2 and as inverted, and a stitch of that
-    /// list refuses them with [`Refusal::Code`].
+    /// hold unknown codes. A list reads an unknown source as outline 2 and an unknown direction as
+    /// inverted, and a stitch of that list refuses them with [`Refusal::Code`].
     pub fn from_bytes(bytes: &[u8]) -> Option<Store> {
         let mut store = Store::new();
         if bytes.len() != store.to_bytes().len() {

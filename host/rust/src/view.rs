@@ -6,12 +6,13 @@ use crate::{Outline, Point, Refusal, Split, Tolerance, Vertex};
 use std::iter::FusedIterator;
 
 /// A part of an outline, or the whole of it, forward or inverted. It holds no outline: hand it
-/// the one that it was made of. It has that one's edition, which tells whether it is still the same.
+/// the one that it was made from. It has the edition of that outline, which tells whether the outline
+/// is still the same.
 #[derive(Debug, Clone, Copy, PartialEq, Default)]
 pub struct View {
     /// The segment on which it starts.
     pub start_index: usize,
-    /// How many segments on it ends; at most the outline's vertex count.
+    /// How many segments further it ends; at most the outline's vertex count.
     pub end_index_offset: usize,
     /// Its first vertex.
     pub updated_start: Vertex,
@@ -19,7 +20,7 @@ pub struct View {
     pub updated_end_bulge: f64,
     /// Its last point.
     pub end_point: Point,
-    /// Whether it runs against the outline. The other fields stay as they are for that.
+    /// Whether it runs against the outline. The other fields are the same either way.
     pub inverted_direction: bool,
     /// The edition of the outline that it was cut from.
     pub edition: u32,

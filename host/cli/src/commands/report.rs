@@ -280,7 +280,7 @@ fn why_size(outline: &Lines) -> String {
     };
     let vertices = counted(outline.count, "vertex").replace("vertexs", "vertices");
     format!(
-        "outline {}, {lines}: {vertices}; it has 2 to 1,024",
+        "outline {}, {lines}: {vertices}; it must have 2 to 1,024",
         outline.number
     )
 }
@@ -440,7 +440,7 @@ mod tests {
         assert_eq!(lines, [(1, (1, 4), 3), (2, (7, 7), 1), (3, (9, 10), 2)]);
         assert_eq!(
             gathered.why(2),
-            "outline 2, line 7: 1 vertex; it has 2 to 1,024"
+            "outline 2, line 7: 1 vertex; it must have 2 to 1,024"
         );
     }
 
@@ -467,7 +467,7 @@ mod tests {
         assert_eq!((gathered.count, gathered.outlines.len()), (5002, 4098));
         assert_eq!(
             gathered.why(2),
-            "outline 5001, line 15001: 1 vertex; it has 2 to 1,024"
+            "outline 5001, line 15001: 1 vertex; it must have 2 to 1,024"
         );
         assert_eq!(
             gathered.why(19),

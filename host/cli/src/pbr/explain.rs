@@ -54,7 +54,7 @@ fn place_of(number: u32, contents: &RecordContents) -> Option<String> {
 fn why_mark(record: &RecordBytes) -> String {
     if record.length < 5 {
         return format!(
-            "{}; a record has 26 and more",
+            "{}; a record has at least 26",
             counted(record.length as usize, "byte")
         );
     }
@@ -111,13 +111,15 @@ fn why_outline(contents: &RecordContents) -> Option<String> {
         .into_iter()
         .find(|(_, outline)| wrong(outline))?;
     let count = counted(outline.vertex_count(), "vertex").replace("vertexs", "vertices");
-    Some(format!("outline {number} has {count}; it has 2 to {most}"))
+    Some(format!(
+        "outline {number} has {count}; it must have 2 to {most}"
+    ))
 }
 
 fn why_code(contents: &RecordContents) -> Option<String> {
     if contents.selector_code > 1 {
         return Some(format!(
-            "the selector is {}; it is 0 (or_and) or 1 (not_xor)",
+            "the selector is {}; it must be 0 (or_and) or 1 (not_xor)",
             contents.selector_code
         ));
     }
@@ -128,13 +130,13 @@ fn why_code(contents: &RecordContents) -> Option<String> {
         .find_map(|(number, slice)| {
             if !(1..=2).contains(&slice.source_code) {
                 return Some(format!(
-                    "slice {number}: the source is {}; it is 1 or 2",
+                    "slice {number}: the source is {}; it must be 1 or 2",
                     slice.source_code
                 ));
             }
             (slice.inverted_code > 1).then(|| {
                 format!(
-                    "slice {number}: the direction is {}; it is 0 (forward) or 1 (inverted)",
+                    "slice {number}: the direction is {}; it must be 0 (forward) or 1 (inverted)",
                     slice.inverted_code
                 )
             })
@@ -154,7 +156,7 @@ fn why_tolerance(contents: &RecordContents) -> Option<String> {
         format!("the tolerance {axis}")
     };
     Some(format!(
-        "{name} is {}; it is above 0 and at most 1",
+        "{name} is {}; it must be above 0 and at most 1",
         told(value)
     ))
 }
@@ -201,7 +203,7 @@ fn bad_field(fields: &[(&str, f64)]) -> Option<String> {
     let bad = |value: f64| !value.is_finite() || value.abs() > LARGEST;
     let (name, value) = fields.iter().find(|(_, value)| bad(*value))?;
     Some(format!(
-        "{name} is {}; its size is at most 2^30",
+        "{name} is {}; its size must be at most 2^30",
         told(*value)
     ))
 }
@@ -225,7 +227,7 @@ fn why_offset(contents: &RecordContents) -> Option<String> {
 fn why_starts(contents: &RecordContents) -> String {
     let starts = &contents.starts;
     format!(
-        "the starts are {} {} {} of {}; they do not fall back, and none is past the slices",
+        "the starts are {} {} {} of {}; none may be below the one before it, or past the slices",
         starts.pline2,
         starts.pline1_overlapping,
         starts.pline2_overlapping,
@@ -288,31 +290,31 @@ mod tests {
     fn places_in_the_contents() {
         assert_eq!(
             said(3, "or_and", "7"),
-            "the selector is 7; it is 0 (or_and) or 1 (not_xor)"
+            "the selector is 7; it must be 0 (or_and) or 1 (not_xor)"
         );
         assert_eq!(
             said(3, "slice 2", "slice 3"),
-            "slice 1: the source is 3; it is 1 or 2"
+            "slice 1: the source is 3; it must be 1 or 2"
         );
         assert_eq!(
             said(3, "slice 2 +", "slice 2 4"),
-            "slice 1: the direction is 4; it is 0 (forward) or 1 (inverted)"
+            "slice 1: the direction is 4; it must be 0 (forward) or 1 (inverted)"
         );
         assert_eq!(
             said(4, "1/1024", "0"),
-            "the tolerance is 0; it is above 0 and at most 1"
+            "the tolerance is 0; it must be above 0 and at most 1"
         );
         assert_eq!(
             said(4, "1/1024", "nan"),
-            "the tolerance is not a number (0x7ff8000000000000); it is above 0 and at most 1"
+            "the tolerance is not a number (0x7ff8000000000000); it must be above 0 and at most 1"
         );
         assert_eq!(
             said(5, "1 4 4 0", "1 4 inf 0"),
-            "outline 1, vertex 2: y is infinite; its size is at most 2^30"
+            "outline 1, vertex 2: y is infinite; its size must be at most 2^30"
         );
         assert_eq!(
             said(5, "2 4 0  0  4 2", "2 4 0  0  4e9 2"),
-            "slice 0: the end's x is 4000000000; its size is at most 2^30"
+            "slice 0: the end's x is 4000000000; its size must be at most 2^30"
         );
         assert_eq!(
             said(6, "1 + 2 3", "1 + 4 3"),
@@ -324,7 +326,7 @@ mod tests {
         );
         assert_eq!(
             said(8, "1 2 2", "2 1 2"),
-            "the starts are 2 1 2 of 2 slices; they do not fall back, and none is past the slices"
+            "the starts are 2 1 2 of 2 slices; none may be below the one before it, or past the slices"
         );
         assert_eq!(
             said(9, "1 2 2", "1 2 2"),
@@ -341,7 +343,7 @@ mod tests {
         short.pline2 = Outline::straight(&[(0.0, 0.0)]);
         assert_eq!(
             why_of_contents(2, &short),
-            "outline 2 has 1 vertex; it has 2 to 64"
+            "outline 2 has 1 vertex; it must have 2 to 64"
         );
         let mut late = contents("", "");
         late.pline1 = late.pline1.clone().with_edition(8);
@@ -358,7 +360,7 @@ mod tests {
         assert_eq!(of(13, &union[..325]), "325 bytes, the counts say 326");
         assert_eq!(of(13, &union[..20]), "20 bytes, and the head alone has 26");
         assert_eq!(of(11, b"PBS12345"), "the mark is \"PBS\", and not \"PBR\"");
-        assert_eq!(of(11, b"PBR"), "3 bytes; a record has 26 and more");
+        assert_eq!(of(11, b"PBR"), "3 bytes; a record has at least 26");
         assert_eq!(
             of(12, b"PBR\x09\x00"),
             "the version is 9; versions 1 and 2 are known"

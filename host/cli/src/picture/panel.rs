@@ -427,7 +427,7 @@ fn as_fraction(value: f64) -> String {
     }
 }
 
-/// What came of it, in lines of the header.
+/// The outcome, in lines of the header.
 fn result_lines(subject: &Subject) -> Vec<String> {
     match &subject.refused {
         Some((number, why)) => wrapped(&format!("refused {number}: {why}")),

@@ -1,4 +1,4 @@
-//! Colours and lines. The colours are Okabe and Ito's, which the colour-blind tell apart; no meaning hangs on colour alone.
+//! Colours and lines. The colours are Okabe and Ito's, which the colour-blind tell apart; nothing is told by colour alone.
 
 /// The style sheet of a picture.
 pub const STYLE: &str = "\

@@ -409,7 +409,7 @@ fn lent_room() {
     });
 }
 
-/// Each call that writes lists, with the largest inputs: room is lent for the most too.
+/// Each call that writes lists, with the largest inputs, so with room for the most items.
 #[test]
 fn the_largest_inputs() {
     let vertex = |i: usize| Vertex::new(2.0 * i as f64, 2.0 * (i % 2) as f64, 0.0);

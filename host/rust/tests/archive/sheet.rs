@@ -99,7 +99,7 @@ fn t5_first_minus_second() {
     ];
     let found = rest.stitched.get_loop(0).unwrap();
     assert_eq!(positions(found), expected);
-    // Negating +0 gives -0, and it is kept: four vertices come of the inverted slice.
+    // Negating +0 gives -0, and it is kept: the inverted slice gives four vertices.
     let negative: Vec<bool> = found.iter().map(|v| v.bulge.is_sign_negative()).collect();
     assert_eq!(negative, [true, true, true, true, false, false]);
 }
