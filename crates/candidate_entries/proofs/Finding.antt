@@ -29,7 +29,7 @@ use Rattle.cut_entries.specs.CutRowsLaws.{few-passed}
 use Rattle.candidate_faults.specs.declared.Lengths.{Lengths}
 use Rattle.candidate_entries.specs.declared.slicing.Tried.{Tried}
 use Rattle.candidate_entries.specs.declared.slicing.Tried.the-variants.{Cut, Not}
-use Rattle.candidate_entries.specs.Candidates.{alongCuts, Tries, Lent, roomsOf, lengths, laterRows, candidatesRefusal, candNumber, Sliced, Accepted, Roomed, Dated, frontsOf, InFront, FoundRoom, Few}
+use Rattle.candidate_entries.specs.Candidates.{alongCuts, Tries, Lent, roomsOf, lengths, laterRows, candidatesRefusal, candNumber, Sliced, Accepted, Roomed, Dated, frontsOf, InFront, FoundRoom, ToldRoom, Few}
 use Rattle.candidate_entries.specs.CandidatesLaws.{along, along-sound, cand-pass, cand-accepted, editions-roomy}
 
 -- ---- the table in parts
@@ -98,14 +98,17 @@ module _ (g : Given) (splits : List Float) (l : Rooms) (sorted cutAt : List ℕ)
 
 -- a list for the points of so many cuts
 module _ (g : Given) (splits : List Float) (l : Rooms) (cut : List Float) where
-  pub few-points : (most : ℕ) → Few most g splits l → length cut ≡ 2 * most → Hinted g cut
-  few-points most f e = let h = f .few in record { accepted = f .ok .along .accepted; room = omega arith }
+  pub few-told : (most : ℕ) → Few most g splits l → length cut ≡ 2 * most → ToldRoom g splits l cut
+  few-told most f e = let h = f .few in record { ok = f .ok; pointRoom = omega arith }
 
-  pub most-points : Accepted g splits l → length cut ≡ 2 * mostCandidates → Hinted g cut
-  most-points ok =
+  pub most-told : Accepted g splits l → length cut ≡ 2 * mostCandidates → ToldRoom g splits l cut
+  most-told ok =
       let h = ok .along .accepted .ready .fewHits in
       let k = ok .along .accepted .ready .fewLaps in
-      few-points mostCandidates (record { ok = ok; few = omega arith })
+      few-told mostCandidates (record { ok = ok; few = omega arith })
+
+  pub told-hint : ToldRoom g splits l cut → Hinted g cut
+  told-hint t = record { accepted = t .ok .along .accepted; room = t .pointRoom }
 
 -- the front of a list is as long as it is said to be
 pub front-length : {A : Type 0} (n : ℕ) (l : List A) → n ≤ length l → n ≡ length (take n l)

@@ -108,7 +108,12 @@ pub record FoundRoom (g : Given) (splits : List Float) (l : Rooms) (sorted cutAt
   pub numberRoom : 3 * cutCount g ≤ length cutAt
   pub pointRoom : 2 * cutCount g ≤ length cut
 
--- so few cuts that lists for that many will do
+-- a list for the points of the cuts
+pub record ToldRoom (g : Given) (splits : List Float) (l : Rooms) (cut : List Float) : Type 0 where
+  pub ok : Accepted g splits l
+  pub pointRoom : 2 * cutCount g ≤ length cut
+
+-- there are no more cuts than the working lists have places for
 pub record Few (most : ℕ) (g : Given) (splits : List Float) (l : Rooms) : Type 0 where
   pub ok : Accepted g splits l
   pub few : cutCount g ≤ most

@@ -6,7 +6,7 @@ ghost use Rattle.basis.specs.Refuse.{firstFrom};
 ghost use Rattle.cut.specs.Cuts.{given, caseOf};
 ghost use Rattle.candidate.specs.Ready.{rooms, Written};
 ghost use Rattle.cut_entries.specs.CutRows.{FewCuts};
-ghost use Rattle.candidate_entries.specs.Candidates.{alongCuts, lent, frontsOf, InFront, laterRows, candidatesRefusal, Accepted, Roomed, Dated, Sliced, FoundRoom, Few, Tries};
+ghost use Rattle.candidate_entries.specs.Candidates.{alongCuts, lent, frontsOf, InFront, laterRows, candidatesRefusal, Accepted, Roomed, Dated, Sliced, FoundRoom, ToldRoom, Few, Tries};
 use basis::answer;
 use basis::answer::CountAnswer;
 use basis::number::Tolerance;
@@ -17,13 +17,13 @@ use cut::arrival::Case;
 use cut_entries::faults;
 use cut_order::along;
 
-// What came of the order that is told: so many candidates, or nothing, as it is not the order.
+// What the hint gave: how many candidates were written, or nothing, because it is not the order.
 pub enum Tried {
     Cut(usize),
     Not,
 }
 
-// What is looked at behind the first lists' lengths and counts, once these are right: there are few cuts.
+// The rows after those of the first lists' lengths and counts. Those passed, so there are at most 768 cuts.
 fn later_refusal(
     outline: &[f64],
     hit_at: &[usize],
@@ -44,7 +44,7 @@ fn later_refusal(
     candidate_faults::room_refusal(r, s.hits + 2 * s.laps, lent)
 }
 
-// All numbers. Number 10 is proved never to be given, so nothing is looked at for it.
+// The whole table. There is no number 10 (request K12).
 fn refusal(
     outline: &[f64],
     hit_at: &[usize],
@@ -115,7 +115,7 @@ fn found_with(
     walked(outline, cut_at, cut, splits, s, cand_at, cand, probe)
 }
 
-// The same by lists for 8 cuts, which cost little to set up; by lists for 64; by lists for 256; and by lists for the most.
+// The same with working lists for 8 cuts, which cost little to set up. The next three functions have lists for 64 cuts, for 256, and for 768, which is the most.
 fn found_small(
     outline: &[f64],
     hit_at: &[usize],
@@ -256,7 +256,7 @@ fn found_many(
     )
 }
 
-// The candidates of an accepted call, by lists for 256 cuts or for the most.
+// The candidates of an accepted call, with working lists for 256 cuts, or for 768 where there are more.
 fn found_beyond(
     outline: &[f64],
     hit_at: &[usize],
@@ -359,7 +359,31 @@ fn found(
     )
 }
 
-// The candidates of an accepted call along the order that is told, by a list for the points of 8 cuts; of 64; and of the most.
+// The candidates of an accepted call along the order that is told, where it is the order. The list lent beside the rooms is for the points of the cuts.
+fn told_with(
+    outline: &[f64],
+    hit_at: &[usize],
+    hit: &[f64],
+    lap_at: &[usize],
+    lap: &[f64],
+    told: &[usize],
+    splits: &[f64],
+    s: Case,
+    cut: &mut [f64],
+    cand_at: &mut [usize],
+    cand: &mut [f64],
+    probe: &mut [f64],
+) -> Tried
+    requires { ⌜ ToldRoom (given (now outline) (now «hit_at») (now hit) (now «lap_at») (now lap) s) (now splits) (rooms (now «cand_at») (now cand) (now probe)) (now cut) ⌝ }
+    ensures { λ r. ⌜ Tries (given (now (outline .entry)) (now («hit_at» .entry)) (now (hit .entry)) (now («lap_at» .entry)) (now (lap .entry)) s) (now (splits .entry)) (rooms (now («cand_at» .entry)) (now (cand .entry)) (now (probe .entry))) r (rooms (now («cand_at» .exit)) (now (cand .exit)) (now (probe .exit))) ⌝ }
+{
+    if along::is_along(outline, hit_at, hit, lap_at, lap, s, told, cut) {
+        return Tried::Cut(walked(outline, told, cut, splits, s, cand_at, cand, probe));
+    }
+    Tried::Not
+}
+
+// The same with a list for the points of 8 cuts, which costs little to set up. The next two functions have lists for 64 cuts, and for 768, which is the most.
 fn told_small(
     outline: &[f64],
     hit_at: &[usize],
@@ -377,10 +401,20 @@ fn told_small(
     ensures { λ r. ⌜ Tries (given (now (outline .entry)) (now («hit_at» .entry)) (now (hit .entry)) (now («lap_at» .entry)) (now (lap .entry)) s) (now (splits .entry)) (rooms (now («cand_at» .entry)) (now (cand .entry)) (now (probe .entry))) r (rooms (now («cand_at» .exit)) (now (cand .exit)) (now (probe .exit))) ⌝ }
 {
     let mut cut = [0.0f64; 16];
-    if along::is_along(outline, hit_at, hit, lap_at, lap, s, told, &mut cut) {
-        return Tried::Cut(walked(outline, told, &cut, splits, s, cand_at, cand, probe));
-    }
-    Tried::Not
+    told_with(
+        outline,
+        hit_at,
+        hit,
+        lap_at,
+        lap,
+        told,
+        splits,
+        s,
+        &mut cut,
+        cand_at,
+        cand,
+        probe,
+    )
 }
 
 fn told_few(
@@ -400,10 +434,20 @@ fn told_few(
     ensures { λ r. ⌜ Tries (given (now (outline .entry)) (now («hit_at» .entry)) (now (hit .entry)) (now («lap_at» .entry)) (now (lap .entry)) s) (now (splits .entry)) (rooms (now («cand_at» .entry)) (now (cand .entry)) (now (probe .entry))) r (rooms (now («cand_at» .exit)) (now (cand .exit)) (now (probe .exit))) ⌝ }
 {
     let mut cut = [0.0f64; 128];
-    if along::is_along(outline, hit_at, hit, lap_at, lap, s, told, &mut cut) {
-        return Tried::Cut(walked(outline, told, &cut, splits, s, cand_at, cand, probe));
-    }
-    Tried::Not
+    told_with(
+        outline,
+        hit_at,
+        hit,
+        lap_at,
+        lap,
+        told,
+        splits,
+        s,
+        &mut cut,
+        cand_at,
+        cand,
+        probe,
+    )
 }
 
 fn told_many(
@@ -423,10 +467,20 @@ fn told_many(
     ensures { λ r. ⌜ Tries (given (now (outline .entry)) (now («hit_at» .entry)) (now (hit .entry)) (now («lap_at» .entry)) (now (lap .entry)) s) (now (splits .entry)) (rooms (now («cand_at» .entry)) (now (cand .entry)) (now (probe .entry))) r (rooms (now («cand_at» .exit)) (now (cand .exit)) (now (probe .exit))) ⌝ }
 {
     let mut cut = [0.0f64; 2 * MOST_CANDIDATES];
-    if along::is_along(outline, hit_at, hit, lap_at, lap, s, told, &mut cut) {
-        return Tried::Cut(walked(outline, told, &cut, splits, s, cand_at, cand, probe));
-    }
-    Tried::Not
+    told_with(
+        outline,
+        hit_at,
+        hit,
+        lap_at,
+        lap,
+        told,
+        splits,
+        s,
+        &mut cut,
+        cand_at,
+        cand,
+        probe,
+    )
 }
 
 // The same, by the list that fits.
@@ -495,7 +549,7 @@ fn found_told(
     )
 }
 
-// The candidates of an accepted call: along the order that is told, or, where that is not the order, along the order that is found.
+// The candidates of an accepted call: along the order that is told, or, where none is told or it is not the order, along the order that is found.
 fn sought(
     outline: &[f64],
     hit_at: &[usize],
@@ -512,6 +566,20 @@ fn sought(
     requires { ⌜ Accepted (given (now outline) (now «hit_at») (now hit) (now «lap_at») (now lap) s) (now splits) (rooms (now «cand_at») (now cand) (now probe)) ⌝ }
     ensures { λ r. ⌜ Written (alongCuts (given (now (outline .entry)) (now («hit_at» .entry)) (now (hit .entry)) (now («lap_at» .entry)) (now (lap .entry)) s) (now (splits .entry))) (rooms (now («cand_at» .entry)) (now (cand .entry)) (now (probe .entry))) r (rooms (now («cand_at» .exit)) (now (cand .exit)) (now (probe .exit))) ⌝ }
 {
+    if told.len() == 0 {
+        return found(
+            outline,
+            hit_at,
+            hit,
+            lap_at,
+            lap,
+            splits,
+            s,
+            cand_at,
+            cand,
+            probe,
+        );
+    }
     let tried = found_told(
         outline,
         hit_at,
