@@ -138,16 +138,16 @@ impl Pair {
 
     /// The slices that a mode keeps: what the archive's prune left, or none where a stage is refused.
     pub fn slices(&self, tally: &mut Tally, rng: &mut Random, mode: u64) -> Option<Outcome> {
-        let first = self.slice(tally, rng, 0)?;
-        let second = self.slice(tally, rng, 1)?;
+        let first = self.slice(tally, rng, 0).ok()?;
+        let second = self.slice(tally, rng, 1).ok()?;
         let pruned = self.prune(tally, rng, mode, &first, &second);
         (pruned.answer[0] == 0).then_some(pruned)
     }
 
-    /// The archive's union, or the number with which the prune is refused.
+    /// The archive's union, or the number with which a call on the way is refused.
     pub fn union(&self, tally: &mut Tally, rng: &mut Random) -> Result<Vec<Vec<f64>>, u64> {
-        let first = self.slice(tally, rng, 0).ok_or(0u64)?;
-        let second = self.slice(tally, rng, 1).ok_or(0u64)?;
+        let first = self.slice(tally, rng, 0)?;
+        let second = self.slice(tally, rng, 1)?;
         let pruned = self.prune(tally, rng, 0, &first, &second);
         if pruned.answer[0] != 0 {
             return Err(pruned.answer[0]);
@@ -165,7 +165,7 @@ impl Pair {
         }
         let first = self.slice(tally, rng, 0);
         let second = self.slice(tally, rng, 1);
-        let (Some(first), Some(second)) = (first, second) else {
+        let (Ok(first), Ok(second)) = (first, second) else {
             return;
         };
         let mut loops: Vec<Option<Vec<Vec<f64>>>> = Vec::new();
@@ -311,20 +311,20 @@ impl Pair {
         }
     }
 
-    /// Order of cuts, candidates and their inside answers. None where a stage is refused.
-    fn slice(&self, tally: &mut Tally, rng: &mut Random, which: usize) -> Option<Sliced> {
+    /// Order of cuts, candidates and their inside answers, or the number with which a call is refused.
+    fn slice(&self, tally: &mut Tally, rng: &mut Random, which: usize) -> Result<Sliced, u64> {
         let (outline, pline) = (&self.outlines[which], &self.plines[which]);
         let source = which as u64 + 1;
         let call = cases::cut_order(rng, outline, source, &self.shared, self.tolerance);
         let order = tally.compare(FAMILY, &call);
         if order.answer[0] != 0 {
-            return None;
+            return Err(order.answer[0]);
         }
         let splits = host_splits(pline, &order, self.tolerance);
         let call = cases::candidates(rng, outline, source, &self.shared, &splits, self.tolerance);
         let found = tally.compare(FAMILY, &call);
         if found.answer[0] != 0 {
-            return None;
+            return Err(found.answer[0]);
         }
         tally.check("candidates, the crate's own splits", &call, || {
             theirs::candidates_with_own_splits(&call)
@@ -340,7 +340,7 @@ impl Pair {
             };
             self.view(tally, rng, which, view);
         }
-        Some(Sliced { splits, lists })
+        Ok(Sliced { splits, lists })
     }
 
     /// The candidates, each with the winding number's answer for the midpoint of its probe.

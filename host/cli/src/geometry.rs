@@ -3,7 +3,7 @@
 
 use mask_tools::{Point, Vertex};
 
-/// How near a point lies that is on a segment: document 01, "Tolerances".
+/// How near a point lies that is on a segment: docs/RULES.md, "The verdict on a view".
 const ON_SEGMENT: f64 = 1e-3;
 
 /// An arc's bulge from which on it is drawn as an arc.
