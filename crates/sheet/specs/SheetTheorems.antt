@@ -59,11 +59,9 @@ use Rattle.stitch_entries.specs.StitchRows.{startsFault, lengths}
 use Rattle.stitch_entries.specs.declared.answer.StitchAnswer.{StitchAnswer}
 use Rattle.stitch_entries.specs.Answers.{stitchRefused, stitchGiven}
 use Rattle.slice.specs.Editions.{Editions}
-use Rattle.stitch_entries.specs.StitchEntry.{lengthsOf, stitchNumber, StitchBy, StitchLeft}
+use Rattle.stitch_entries.specs.StitchEntry.{lengthsOf, stitchNumber}
 use Rattle.stitch_entries.specs.Matching.{Matched, baseRefusal, base-number}
-use Rattle.settings.specs.Settings.{Held}
-use Rattle.named_entries.specs.NamedStitch.{Holding, NamedStitch}
-use Rattle.named_entries.specs.NamedTheorems.{stitch-number}
+use Rattle.named_entries.specs.NamedTheorems.{by-tolerances}
 use Rattle.sheet.specs.Sheet.{Said, candidatesAre, verticesAre, slicesAre, loopsAre, refusedWith, apartInBox, LoopRooms, Case, Holds, Answers, sheet}
 
 -- ---- what the computation opens, under one name each
@@ -174,14 +172,10 @@ module _ (g : stitch.Given) (room : ℕ) (e : Editions) (matched : Matched g e) 
   number-is : (n : ℕ) → baseRefusal g (lengths (3 * room) (g .slices) (g .slices) (g .slices) (g .slices)) ≡ n → stitchNumber g e x ≡ n
   number-is n h = base-number g e (lengthsOf x) matched ∙ rw (rooms .room, rooms .ends, rooms .chain, rooms .chainEnds, rooms .chainHow) h
 
--- a stitch whose record holds the setting is one by its tolerances
-by-tolerances : (h : Held) (k : ℕ) (g : stitch.Given) (e : Editions) (x : Lists) (r : StitchAnswer) (left : Lists) → Holding h k (g .tolerance) → NamedStitch h k g e x r left → StitchLeft g e x r left
-by-tolerances h k g e x r left there named = subst (λ (n : ℕ). StitchBy n g x r left) (stitch-number h k (there .sized) (there .there) g e (lengthsOf x)) named
-
 loops-answer : (g : stitch.Given) (n : ℕ) (ends : List ℕ) (loops : List Float) (room : ℕ) → Holds (loopsAre g n ends loops room) → Answers (loopsAre g n ends loops room)
 loops-answer g n ends loops room h kept edition e x r left there matched rooms named =
     let k = stitchNumber g e x in
-    let holds = by-tolerances kept edition g e x r left there named in
+    let holds = by-tolerances kept edition (there .sized) (there .there) g e x r left named in
     let none : stitchNumber g e x ≡ 0 = number-is g room e matched x rooms 0 (h .4) in
     let told : r ≡ stitchGiven (roundCount g) (stitch.loopCount g) (stitch.chainCount g) = answer-accepted stitchRefused k _ r (holds .answers) none in (
       ap (λ (a : StitchAnswer). a .refusal) told,
@@ -200,7 +194,7 @@ refuses f n (suc m) a r e h some = e ∙ ap (λ (k : ℕ). answer f k a) h
 refused-answer : (g : stitch.Given) (room number : ℕ) → Holds (refusedWith g room number) → Answers (refusedWith g room number)
 refused-answer g room number h kept edition e x r left there matched rooms named =
     let k = stitchNumber g e x in
-    let holds = by-tolerances kept edition g e x r left there named in
+    let holds = by-tolerances kept edition (there .sized) (there .there) g e x r left named in
     let is : stitchNumber g e x ≡ number = number-is g room e matched x rooms number (h .0) in (
       refuses stitchRefused k number _ r (holds .answers) is (h .1),
       record {
