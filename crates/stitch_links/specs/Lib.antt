@@ -1,7 +1,6 @@
 pub mod Slices
 pub mod Links
 pub mod Ready
-pub mod AlikeLaws
 pub mod LinkLaws
 pub mod LoopLaws
 pub mod BlockLaws

@@ -1,7 +1,7 @@
 use borrow.Author.Tests.{eqb-true}
 use Rattle.basis.specs.Choice.{clash, told-not-no}
 use mathlib.Core.Path.{sym, refl, _∙_}
-use Rattle.stitch_links.specs.AlikeLaws.{alike-of}
+use Rattle.stitch_links.proofs.AlikeLaws.{alike-of}
 use borrow.Author.Needs.{needs}
 use Rattle.stitch_links.proofs.layout.alike.Statement.{statement}
 use Rattle.stitch_links.proofs.layout.alike.Tie as tie
