@@ -17,12 +17,9 @@ pub(crate) fn word_at(s: &[u8], i: usize) -> usize {
     word(&s[8 * i..])
 }
 
-// Its lowest byte.
-pub(crate) fn flag_at(s: &[u8], i: usize) -> u8 {
-    if i >= s.len() / 8 {
-        return 0;
-    }
-    s[8 * i]
+// The lowest byte of a word.
+pub(crate) fn low(word: usize) -> u8 {
+    (word % 256) as u8
 }
 
 // A sum so far, and every word added to it, modulo 2^64: one changed bit changes it.

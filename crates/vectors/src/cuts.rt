@@ -1,6 +1,7 @@
 // The two entries over cuts. What they have in common begins with the outline.
 use crate::lists;
 use crate::words;
+use basis::answer::CountAnswer;
 
 // How many vertices, hits and laps there are, the source, and the places of the lists.
 struct CutWords {
@@ -25,7 +26,7 @@ fn cuts(w: &[usize]) -> CutWords {
     let laps = words::behind(w, lap);
     CutWords {
         vc: words::at(w, p),
-        source: words::code_after(w, p, 1),
+        source: words::code_at(words::from(w, p), 1),
         hits: words::at(w, hits),
         laps: words::at(w, laps),
         hit_at,
@@ -37,20 +38,16 @@ fn cuts(w: &[usize]) -> CutWords {
 }
 
 // The lists lent to the order begin at place p. Its answer stands behind them.
-fn is_ordered(
-    w: &[usize],
-    p: usize,
-    refusal: u32,
-    count: usize,
-    cut_at: &[usize],
-    cut: &[f64],
-) -> bool {
+fn is_ordered(w: &[usize], p: usize, r: CountAnswer, cut_at: &[usize], cut: &[f64]) -> bool {
     let q = words::behind(w, p);
     let end = words::behind(w, q);
     let left = words::after(w, end, 2);
-    lists::is_count_answer(words::from(w, end), refusal, count)
-        && words::left_counts(w, cut_at, p, left)
-        && words::left_numbers(w, cut, q, words::left_behind(w, p, left))
+    words::all(
+        lists::is_count_answer(words::from(w, end), r),
+        words::left_counts(w, cut_at, p, left),
+        words::left_numbers(w, cut, q, words::left_behind(w, p, left)),
+        true,
+    )
 }
 
 pub(crate) fn cut_order(w: &[usize], x: &[f64], c1: &mut [usize], x1: &mut [f64]) -> bool {
@@ -72,28 +69,29 @@ pub(crate) fn cut_order(w: &[usize], x: &[f64], c1: &mut [usize], x1: &mut [f64]
         words::lent_counts(w, c1, p),
         words::lent_numbers(w, x1, words::behind(w, p)),
     );
-    is_ordered(w, p, answer.refusal, answer.count, c1, x1)
+    is_ordered(w, p, answer, c1, x1)
 }
 
 // The lists lent to the candidates begin at place p. Its answer stands behind them.
 fn is_sliced(
     w: &[usize],
     p: usize,
-    refusal: u32,
-    count: usize,
+    r: CountAnswer,
     cand_at: &[usize],
     cand: &[f64],
     probe: &[f64],
 ) -> bool {
     let q = words::behind(w, p);
-    let r = words::behind(w, q);
-    let end = words::behind(w, r);
+    let s = words::behind(w, q);
+    let end = words::behind(w, s);
     let left = words::after(w, end, 2);
     let left_cand = words::left_behind(w, p, left);
-    lists::is_count_answer(words::from(w, end), refusal, count)
-        && words::left_counts(w, cand_at, p, left)
-        && words::left_numbers(w, cand, q, left_cand)
-        && words::left_numbers(w, probe, r, words::left_behind(w, q, left_cand))
+    words::all(
+        lists::is_count_answer(words::from(w, end), r),
+        words::left_counts(w, cand_at, p, left),
+        words::left_numbers(w, cand, q, left_cand),
+        words::left_numbers(w, probe, s, words::left_behind(w, q, left_cand)),
+    )
 }
 
 pub(crate) fn candidates(
@@ -128,5 +126,5 @@ pub(crate) fn candidates(
         words::lent_numbers(w, x2, words::behind(w, q)),
         &mut edition,
     );
-    is_sliced(w, p, answer.refusal, answer.count, c1, x1, x2)
+    is_sliced(w, p, answer, c1, x1, x2)
 }

@@ -1,8 +1,9 @@
-// What the entries that write lists have in common: what they answer, and the lists that they were lent.
+// What the entries that write lists have in common: what they answer, and the settings that they are handed.
 use crate::words;
+use basis::answer::CountAnswer;
 
-pub(crate) fn is_count_answer(w: &[usize], refusal: u32, count: usize) -> bool {
-    words::code_at(w, 0) == refusal && words::at(w, 1) == count
+pub(crate) fn is_count_answer(w: &[usize], r: CountAnswer) -> bool {
+    words::is_code(w, 0, r.refusal) && words::is(w, 1, r.count)
 }
 
 // The list of a record with one setting. Any numbers are some setting.

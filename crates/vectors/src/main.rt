@@ -10,12 +10,6 @@ mod tally;
 mod views;
 mod words;
 
-// Reads so many bytes into a list that is as long: yes where they were all there.
-fn filled(fd: i32, buf: &mut [u8]) -> bool {
-    let n = buf.len();
-    io::read_full(fd, buf) == n
-}
-
 // The front of a list, to be written.
 fn front(buf: &mut [u8], n: usize) -> &mut [u8] {
     if n > buf.len() {
@@ -24,34 +18,31 @@ fn front(buf: &mut [u8], n: usize) -> &mut [u8] {
     &mut buf[0..n]
 }
 
-// Reads so many words to the front of the buffer.
+// Reads so many words to the front of the buffer: yes where they were all there.
 fn read_words(fd: i32, buf: &mut [u8], n: usize) -> bool {
     if n > buf.len() / 8 {
         return false;
     }
-    filled(fd, front(buf, 8 * n))
+    io::read_full(fd, front(buf, 8 * n)) == 8 * n
 }
 
-// The front of a list.
-fn shared_front(bytes: &[u8], n: usize) -> &[u8] {
-    if n > bytes.len() {
+// So many words at the front of a list.
+fn words_of(bytes: &[u8], n: usize) -> &[u8] {
+    if n > bytes.len() / 8 {
         return &bytes[..0];
     }
-    &bytes[0..n]
+    &bytes[0..8 * n]
 }
 
 // Replays a case, and counts it.
-fn take(entry: usize, own: &[u8], seen: &mut [usize], differ: &mut [usize]) {
-    tally::count(seen, entry, bits::word(own));
-    tally::add_words(seen, own);
-    if case::holds(entry, own) {
-        return;
-    }
-    tally::count_differing(differ, entry);
+fn take(entry: usize, own: &[u8], counts: &mut [usize; 80]) {
+    tally::count(counts, entry, bits::word(own));
+    tally::add_words(counts, own);
+    tally::count_differing(counts, entry, case::holds(entry, own));
 }
 
 // One case: its entry and its length, then its words. Yes where it was all there.
-fn next(fd: i32, buf: &mut [u8], seen: &mut [usize], differ: &mut [usize]) -> bool {
+fn next(fd: i32, buf: &mut [u8], counts: &mut [usize; 80]) -> bool {
     if !read_words(fd, buf, 2) {
         return false;
     }
@@ -60,18 +51,15 @@ fn next(fd: i32, buf: &mut [u8], seen: &mut [usize], differ: &mut [usize]) -> bo
     if !read_words(fd, buf, n) {
         return false;
     }
-    if n > buf.len() / 8 {
-        return false;
-    }
-    take(entry, shared_front(buf, 8 * n), seen, differ);
+    take(entry, words_of(buf, n), counts);
     true
 }
 
 // So many cases, and fewer where the record breaks off.
-fn cases(fd: i32, count: usize, buf: &mut [u8], seen: &mut [usize], differ: &mut [usize]) {
+fn cases(fd: i32, count: usize, buf: &mut [u8], counts: &mut [usize; 80]) {
     let mut k: usize = 0;
     while k < count {
-        if !next(fd, buf, seen, differ) {
+        if !next(fd, buf, counts) {
             break;
         }
         k += 1;
@@ -79,7 +67,7 @@ fn cases(fd: i32, count: usize, buf: &mut [u8], seen: &mut [usize], differ: &mut
 }
 
 // All cases, as many as the file's head says.
-fn all(fd: i32, buf: &mut [u8], seen: &mut [usize], differ: &mut [usize]) {
+fn all(fd: i32, buf: &mut [u8], counts: &mut [usize; 80]) {
     if !read_words(fd, buf, 2) {
         return;
     }
@@ -87,8 +75,8 @@ fn all(fd: i32, buf: &mut [u8], seen: &mut [usize], differ: &mut [usize]) {
         return;
     }
     let count = bits::word_at(buf, 1);
-    tally::announce(seen, count);
-    cases(fd, count, buf, seen, differ);
+    tally::announce(counts, count);
+    cases(fd, count, buf, counts);
 }
 
 fn main() {
@@ -98,9 +86,8 @@ fn main() {
         return;
     }
     let mut buf = [0u8; 32768];
-    let mut seen = [0usize; tally::PLACES];
-    let mut differ = [0usize; tally::PLACES];
-    all(fd, &mut buf, &mut seen, &mut differ);
+    let mut counts = [0usize; 80];
+    all(fd, &mut buf, &mut counts);
     libc::close(fd);
-    tally::show(&seen, &differ);
+    tally::show(&counts);
 }

@@ -44,11 +44,12 @@ fn laps(w: &[usize], at: usize) -> LapWords {
 }
 
 fn is_prune_answer(w: &[usize], r: PruneAnswer) -> bool {
-    words::code_at(w, 0) == r.refusal
-        && words::at(w, 1) == r.slices
-        && words::at(w, 2) == r.starts.pline2
-        && words::at(w, 3) == r.starts.pline1_overlapping
-        && words::at(w, 4) == r.starts.pline2_overlapping
+    words::all(
+        words::is_code(w, 0, r.refusal) && words::is(w, 1, r.slices),
+        words::is(w, 2, r.starts.pline2),
+        words::is(w, 3, r.starts.pline1_overlapping),
+        words::is(w, 4, r.starts.pline2_overlapping),
+    )
 }
 
 // The lists lent begin at place p. The answer stands behind them.
@@ -56,9 +57,12 @@ fn is_pruned(w: &[usize], p: usize, r: PruneAnswer, slice_at: &[usize], slice: &
     let q = words::behind(w, p);
     let end = words::behind(w, q);
     let left = words::after(w, end, 5);
-    is_prune_answer(words::from(w, end), r)
-        && words::left_counts(w, slice_at, p, left)
-        && words::left_numbers(w, slice, q, words::left_behind(w, p, left))
+    words::all(
+        is_prune_answer(words::from(w, end), r),
+        words::left_counts(w, slice_at, p, left),
+        words::left_numbers(w, slice, q, words::left_behind(w, p, left)),
+        true,
+    )
 }
 
 pub(crate) fn prune(w: &[usize], x: &[f64], b: &[u8], c1: &mut [usize], x1: &mut [f64]) -> bool {

@@ -69,10 +69,12 @@ fn lent(w: &[usize], room: usize) -> LentWords {
 }
 
 fn is_stitch_answer(w: &[usize], r: StitchAnswer) -> bool {
-    words::code_at(w, 0) == r.refusal
-        && words::at(w, 1) == r.rounds
-        && words::at(w, 2) == r.loops
-        && words::at(w, 3) == r.chains
+    words::all(
+        words::is_code(w, 0, r.refusal),
+        words::is(w, 1, r.rounds),
+        words::is(w, 2, r.loops),
+        words::is(w, 3, r.chains),
+    )
 }
 
 // The four lists of numbers of slices, one behind the other at exit.
@@ -88,10 +90,12 @@ fn left_chains(
     let left2 = words::left_behind(w, l.ends, left);
     let left3 = words::left_behind(w, l.chain, left2);
     let left4 = words::left_behind(w, l.chain_ends, left3);
-    words::left_counts(w, c1, l.ends, left)
-        && words::left_counts(w, c2, l.chain, left2)
-        && words::left_counts(w, c3, l.chain_ends, left3)
-        && words::left_counts(w, c4, l.chain_how, left4)
+    words::all(
+        words::left_counts(w, c1, l.ends, left),
+        words::left_counts(w, c2, l.chain, left2),
+        words::left_counts(w, c3, l.chain_ends, left3),
+        words::left_counts(w, c4, l.chain_how, left4),
+    )
 }
 
 pub(crate) fn stitch(
@@ -143,7 +147,7 @@ pub(crate) fn area_pass(w: &[usize], x: &[f64], c1: &mut [usize]) -> bool {
     let kept = words::after(w, loops, 2);
     let end = words::behind(w, kept);
     let entered = [1usize];
-    let settings = lists::one_setting(1.0, words::float_after(x, loops, 1));
+    let settings = lists::one_setting(1.0, words::float_at(words::floats_from(x, loops), 1));
     let answer = mask::stitching::mask_area_pass(
         words::numbers(w, x, 1),
         words::at(w, loops),
@@ -152,6 +156,6 @@ pub(crate) fn area_pass(w: &[usize], x: &[f64], c1: &mut [usize]) -> bool {
         1,
         words::lent_counts(w, c1, kept),
     );
-    lists::is_count_answer(words::from(w, end), answer.refusal, answer.count)
+    lists::is_count_answer(words::from(w, end), answer)
         && words::left_counts(w, c1, kept, words::after(w, end, 2))
 }

@@ -1,4 +1,4 @@
-// How many cases of each entry there were, and how many of them differ.
+// How many cases of each entry there were, and how many of them differ: one list of 80 counts.
 use crate::bits;
 use libc::STDOUT_FILENO;
 
@@ -15,11 +15,14 @@ const WORDS: usize = 35;
 
 const ANNOUNCED: usize = 36;
 
-pub(crate) const PLACES: usize = 37;
+// From here on those that differ, by the numbers of the entries too, and all of them.
+const DIFFER: usize = 40;
+
+const ALL_DIFFER: usize = 72;
 
 // One more at place i.
-fn add(counts: &mut [usize], i: usize) {
-    if i < counts.len() {
+fn add(counts: &mut [usize; 80], i: usize) {
+    if i < 80 {
         if counts[i] < 4294967295 {
             counts[i] = counts[i] + 1;
         }
@@ -27,97 +30,92 @@ fn add(counts: &mut [usize], i: usize) {
 }
 
 // A case of an entry, whose answer is the original's (0) or the refusal table's.
-pub(crate) fn count(seen: &mut [usize], entry: usize, origin: usize) {
-    add(seen, entry);
-    add(seen, ALL);
-    add_origin(seen, origin);
+pub(crate) fn count(counts: &mut [usize; 80], entry: usize, origin: usize) {
+    add(counts, entry);
+    add(counts, ALL);
+    add(counts, place_of(origin));
 }
 
-fn add_origin(seen: &mut [usize], origin: usize) {
-    if origin == 0 {
-        add(seen, ORIGINAL);
+fn place_of(origin: usize) -> usize {
+    if origin == 0 { ORIGINAL } else { TABLE }
+}
+
+pub(crate) fn announce(counts: &mut [usize; 80], n: usize) {
+    counts[ANNOUNCED] = n;
+}
+
+pub(crate) fn add_words(counts: &mut [usize; 80], own: &[u8]) {
+    counts[WORDS] = bits::sum(own, counts[WORDS]);
+}
+
+// Counts a case that does not hold.
+pub(crate) fn count_differing(counts: &mut [usize; 80], entry: usize, holds: bool) {
+    if holds {
         return;
     }
-    add(seen, TABLE);
-}
-
-pub(crate) fn announce(seen: &mut [usize], n: usize) {
-    if seen.len() > ANNOUNCED {
-        seen[ANNOUNCED] = n;
+    if entry < ALL {
+        add(counts, DIFFER + entry);
     }
-}
-
-pub(crate) fn add_words(seen: &mut [usize], own: &[u8]) {
-    if seen.len() > WORDS {
-        seen[WORDS] = bits::sum(own, seen[WORDS]);
-    }
-}
-
-pub(crate) fn count_differing(differ: &mut [usize], entry: usize) {
-    add(differ, entry);
-    add(differ, ALL);
-}
-
-fn at(counts: &[usize], i: usize) -> usize {
-    if i < counts.len() {
-        return counts[i];
-    }
-    0
+    add(counts, ALL_DIFFER);
 }
 
 fn word(text: &[u8]) {
     io::write_all(STDOUT_FILENO, text);
 }
 
-fn whole(n: usize) {
-    io::print_decimal(STDOUT_FILENO, n as u64);
+// The count at place i, and the words behind it.
+fn part(counts: &[usize; 80], i: usize, text: &[u8]) {
+    if i < 80 {
+        io::print_decimal(STDOUT_FILENO, counts[i] as u64);
+    }
+    word(text);
 }
 
-fn line(name: &[u8], seen: &[usize], differ: &[usize], i: usize) {
+// The cases of an entry stand at place i, those that differ at place j.
+fn line(name: &[u8], counts: &[usize; 80], i: usize, j: usize) {
     word(name);
-    word(b" ");
-    whole(at(seen, i));
-    word(b" cases, ");
-    whole(at(differ, i));
-    word(b" differ\n");
+    part(counts, i, b" cases, ");
+    part(counts, j, b" differ\n");
 }
 
-fn of_views(seen: &[usize], differ: &[usize]) {
-    line(b"mask_view_vertex", seen, differ, 0);
-    line(b"mask_create", seen, differ, 1);
-    line(b"mask_create_on_single_segment", seen, differ, 2);
-    line(b"mask_from_entire_pline", seen, differ, 3);
-    line(b"mask_validate_for_source", seen, differ, 4);
+fn of_views(counts: &[usize; 80]) {
+    line(b"mask_view_vertex ", counts, 0, 40);
+    line(b"mask_create ", counts, 1, 41);
+    line(b"mask_create_on_single_segment ", counts, 2, 42);
+    line(b"mask_from_entire_pline ", counts, 3, 43);
+    line(b"mask_validate_for_source ", counts, 4, 44);
 }
 
-fn of_lists(seen: &[usize], differ: &[usize]) {
-    line(b"mask_cut_order", seen, differ, 5);
-    line(b"mask_candidates", seen, differ, 6);
-    line(b"mask_prune", seen, differ, 7);
-    line(b"mask_stitch", seen, differ, 8);
-    line(b"mask_area_pass", seen, differ, 9);
+fn of_lists(counts: &[usize; 80]) {
+    line(b"mask_cut_order ", counts, 5, 45);
+    line(b"mask_candidates ", counts, 6, 46);
+    line(b"mask_prune ", counts, 7, 47);
+    line(b"mask_stitch ", counts, 8, 48);
+    line(b"mask_area_pass ", counts, 9, 49);
 }
 
-fn of_starts(seen: &[usize], differ: &[usize]) {
-    line(b"mask_slice_span", seen, differ, 10);
-    line(b"mask_from_slice_points", seen, differ, 11);
-    line(b"mask_from_new_start", seen, differ, 12);
+fn of_starts(counts: &[usize; 80]) {
+    line(b"mask_slice_span ", counts, 10, 50);
+    line(b"mask_from_slice_points ", counts, 11, 51);
+    line(b"mask_from_new_start ", counts, 12, 52);
 }
 
-pub(crate) fn show(seen: &[usize], differ: &[usize]) {
-    of_views(seen, differ);
-    of_lists(seen, differ);
-    of_starts(seen, differ);
-    whole(at(seen, ORIGINAL));
-    word(b" answers of the original, ");
-    whole(at(seen, TABLE));
-    word(b" of the refusal table; all words add up to ");
-    whole(at(seen, WORDS));
-    word(b"\n");
-    whole(at(seen, ALL));
-    word(b" of ");
-    whole(at(seen, ANNOUNCED));
-    word(b" cases, ");
-    whole(at(differ, ALL));
-    word(b" differ\n");
+fn of_all(counts: &[usize; 80]) {
+    part(counts, ORIGINAL, b" answers of the original, ");
+    part(
+        counts,
+        TABLE,
+        b" of the refusal table; all words add up to ",
+    );
+    part(counts, WORDS, b"\n");
+    part(counts, ALL, b" of ");
+    part(counts, ANNOUNCED, b" cases, ");
+    part(counts, ALL_DIFFER, b" differ\n");
+}
+
+pub(crate) fn show(counts: &[usize; 80]) {
+    of_views(counts);
+    of_lists(counts);
+    of_starts(counts);
+    of_all(counts);
 }

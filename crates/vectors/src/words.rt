@@ -1,4 +1,5 @@
 // The words of a case: as whole numbers, as floats, as bytes; parts of them; what they are compared with.
+ghost use Prim.Native.Nat.{_≤_};
 
 // Word i, and 0 beyond the end.
 pub(crate) fn at(w: &[usize], i: usize) -> usize {
@@ -36,15 +37,6 @@ pub(crate) fn after(w: &[usize], p: usize, k: usize) -> usize {
     p + k
 }
 
-// What stands there, as a code and as a float.
-pub(crate) fn code_after(w: &[usize], p: usize, k: usize) -> u32 {
-    code_at(from(w, p), k)
-}
-
-pub(crate) fn float_after(x: &[f64], p: usize, k: usize) -> f64 {
-    float_at(floats_from(x, p), k)
-}
-
 // The place behind the list at place p: its length stands first. A list that is too long ends the case.
 pub(crate) fn behind(w: &[usize], p: usize) -> usize {
     let n = at(w, p);
@@ -57,61 +49,51 @@ pub(crate) fn behind(w: &[usize], p: usize) -> usize {
     p + 1 + n
 }
 
+// The same where it is no more than n, and n else.
+fn end(w: &[usize], p: usize, n: usize) -> usize
+    ensures { λ r. ⌜ r ≤ n ⌝ }
+{
+    least(behind(w, p), n)
+}
+
+fn least(a: usize, b: usize) -> usize
+    ensures { λ r. ⌜ r ≤ b ⌝ }
+{
+    if a < b { a } else { b }
+}
+
+// Where the list at place p begins, which ends before place e.
+fn begin(p: usize, e: usize) -> usize
+    ensures { λ r. ⌜ r ≤ e ⌝ }
+{
+    if p < e { p + 1 } else { e }
+}
+
 // The list at place p, as each kind of element.
 pub(crate) fn counts<'a>(w: &[usize], c: &'a [usize], p: usize) -> &'a [usize] {
-    let e = behind(w, p);
-    if e > c.len() {
-        return &c[..0];
-    }
-    if p >= e {
-        return &c[..0];
-    }
-    &c[p + 1..e]
+    let e = end(w, p, c.len());
+    &c[begin(p, e)..e]
 }
 
 pub(crate) fn numbers<'a>(w: &[usize], x: &'a [f64], p: usize) -> &'a [f64] {
-    let e = behind(w, p);
-    if e > x.len() {
-        return &x[..0];
-    }
-    if p >= e {
-        return &x[..0];
-    }
-    &x[p + 1..e]
+    let e = end(w, p, x.len());
+    &x[begin(p, e)..e]
 }
 
 pub(crate) fn flags<'a>(w: &[usize], b: &'a [u8], p: usize) -> &'a [u8] {
-    let e = behind(w, p);
-    if e > b.len() {
-        return &b[..0];
-    }
-    if p >= e {
-        return &b[..0];
-    }
-    &b[p + 1..e]
+    let e = end(w, p, b.len());
+    &b[begin(p, e)..e]
 }
 
 // The same to be lent.
 pub(crate) fn lent_counts<'a>(w: &[usize], l: &'a mut [usize], p: usize) -> &'a mut [usize] {
-    let e = behind(w, p);
-    if e > l.len() {
-        return &mut l[..0];
-    }
-    if p >= e {
-        return &mut l[..0];
-    }
-    &mut l[p + 1..e]
+    let e = end(w, p, l.len());
+    &mut l[begin(p, e)..e]
 }
 
 pub(crate) fn lent_numbers<'a>(w: &[usize], l: &'a mut [f64], p: usize) -> &'a mut [f64] {
-    let e = behind(w, p);
-    if e > l.len() {
-        return &mut l[..0];
-    }
-    if p >= e {
-        return &mut l[..0];
-    }
-    &mut l[p + 1..e]
+    let e = end(w, p, l.len());
+    &mut l[begin(p, e)..e]
 }
 
 // So many editions, all 0: the calls were recorded without. A count that is too large for any list has none, and is refused.
@@ -148,6 +130,24 @@ pub(crate) fn same(word: usize, x: f64) -> bool {
         return false;
     }
     (1.0 / x > 0.0) == (word == 0)
+}
+
+// Word i is so much, as a whole number, as a code, as a float.
+pub(crate) fn is(w: &[usize], i: usize, n: usize) -> bool {
+    at(w, i) == n
+}
+
+pub(crate) fn is_code(w: &[usize], i: usize, n: u32) -> bool {
+    code_at(w, i) == n
+}
+
+pub(crate) fn is_float(w: &[usize], i: usize, x: f64) -> bool {
+    same(at(w, i), x)
+}
+
+// All of these hold.
+pub(crate) fn all(a: bool, b: bool, c: bool, d: bool) -> bool {
+    a && b && c && d
 }
 
 // The words from place q on, as whole numbers and as floats.
