@@ -56,7 +56,7 @@ extern "C" {
 #endif
 
 /* This library's version. */
-#define MASK_VERSION "0.7.0"
+#define MASK_VERSION "0.7.1"
 #define MASK_VERSION_MAJOR 0
 #define MASK_VERSION_MINOR 7
 #define MASK_VERSION_PATCH 0
