@@ -53,7 +53,8 @@ add-requires-2 c κs =
 
 loop-again : tie.Need-loop-again Inv-loop μ-loop
 loop-again c =
-    let s = c .before .before .before .before .before .before .before .before .before .before .before in
+    let added = c .before .before .before .before .before .before in
+    let s = added .before .before .before .before .before in
     let k = c .before .before .before .before .before .before .before .before .loop in
     let v = c .before .before .before .before .word3 in
     let w = c .before .word4 in (
