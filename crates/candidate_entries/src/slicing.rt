@@ -549,7 +549,7 @@ fn found_told(
     )
 }
 
-// The candidates of an accepted call: along the order that is told, or, where none is told or it is not the order, along the order that is found.
+// The candidates of an accepted call: along the order that is told, or, where that is not the order, along the order that is found.
 fn sought(
     outline: &[f64],
     hit_at: &[usize],
@@ -566,20 +566,6 @@ fn sought(
     requires { ⌜ Accepted (given (now outline) (now «hit_at») (now hit) (now «lap_at») (now lap) s) (now splits) (rooms (now «cand_at») (now cand) (now probe)) ⌝ }
     ensures { λ r. ⌜ Written (alongCuts (given (now (outline .entry)) (now («hit_at» .entry)) (now (hit .entry)) (now («lap_at» .entry)) (now (lap .entry)) s) (now (splits .entry))) (rooms (now («cand_at» .entry)) (now (cand .entry)) (now (probe .entry))) r (rooms (now («cand_at» .exit)) (now (cand .exit)) (now (probe .exit))) ⌝ }
 {
-    if told.len() == 0 {
-        return found(
-            outline,
-            hit_at,
-            hit,
-            lap_at,
-            lap,
-            splits,
-            s,
-            cand_at,
-            cand,
-            probe,
-        );
-    }
     let tried = found_told(
         outline,
         hit_at,
