@@ -54,7 +54,7 @@ pub sixteen : askRefusal crowded 16 ∷ askRefusal crowded 17 ∷ askRefusal cro
 unfolding askRefusal firstOf lengthsFault known countOf
 sixteen = refl
 
--- "position tolerance: above 0, at most 1"; "area limit: 0 to any finite": what is not in range is 4, a NaN and an infinity too
+-- "position tolerance: above 0 to 1"; "area limit: 0 to any finite": what is not in range is 4, a NaN and an infinity too
 pub out-of-range :
     enterRefusal zeros (settingOf one +0 one)
     ∷ enterRefusal zeros (settingOf (fin false 3 (negsuc 0)) one one)

@@ -11,7 +11,7 @@ use Rattle.slice.specs.Slice.{codeWidth, shapeWidth, codesAt}
 
 -- ---- one slice
 
--- 3: "source or yes/no code is unknown"
+-- 3: "source [..] is unknown"
 unfoldable pub sourceKnown : Codes → Bool
 sourceKnown c = not (sourceFault (c .source))
 
