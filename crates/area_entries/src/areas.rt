@@ -41,7 +41,7 @@ fn refusal(areas: &[f64], loops: usize, limit: f64, kept: usize) -> u32
     if kept < loops { 9 } else { 0 }
 }
 
-// The numbers of the loops whose area is not below the limit, in order.
+// The numbers of the loops whose area, without its sign, is not below the limit, in order.
 pub fn entry(areas: &[f64], loops: usize, limit: f64, kept: &mut [usize]) -> CountAnswer
     ensures { λ r. ⌜ AreaLeft (now (areas .entry)) loops limit (now (kept .entry)) r (now (kept .exit)) ⌝ }
 {

@@ -4,7 +4,7 @@ use crate::known;
 use basis::answer;
 use basis::answer::CountAnswer;
 
-// The numbers of the loops whose area is not below the setting's limit, in order.
+// The numbers of the loops whose area, without its sign, is not below the setting's limit, in order.
 pub fn entry(
     areas: &[f64],
     loops: usize,

@@ -1,5 +1,6 @@
--- Demand 3, said of the stitch by tolerances: from its contract `StitchLeft` alone, whatever answer and lists it permits. Of `mask_stitch`, which names a setting:
--- named_entries/specs/NamedTheorems.antt `named-demand`.
+-- Demand 3, said of the stitch by tolerances: from its contract `StitchLeft` alone, whatever answer and lists it permits. `mask_stitch` names a setting, and its contract is
+-- `NamedStitch`. named_entries/specs/NamedTheorems.antt says the same of it: `by-tolerances` leads from its contract to this one, `named-demand` has the rounds and the chains,
+-- and `named-need-accepted` `named-shorter-refused` `named-need-is-reached` have the room.
 use Prim.Native.Nat.{ℕ, zero, suc, _+_, _-_, _≤_}
 use mathlib.Core.Bool.{Bool, true, false, _&&_, false≢true}
 use mathlib.Core.Path.{_≡_, refl, sym, ap, _∙_}
