@@ -1,3 +1,4 @@
+// The area pass by a limit: what is refused, and the loops that stay.
 ghost use mathlib.Core.Path.{_≡_};
 ghost use Rattle.basis.specs.All.{allOf};
 ghost use Rattle.basis.specs.Number.{finite};

@@ -1,3 +1,4 @@
+// The entry `mask_prune`.
 ghost use mathlib.Core.Path.{_≡_};
 ghost use Rattle.basis.specs.Refuse.{firstFrom};
 ghost use Rattle.slice.specs.Ready.{rooms};

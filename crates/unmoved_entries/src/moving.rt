@@ -1,3 +1,4 @@
+// The entry `mask_unmoved`.
 ghost use mathlib.Core.Path.{_≡_};
 ghost use Rattle.basis.specs.Refuse.{firstFrom};
 ghost use Rattle.unmoved_entries.specs.UnmovedEntry.{valueRows, indexRows, unmovedRefusal, unmovedAnswer};
