@@ -35,7 +35,7 @@ fn input_refusal(
     faults::index_refusal(r, slice_at, p)
 }
 
-// All numbers. Editions are compared, and the need is worked out, only where 1 to 8 found nothing. Number 10 is proved never to be given, so nothing is looked at for it.
+// All numbers. Editions are compared, and the need is worked out, only where 1 to 8 found nothing. There is no number 10 (request K12).
 fn refusal(
     outline1: &[f64],
     edition1: u32,

@@ -88,7 +88,7 @@ fn last_of_run(points: &[f64], link: &[usize], w: Layout, i: usize, next: usize)
     link[run]
 }
 
-// A look that did not meet slice j goes on from here: the last of j's run. Where slice `seen`, which it did not meet before, begins at another point, it goes on from j:
+// A look that did not meet slice j goes on from here: the last of j's run. Where slice `seen`, the one that it did not meet before (0 at first), begins at another point, it goes on from j:
 // then j's run is most often j alone, and is not looked up, since on a list of many points that would take twice as long.
 pub(crate) fn passed_to(points: &[f64], link: &[usize], w: Layout, seen: usize, j: usize) -> usize
     requires { ⌜ Passed (now points) w (now link) seen j ⌝ }

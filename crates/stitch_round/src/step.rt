@@ -55,7 +55,7 @@ fn step_of(n: usize, first: usize, answer: Answer) -> Step
     taken(n, first, j)
 }
 
-// What the selector answers for the last vertex of a chain of n vertices: by lists of cells, or by a scan where the slices hang on no lists.
+// What the selector answers for the last vertex of a chain of n vertices: by lists of cells, or by a scan where the slices are on no lists.
 fn look(
     points: &[f64],
     visited: &[bool],

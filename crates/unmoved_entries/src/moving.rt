@@ -10,7 +10,7 @@ use unmoved::moved;
 use view_entries::input;
 use view_entries::input::View;
 
-// Numbers 1 to 5.
+// Numbers 1, 2, 3 and 5.
 fn value_refusal(outline1: &[f64], vc1: usize, outline2: &[f64], vc2: usize, v: View) -> u32
     ensures { λ r. ⌜ r ≡ firstFrom 0 (valueRows (now (outline1 .entry)) vc1 (now (outline2 .entry)) vc2 v) ⌝ }
 {
