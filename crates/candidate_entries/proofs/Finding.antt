@@ -1,4 +1,4 @@
--- What the entry `mask_candidates` is proved by: the parts of its table, the two ways out, the cuts in lists of their own.
+-- What the entry over the candidates is proved by: the parts of its table, the two ways out, the cuts in lists of their own, the hint.
 use Prim.Native.Nat.{ℕ, zero, suc, _*_, _≤_}
 use mathlib.Core.Bool.{Bool, false}
 use mathlib.Core.Path.{_≡_, refl, sym, ap, subst, _∙_}
