@@ -359,7 +359,7 @@ fn found(
     )
 }
 
-// The candidates of an accepted call along the order that is told, where it is the order. The list lent beside the rooms is for the points of the cuts.
+// The candidates of an accepted call along the hint, where that is the order. The list lent beside the rooms is for the points of the cuts.
 fn told_with(
     outline: &[f64],
     hit_at: &[usize],
@@ -549,7 +549,7 @@ fn found_told(
     )
 }
 
-// The candidates of an accepted call: along the order that is told, or, where that is not the order, along the order that is found.
+// The candidates of an accepted call: along the hint, or, where that is not the order, along the order that is found.
 fn sought(
     outline: &[f64],
     hit_at: &[usize],

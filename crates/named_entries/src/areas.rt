@@ -1,3 +1,4 @@
+// The entry `mask_area_pass`: the area pass by the limit of a setting.
 ghost use Rattle.settings.specs.Settings.{held};
 ghost use Rattle.named_entries.specs.NamedArea.{NamedArea};
 use crate::known;

@@ -1,3 +1,4 @@
+// The stitch by tolerances: what is refused, then the stitch.
 ghost use mathlib.Core.Path.{_≡_};
 ghost use Rattle.basis.specs.Number.{toleranceOf};
 ghost use Rattle.basis.specs.Refuse.{firstFrom};
