@@ -26,7 +26,7 @@ use Rattle.join.specs.RangeLaws.{VertexIn, StitchIn, slice-in, drop-in, 
 
 -- ---- the scale
 
--- Every finite f64, m · 2 ^ e with m · up e / down e for its size, is a whole number of 2^-1074: the division in `scaled` leaves nothing.
+-- Every finite f64, m · 2 ^ e with m · up e / down e for its size, is a whole number of 2^-1074: the division in `scaled` has no remainder.
 pub whole-exact : (s : Bool) (m : ℕ) (e : ℤ) → Double (fin s m e) → natAbs (whole (fin s m e)) * down e ≡ m * up e * 2 ^ 1074
 whole-exact s m e d = scaled-exact binary64 m e s d
 

@@ -1,4 +1,4 @@
--- With a record that holds the setting, the answers are those of the calls with its numbers, as they were before settings.
+-- With a record that holds the setting, the answers are those of the calls with its numbers.
 use Prim.Native.Nat.{ℕ, _≤_, _<_}
 use mathlib.Core.Bool.{true, false, not}
 use mathlib.Core.Path.{_≡_, refl, sym, subst, _∙_}

@@ -1,4 +1,4 @@
--- An outline: "x, y, bulge of each vertex" in one list, and its vertex count vc.
+-- An outline: x, y and bulge of each vertex in one list, and its vertex count vc.
 use Prim.Native.Nat.{ℕ, _+_, _*_, _%_, _≤_, _<_}
 use mathlib.Core.Path.{_≡_}
 use mathlib.Core.List.{List}

@@ -53,7 +53,7 @@ pub record Wrote (s : List Slice) (most : ℕ) (l : Rooms) (m r : ℕ) (l′ : R
   pub size-shape : length (l′ .shape) ≡ length (l .shape)
   pub size-edition : length (l′ .edition) ≡ length (l .edition)
 
--- one outline's candidates, from slice number m on; there are at most those of both outlines and the overlaps twice
+-- one outline's candidates, from slice number m on; before it there are at most those of one outline
 pub record KeepFit (c : Cands) (n : ℕ) (l : Rooms) (m : ℕ) : Type 0 where
   pub cands : CandsFit c n
   pub low : m ≤ mostCandidates

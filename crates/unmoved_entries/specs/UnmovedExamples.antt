@@ -28,7 +28,7 @@ three = ofBits binary64 0x4008_0000_0000_0000
 abbrev ten : Float
 ten = ofBits binary64 0x4024_0000_0000_0000
 
--- A with a first vertex
+-- A, with its first vertex at (x, y)
 abbrev squareFrom : Float → Float → List Float
 squareFrom x y = x ∷ y ∷ +0 ∷ four ∷ +0 ∷ +0 ∷ four ∷ four ∷ +0 ∷ +0 ∷ four ∷ +0 ∷ []
 
@@ -80,7 +80,7 @@ pub dropped-part-moved : unmovedAnswer (cornerAt four) 6 (cornerAt ten) 6 rest �
 unfolding opens
 dropped-part-moved = refl
 
--- A vertex fewer: its numbers are those of another outline.
+-- Two vertices fewer: the view's start, 4, is not below the new vertex count, 4.
 pub vertex-removed : unmovedAnswer (cornerAt four) 6 (squareFrom +0 +0) 4 rest ≡ unmovedRefused 6
 unfolding opens
 vertex-removed = refl
