@@ -51,7 +51,7 @@ py = ofBits binary64 0xc1c0_0000_0000_0004
 abbrev eight : Float
 eight = ofBits binary64 0x4020_0000_0000_0000
 
--- ---- the stitch: one slice of outline 1, from (px, py) by (0, 8) and (8, 0) to (ex, ey)
+-- ---- the stitch: one slice of outline 1, from (px, py) through (0, 8) and (8, 0) to (ex, ey)
 
 abbrev pub tight : Given
 tight =

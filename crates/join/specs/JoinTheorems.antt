@@ -32,7 +32,7 @@ whole-exact s m e d = scaled-exact binary64 m e s d
 
 -- ---- one join
 
--- What numbers 1, 2, 4 and 5 leave of a stitch; document 01's n is 30.
+-- What holds of a stitch that numbers 1, 2, 4 and 5 let through; document 01's n is 30.
 pub record Ranged (n : ℕ) (g : Given) : Type 0 where
   pub numbers : StitchIn (InRange n) g
   pub tolerances : Tolerances (g .tolerance)

@@ -156,7 +156,7 @@ pub record StitchFit (g : Given) (x : Lists) : Type 0 where
   pub sound : Sound g
   pub long : Long g x
 
--- no more slices than so many
+-- no more slices than `most`
 pub record Few (most : ℕ) (g : Given) (x : Lists) : Type 0 where
   pub fit : StitchFit g x
   pub few : g .slices ≤ most
