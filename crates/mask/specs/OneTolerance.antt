@@ -1,7 +1,7 @@
 -- Request K6: "With both equal, all answers are those of before."
--- Document 01's agreement, box and range of one tolerance, and that those of two are these where both are `alike`. Of the definitions that say what an entry answers, six ask for agreement of points or box,
--- and each is shown here with document 01's own in it. Every definition of the base above them takes a tolerance as a whole and hands it on, and so does every entry of the base:
--- an entry with the tolerance given twice is the entry of before.
+-- Document 01's agreement, box and range of one tolerance, and that those of two are these where both are `alike`. Of the definitions that say what an entry answers, six
+-- ask for agreement of points or box, and each is shown here with document 01's own in it. Every definition of the base above them takes a tolerance as a whole and hands it
+-- on, and so does every entry of the base: an entry with the tolerance given twice is the entry of before.
 use Prim.Native.Nat.{ℕ}
 use mathlib.Core.Bool.{Bool, true, false, not, _&&_, cond}
 use mathlib.Core.Path.{_≡_, refl}

@@ -1,5 +1,5 @@
--- The other way: reading a record that is accepted, then writing what was read, gives the same bytes; and written as another version that has room for it, it reads as the same
--- stitch in the same editions.
+-- The other way: reading a record that is accepted, then writing what was read, gives the same bytes; and written as another version, where that has both tolerances or the record
+-- has one, it reads as the same stitch, in the editions that the version keeps.
 use Prim.Native.Nat.{ℕ, _+_, _*_, _≤_}
 use mathlib.Core.Bool.{true, not, cond}
 use mathlib.Core.Path.{_≡_, refl, sym, ap, _∙_}

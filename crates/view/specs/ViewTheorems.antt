@@ -1,4 +1,4 @@
--- Theorems about the definitions of `View` and `Create`, so that a reader can trust them. No code is proved by them.
+-- Theorems about the definitions of `View` and `Create`, so that a reader can trust them. Of the proofs of code only one rests on them, in the crate unmoved: it uses `outline-passes`.
 use Prim.Native.Nat.{ℕ, _+_, _-_, _*_, _≤_, _<_}
 use mathlib.Core.Bool.{Bool, true, false, _&&_}
 use mathlib.Core.Path.{_≡_, refl, sym, ap, ap₂, subst, _∙_}

@@ -1,4 +1,4 @@
--- Closed examples of every corner of `from_slice_points` and `from_new_start`, computed, each at its smallest input. The host splits straight segments, as the Rust does.
+-- Closed examples of every corner of `from_slice_points` and `from_new_start`, computed, each on a small input. The host splits straight segments, as the Rust does.
 use Prim.Native.Nat.{ℕ}
 use mathlib.Core.Bool.{Bool, true, false}
 use mathlib.Core.Path.{_≡_, refl}
