@@ -14,7 +14,7 @@ use Rattle.basis.specs.declared.answer.CountAnswer.{CountAnswer}
 use Rattle.basis.specs.Answers.{countRefused, counted}
 use Rattle.cut_entries.specs.CutRows.{listRows, valueRows, indexRows}
 
--- 1 to 7
+-- 1 to 7: what is handed in
 unfoldable pub cutInputRows : Given → List Row
 cutInputRows g = listRows g ++ (valueRows g ++ indexRows g)
 
