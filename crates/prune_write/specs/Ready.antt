@@ -32,7 +32,7 @@ pub record WrittenTo (g : Given) (need : ℕ) (l : Rooms) (r : Pruned) (l′ : R
   pub shape : l′ .shape ≡ roomOf +0 shapeWidth need (sliceShapes g) (l .shape)
   pub edition : l′ .edition ≡ roomOf 0 1 need (sliceEditions g) (l .edition)
 
--- which is that of the call
+-- the same with the need of the call
 abbrev pub Written : Given → Rooms → Pruned → Rooms → Type 0
 Written g l r l′ = WrittenTo g (needOf (g .call)) l r l′
 
