@@ -1,4 +1,4 @@
--- No figure below 2^-24 holds: a stitch that document 01 lets through, computed. Its loop closes off by the axis tolerance plus 2^-24, on both axes. Its two tolerances differ.
+-- No figure below 2^-24 holds: a stitch that document 01 lets through, computed. At its closing it is off by the axis tolerance plus 2^-24, on both axes. Its two tolerances differ.
 use Prim.Native.Nat.{ℕ, _+_, _≤_}
 use mathlib.Core.Bool.{true, false}
 use mathlib.Core.Path.{_≡_, refl, ap, subst}
