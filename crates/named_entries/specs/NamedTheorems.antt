@@ -1,4 +1,4 @@
--- With a record that holds the setting, the answers are those of the calls with its numbers, as they were before settings. So demand 3 holds of `mask_stitch`:
+-- With a record that holds the setting, the answers are those of the calls with its numbers. So demand 3 holds of `mask_stitch`:
 -- `named-demand` `named-need-accepted` `named-shorter-refused` `named-need-is-reached` say of it, from its contract, what stitch_entries/specs/DemandTheorems.antt says of the stitch by
 -- tolerances.
 use Prim.Native.Nat.{ℕ, _≤_, _<_}

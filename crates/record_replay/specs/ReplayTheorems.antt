@@ -300,7 +300,8 @@ module _ (b : List ℕ) (z : formNumber b ≡ 0) where
           by-test (eqb (firstOf (judgedRows b)) 0) (λ t. clear-number (clear (judgedRows b) tt (eqb-true (firstOf (judgedRows b)) 0 t)))
           (λ f. judged-number ∙ first-found (judgedRows b) rooms (eqb-false (firstOf (judgedRows b)) 0 f))
 
--- with the program's lists a replay's number is 11, 12, 13, 1 or 2 of the reader, or one of 1 to 8, or 14, of the stitch that the bytes hold
+-- with the program's lists a replay's number is the reader's, or else one of 1 to 8, or 14, of the stitch that the bytes hold: the stitch's rooms give no 9. The reader's own rooms give
+-- none either (`lent-clear`), so its number is 11, 12, 13, 1 or 2
 pub never-9 : (b : List ℕ) (x : Lists) → ProgramLists x → replayNumber b x ≡ answer (λ (n : ℕ). n) (formNumber b) (firstOf (judgedRows b))
 unfolding replayNumber
 never-9 b x roomy = go (formNumber b) refl

@@ -17,7 +17,7 @@ use Rattle.settings_entries.specs.History.{enter, ask, entered, asked, s
 abbrev zeros : Held
 zeros = held (0 ∷ []) (replicate 48 +0)
 
--- 2 ^ -10 across, 2 ^ -11 up, areas from 1 on
+-- tolerances of 2 ^ -10 for x and 2 ^ -11 for y, and an area limit of 1
 abbrev fine : Setting
 fine = settingOf (fin false 1 (negsuc 9)) (fin false 1 (negsuc 10)) one
 

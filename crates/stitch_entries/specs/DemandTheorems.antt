@@ -106,7 +106,7 @@ module _ (g : Given) (e : Editions) (x : Lists) (r : StitchAnswer) (left : Lists
         ∙ ap (totals 0) (sym (map-map length slicesOf (runOf g))) in
         rw (h, chain-is, ← flatten-map (runOf g)) (parted-totals [] 0 refl parts _)
 
-    -- Whatever the answer and the lists: rounds are slices, and the chains that are listed are those of demand 3.
+    -- Whatever the answer and the lists: there are as many rounds as slices, and the chains that are listed are those of demand 3.
     pub stitch-demand : Demanded (g .slices) (r .rounds) (r .chains) (take (g .slices) (left .chain)) (chainsIn (r .chains) left)
     unfolding chainItems chainCount
     stitch-demand =
