@@ -412,7 +412,7 @@ fn extreme(slices: Slices) -> Job {
 type MakeJob = fn(usize) -> Job;
 
 /// A name, how it is made, and up to which size.
-const JOBS: [(&str, MakeJob, usize); 15] = [
+const JOBS: [(&str, MakeJob, usize); 16] = [
     (
         "star, union",
         |n| pruned(shapes::star(n), UNION),
@@ -481,6 +481,11 @@ const JOBS: [(&str, MakeJob, usize); 15] = [
     (
         "two points take turns, and all end beside them",
         |n| extreme(shapes::beside_two_starts(n)),
+        MOST_SLICES,
+    ),
+    (
+        "eight points of a small circle take turns, and all end beside them",
+        |n| extreme(shapes::beside_small_circle(n)),
         MOST_SLICES,
     ),
     (

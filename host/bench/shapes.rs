@@ -310,6 +310,17 @@ pub fn beside_two_starts(count: usize) -> Slices {
     slices
 }
 
+/// Slices begin by turns at eight points of a circle that is smaller than the tolerance, and all end three tolerances beside its middle, where no slice starts.
+pub fn beside_small_circle(count: usize) -> Slices {
+    let mut slices = Slices::default();
+    for i in 0..count {
+        let [x, y] = on_circle(i % 8, 8).map(|n| 1.0 + 4e-8 * n);
+        push_slice(&mut slices, 0, [x, y], [1.00003, 1.0]);
+    }
+    slices.starts = [count; 3];
+    slices
+}
+
 /// All slices begin at one point, and end four tolerances beside it, where no slice starts.
 pub fn beside_one_start(count: usize) -> Slices {
     let mut slices = Slices::default();
