@@ -32,7 +32,7 @@ use Rattle.candidate_entries.specs.Candidates.{laterRows, candidatesRows, candi
 use Rattle.prune.specs.Prune as Prune
 use Rattle.prune_entries.specs.PruneEntry.{inputRows, lentRows, pruneRefusal}
 use Rattle.stitch_run.specs.Stitch as stitch
-use Rattle.stitch_entries.specs.declared.faults.Lengths.{Lengths}
+use Rattle.stitch_faults.specs.declared.faults.Lengths.{Lengths}
 use Rattle.slice.specs.Editions.{Editions}
 use Rattle.named_entries.specs.NamedStitch.{namedStitchRows, namedStitchRefusal}
 use Rattle.named_entries.specs.NamedArea.{namedAreaRows, namedAreaRefusal}

@@ -17,7 +17,7 @@ use Rattle.slice.specs.SliceLaws.{at-slice}
 use Rattle.slice.specs.Editions.{Editions, editionOf}
 use Rattle.slice.specs.EditionLaws.{at-edition}
 use Rattle.stitch_run.specs.Stitch.{Given}
-use Rattle.stitch_entries.specs.declared.faults.Lengths.{Lengths}
+use Rattle.stitch_faults.specs.declared.faults.Lengths.{Lengths}
 use Rattle.settings.specs.Settings.{Held}
 use Rattle.named_entries.specs.NamedStitch.{namedStitchRows, namedStitchRefusal}
 use Rattle.view.specs.View.{Fit}

@@ -9,7 +9,7 @@ use Rattle.basis.specs.All.{All}
 use Rattle.slice.specs.Editions.{Editions}
 use Rattle.stitch_run.specs.Doubles.{Doubles}
 use Rattle.stitch_run.specs.Stitch.{Given}
-use Rattle.stitch_entries.specs.Matching.{oneEdition}
+use Rattle.stitch_faults.specs.Matching.{oneEdition}
 use Rattle.fields.specs.FieldLaws.{Octets}
 use Rattle.record.specs.declared.head.Lengths.{Lengths}
 use Rattle.record.specs.Form.{form1, form2, formFor}

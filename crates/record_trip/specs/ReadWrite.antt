@@ -19,8 +19,8 @@ use Rattle.slice.specs.Editions.{Editions, editionListRows, editionRows}
 use Rattle.stitch_run.specs.declared.plan.Plan.{Plan}
 use Rattle.stitch_run.specs.Doubles.{AllDouble, Doubles}
 use Rattle.stitch_run.specs.Stitch.{Given}
-use Rattle.stitch_entries.specs.StitchEntry.{listPart, codePart, numberPart, indexPart, shapeRows, inputRows, editionPart}
-use Rattle.stitch_entries.specs.Matching.{Matched}
+use Rattle.stitch_faults.specs.StitchTable.{listPart, codePart, numberPart, indexPart, shapeRows, inputRows, editionPart}
+use Rattle.stitch_faults.specs.Matching.{Matched}
 use Rattle.fields.specs.Fields.{size, bytesOf, valueOf, pack, unpack, numOf, bitsOf}
 use Rattle.fields.specs.FieldLaws.{Octets, octets-drop, unpack-fitted, pack-unpack}
 use Rattle.fields.specs.NumberLaws.{num-held}

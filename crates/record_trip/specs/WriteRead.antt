@@ -23,10 +23,10 @@ use Rattle.slice.specs.SliceLaws.{slice-at, turned-at, start-at, offset-at}
 use Rattle.slice.specs.Editions.{Editions, editions}
 use Rattle.stitch_run.specs.Doubles.{Doubles}
 use Rattle.stitch_run.specs.Stitch.{Given, planOf}
-use Rattle.stitch_entries.specs.StitchRows.{startsFault}
-use Rattle.stitch_entries.specs.declared.faults.Lengths as lent
-use Rattle.stitch_entries.specs.StitchEntry.{stitchRefusal}
-use Rattle.stitch_entries.specs.Matching.{Matched, base-number}
+use Rattle.stitch_faults.specs.StitchRows.{startsFault}
+use Rattle.stitch_faults.specs.declared.faults.Lengths as lent
+use Rattle.stitch_faults.specs.StitchTable.{stitchRefusal}
+use Rattle.stitch_faults.specs.Matching.{Matched, base-number}
 use Rattle.fields.specs.Fields.{size, bytesOf, valueOf, pack, unpack, numOf, bitsOf}
 use Rattle.fields.specs.FieldLaws.{Cut, cut-none, cut-one, cut-fit, cut-append, fitted-cut, unpack-cut, length-pack}
 use Rattle.fields.specs.NumberLaws.{Plain, AllPlain, num-bits, bits-below, nums-bits}

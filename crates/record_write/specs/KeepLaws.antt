@@ -19,8 +19,8 @@ use Rattle.fields.specs.Ready.{NoNan}
 use Rattle.slice.specs.Slice.{codeWidth, shapeWidth}
 use Rattle.slice.specs.Editions.{Editions, editionListRows, editionRows}
 use Rattle.stitch_run.specs.Stitch.{Given}
-use Rattle.stitch_entries.specs.StitchEntry.{listPart, codePart, numberPart, indexPart}
-use Rattle.stitch_entries.specs.Matching.{Matched}
+use Rattle.stitch_faults.specs.StitchTable.{listPart, codePart, numberPart, indexPart}
+use Rattle.stitch_faults.specs.Matching.{Matched}
 use Rattle.record.specs.declared.form.Version.{Version}
 use Rattle.record.specs.Form.{headShape, sliceShape, takenVertices, takenSlices, entryWidth, bodyOf, mix}
 use Rattle.record.specs.Ready.{FormOk}

@@ -14,7 +14,7 @@ use Rattle.basis.specs.Room.{roomOf}
 use Rattle.fields.specs.Fields.{bitsOf}
 use Rattle.slice.specs.Editions.{Editions, editionListRows, editionRows}
 use Rattle.stitch_run.specs.Stitch.{Given}
-use Rattle.stitch_entries.specs.StitchEntry.{listPart, codePart, numberPart, indexPart}
+use Rattle.stitch_faults.specs.StitchTable.{listPart, codePart, numberPart, indexPart}
 use Rattle.record.specs.declared.form.Version.{Version}
 use Rattle.record.specs.Form.{formFor}
 use Rattle.record.specs.Record.{planIn, versionFault, lengthOf, takenRows, recordOf}

@@ -22,7 +22,7 @@ use record::form::Version;
 use record::head;
 use record::head::Head;
 use slice::edition;
-use stitch_entries::faults;
+use stitch_faults::faults;
 use stitch_run::plan::Plan;
 
 // Number 12: the version asked for is another than its table's.

@@ -55,12 +55,12 @@ use Rattle.slice.specs.Slice.{codesAt, shapeAt, sliceView}
 use Rattle.stitch_run.specs.Stitch.{offersTo, rulesOf, runOf, loopOf, loopsOf, howOf, totals, roundCount, loopCount, roomItems}
 use Rattle.stitch_run.specs.Stitch.{endItems, sumBelow, weightAt, needFor}
 use Rattle.stitch.specs.Lent.{Lists}
-use Rattle.stitch_entries.specs.StitchRows.{startsFault, lengths}
+use Rattle.stitch_faults.specs.StitchRows.{startsFault, lengths}
 use Rattle.stitch_entries.specs.declared.answer.StitchAnswer.{StitchAnswer}
 use Rattle.stitch_entries.specs.Answers.{stitchRefused, stitchGiven}
 use Rattle.slice.specs.Editions.{Editions}
 use Rattle.stitch_entries.specs.StitchEntry.{lengthsOf, stitchNumber}
-use Rattle.stitch_entries.specs.Matching.{Matched, baseRefusal, base-number}
+use Rattle.stitch_faults.specs.Matching.{Matched, baseRefusal, base-number}
 use Rattle.named_entries.specs.NamedTheorems.{by-tolerances}
 use Rattle.sheet.specs.Sheet.{Said, candidatesAre, verticesAre, slicesAre, loopsAre, refusedWith, apartInBox, LoopRooms, Case, Holds, Answers, sheet}
 

@@ -11,8 +11,8 @@ use Rattle.slice.specs.Slice.{codeWidth, codesAt}
 use Rattle.slice.specs.Editions.{Editions, editions, editionOf, editionFault, editionListRows}
 use Rattle.slice.specs.EditionLaws.{edition-at, one-edition}
 use Rattle.stitch_run.specs.Stitch.{Given}
-use Rattle.stitch_entries.specs.declared.faults.Lengths.{Lengths}
-use Rattle.stitch_entries.specs.StitchEntry.{listPart, codePart, numberPart, indexPart, shapeRows, inputRows, editionPart, roomPart, stitchRows, stitchRefusal}
+use Rattle.stitch_faults.specs.declared.faults.Lengths.{Lengths}
+use Rattle.stitch_faults.specs.StitchTable.{listPart, codePart, numberPart, indexPart, shapeRows, inputRows, editionPart, roomPart, stitchRows, stitchRefusal}
 
 -- one edition a slice, each that of its outline
 pub record Matched (g : Given) (e : Editions) : Type 0 where

@@ -3,7 +3,7 @@ ghost use mathlib.Core.Path.{_≡_};
 ghost use lib.ListN.{length};
 ghost use Rattle.basis.specs.Refuse.{firstFrom};
 ghost use Rattle.stitch.specs.Lent.{NeedFit};
-ghost use Rattle.stitch_entries.specs.StitchRows.{listRows, codeRows, numberRows, startsFault, indexRows, roomRows};
+ghost use Rattle.stitch_faults.specs.StitchRows.{listRows, codeRows, numberRows, startsFault, indexRows, roomRows};
 use basis::number;
 use basis::number::Tolerance;
 use basis::refuse;

@@ -4,10 +4,10 @@ use mathlib.Core.List.{List, [], _∷_}
 use Rattle.basis.specs.Refuse.{row, firstFrom, orElse, sizeFault, choiceFault}
 use Rattle.basis.specs.RefuseLaws.{rows, then-rows}
 use Rattle.slice.specs.Faults as slices
-use Rattle.stitch_entries.specs.StitchRows.{codeRows}
+use Rattle.stitch_faults.specs.StitchRows.{codeRows}
 use borrow.Author.Needs.{needs}
-use Rattle.stitch_entries.proofs.faults.code_refusal.Statement.{statement}
-use Rattle.stitch_entries.proofs.faults.code_refusal.Tie as tie
+use Rattle.stitch_faults.proofs.faults.code_refusal.Statement.{statement}
+use Rattle.stitch_faults.proofs.faults.code_refusal.Tie as tie
 
 -- the slices' rows behind the others
 then-slices : (n p r vc1 vc2 selector : ℕ) (at : List ℕ) → n ≡ firstFrom p (slices.codeRows at)

@@ -1,9 +1,9 @@
 use Rattle.basis.specs.Refuse.{firstFrom}
 use Rattle.basis.specs.RefuseLaws.{rows}
-use Rattle.stitch_entries.proofs.Ways.{third}
+use Rattle.stitch_faults.proofs.Thirds.{third}
 use borrow.Author.Needs.{needs}
-use Rattle.stitch_entries.proofs.faults.room_refusal.Statement.{statement}
-use Rattle.stitch_entries.proofs.faults.room_refusal.Tie as tie
+use Rattle.stitch_faults.proofs.faults.room_refusal.Statement.{statement}
+use Rattle.stitch_faults.proofs.faults.room_refusal.Tie as tie
 
 pub room-refusal-spec : {M : Type 1} → statement M
 unfolding firstFrom

@@ -6,10 +6,10 @@ use Rattle.basis.specs.Sizes.{mostSlices}
 use Rattle.basis.specs.Refuse.{row, firstFrom, orElse, lengthFault}
 use Rattle.basis.specs.RefuseLaws.{rows, then-rows}
 use Rattle.slice.specs.Faults as slices
-use Rattle.stitch_entries.specs.StitchRows.{listRows}
+use Rattle.stitch_faults.specs.StitchRows.{listRows}
 use borrow.Author.Needs.{needs}
-use Rattle.stitch_entries.proofs.faults.list_refusal.Statement.{statement}
-use Rattle.stitch_entries.proofs.faults.list_refusal.Tie as tie
+use Rattle.stitch_faults.proofs.faults.list_refusal.Statement.{statement}
+use Rattle.stitch_faults.proofs.faults.list_refusal.Tie as tie
 
 -- the slices' rows between the outlines' and the count's
 then-slices : (n q p r len1 vc1 len2 vc2 at numbers count : ℕ) → n ≡ orElse q (ltb mostSlices count) 1 → q ≡ firstFrom p (slices.listRows at numbers count)

@@ -11,7 +11,7 @@ use Rattle.basis.specs.Refuse.{Row, row, lengthFault, sizeFault, choiceFault}
 use Rattle.select.specs.declared.class.Starts.{Starts}
 use Rattle.slice.specs.Faults as slices
 use Rattle.stitch_run.specs.Stitch.{needOf}
-use Rattle.stitch_entries.specs.declared.faults.Lengths.{Lengths}
+use Rattle.stitch_faults.specs.declared.faults.Lengths.{Lengths}
 
 -- 1: of the outlines, whose lists have 3 numbers a vertex, and of the slices; "slices in a stitch: 0 to 1,792"
 abbrev pub listRows : ℕ → ℕ → ℕ → ℕ → ℕ → ℕ → ℕ → List Row
