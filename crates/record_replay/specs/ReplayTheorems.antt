@@ -22,8 +22,8 @@ use Rattle.stitch.specs.Lent.{Lists}
 use Rattle.stitch_entries.specs.StitchEntry.{lengthsOf, stitchNumber}
 use Rattle.stitch_faults.specs.StitchTable.{listPart, codePart, numberPart, indexPart, shapeRows, editionPart, roomPart, stitchRefusal}
 use Rattle.stitch_faults.specs.Matching.{Matched, oneEdition, one-matched, never-14}
-use Rattle.record.specs.declared.form.Version.{Version}
-use Rattle.record.specs.Form.{formFor, takenVertices, takenSlices}
+use Rattle.record_form.specs.declared.form.Version.{Version}
+use Rattle.record_form.specs.Form.{formFor, takenVertices, takenSlices}
 use Rattle.record.specs.Record.{planIn, headIn, planHeld, listsHeld, numberIn, formIn, frameRows, lengthOf, takenRows, countRows, roomRows, takenLengths, readRows}
 use Rattle.record.specs.RecordLaws.{Long, read-long, counts-small}
 use Rattle.record_read.specs.ReadTheorems.{NoEditions, no-editions}

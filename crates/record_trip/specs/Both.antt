@@ -12,7 +12,7 @@ use Rattle.stitch_run.specs.Stitch.{Given}
 use Rattle.stitch_faults.specs.Matching.{oneEdition}
 use Rattle.fields.specs.FieldLaws.{Octets}
 use Rattle.record.specs.declared.head.Lengths.{Lengths}
-use Rattle.record.specs.Form.{form1, form2, formFor}
+use Rattle.record_form.specs.Form.{form1, form2, formFor}
 use Rattle.record.specs.Record.{stitchIn, editionsIn, formIn, readRefusal, recordOf}
 use Rattle.record_read.specs.ReadTheorems.{no-editions}
 use Rattle.record_write.specs.Writer.{lengthGiven, writeRefusal}

@@ -11,7 +11,7 @@ use Rattle.fields.specs.Ready.{NoNan, CopyAt, BitsAt}
 use Rattle.fields.specs.StepLaws.{step-inside, step-left}
 use Rattle.basis.specs.StoreLaws.{sets-then, sets-after}
 use Rattle.slice.specs.Slice.{codeWidth, shapeWidth}
-use Rattle.record.specs.Form.{commonWidth, entryWidth, mix}
+use Rattle.record_form.specs.Form.{commonWidth, entryWidth, mix}
 use Rattle.record.specs.Record.{lists, valuesOf}
 use Rattle.record_write.specs.Ready.{MixFit}
 use Rattle.record_write.specs.ValueLaws.{map-take, map-drop}

@@ -21,9 +21,9 @@ use Rattle.slice.specs.Editions.{Editions, editionListRows, editionRows}
 use Rattle.stitch_run.specs.Stitch.{Given}
 use Rattle.stitch_faults.specs.StitchTable.{listPart, codePart, numberPart, indexPart}
 use Rattle.stitch_faults.specs.Matching.{Matched}
-use Rattle.record.specs.declared.form.Version.{Version}
-use Rattle.record.specs.Form.{headShape, sliceShape, takenVertices, takenSlices, entryWidth, bodyOf, mix}
-use Rattle.record.specs.Ready.{FormOk}
+use Rattle.record_form.specs.declared.form.Version.{Version}
+use Rattle.record_form.specs.Form.{headShape, sliceShape, takenVertices, takenSlices, entryWidth, bodyOf, mix}
+use Rattle.record_form.specs.Ready.{FormOk}
 use Rattle.record.specs.Record.{listsIn, planIn, lengthOf, takenRows, headValues, headGiven, valuesOf, recordOf}
 use Rattle.record.specs.RecordLaws.{length-body, size-body}
 use Rattle.record_write.specs.Writer.{axesFault, axesRows, keepRows, handedRows, heldRows, lengthGiven}

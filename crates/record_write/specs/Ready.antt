@@ -11,10 +11,10 @@ use Rattle.slice.specs.Slice.{codeWidth, shapeWidth}
 use Rattle.slice.specs.Editions.{Editions}
 use Rattle.stitch_run.specs.declared.plan.Plan.{Plan}
 use Rattle.stitch_run.specs.Stitch.{Given}
-use Rattle.record.specs.declared.form.Version.{Version}
+use Rattle.record_form.specs.declared.form.Version.{Version}
 use Rattle.record.specs.declared.head.Head.{Head}
-use Rattle.record.specs.Form.{takenVertices, takenSlices, entryWidth}
-use Rattle.record.specs.Ready.{FormOk}
+use Rattle.record_form.specs.Form.{takenVertices, takenSlices, entryWidth}
+use Rattle.record_form.specs.Ready.{FormOk}
 use Rattle.record.specs.Record.{planIn, lengthOf}
 use Rattle.record_write.specs.Writer.{lengthGiven}
 

@@ -5,12 +5,12 @@ ghost use lib.ListN.{length};
 ghost use lib.Seq.{sets};
 ghost use Rattle.fields.specs.Fields.{bitsOf};
 ghost use Rattle.slice.specs.Slice.{codeWidth, shapeWidth};
-ghost use Rattle.record.specs.Form.{mix};
+ghost use Rattle.record_form.specs.Form.{mix};
 ghost use Rattle.record.specs.Record.{lists, headValues, valuesOf};
 ghost use Rattle.record_write.specs.Ready.{Numbers, MixFit, ValuesFit};
 use fields::copy;
-use record::form;
 use record::head::Head;
+use record_form::form;
 use slice::data::CODE_WIDTH;
 use slice::data::SHAPE_WIDTH;
 

@@ -1,8 +1,8 @@
 // The versions of the record, as tables of widths.
 ghost use mathlib.Core.Path.{_≡_};
 ghost use Rattle.fields.specs.Fields.{size};
-ghost use Rattle.record.specs.Form.{form1, form2, formFor, headShape, sliceShape};
-ghost use Rattle.record.specs.Ready.{FormOk};
+ghost use Rattle.record_form.specs.Form.{form1, form2, formFor, headShape, sliceShape};
+ghost use Rattle.record_form.specs.Ready.{FormOk};
 use slice::data::CODE_WIDTH;
 use slice::data::SHAPE_WIDTH;
 

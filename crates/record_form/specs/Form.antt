@@ -7,7 +7,7 @@ use lib.Dec.{eqb}
 use lib.ListN.{take, drop}
 use Rattle.fields.specs.Fields.{rows}
 use Rattle.slice.specs.Slice.{codeWidth, shapeWidth}
-use Rattle.record.specs.declared.form.Version.{Version}
+use Rattle.record_form.specs.declared.form.Version.{Version}
 
 -- K1: "16-bit version 1, .. tolerance, three 16-bit starts": one tolerance for both axes, and no editions; "at most .. 4,610 bytes"
 abbrev pub form1 : Version
