@@ -23,7 +23,7 @@ use Rattle.named_entries.specs.NamedStitch.{namedStitchRows, namedStitchRefusal
 use Rattle.view.specs.View.{Fit}
 use Rattle.view_entries.specs.declared.input.View.{View}
 use Rattle.view_entries.specs.Inputs.{viewData}
-use Rattle.verdict_entries.specs.declared.answer.ReopenAnswer.{ReopenAnswer}
+use Rattle.verdict_answer.specs.declared.answer.ReopenAnswer.{ReopenAnswer}
 use Rattle.verdict_entries.specs.ReopenEntry.{reopenAnswer}
 use Rattle.verdict_entries.specs.ReopenTheorems.{valid-edition, valid-fit}
 

@@ -1,6 +1,6 @@
 // What `mask_validate_for_source` and `mask_reopen` answer: flat structs, by value. What a verdict does not name is 0.
 ghost use mathlib.Core.Path.{_≡_};
-ghost use Rattle.verdict_entries.specs.VerdictAnswers.{verdictRecord, verdictRefused, verdictGiven, reopenRecord};
+ghost use Rattle.verdict_answer.specs.VerdictAnswers.{verdictRecord, verdictRefused, verdictGiven, reopenRecord};
 use outline::point::Point;
 use outline::point::Vertex;
 use verdict::validate::ViewDataValidation;
@@ -33,7 +33,7 @@ pub struct ReopenAnswer {
     pub edition: u32,
 }
 
-pub(crate) fn verdict_refused(number: u32) -> VerdictAnswer
+pub fn verdict_refused(number: u32) -> VerdictAnswer
     ensures { λ r. ⌜ r ≡ verdictRefused number ⌝ }
 {
     VerdictAnswer {
@@ -73,7 +73,7 @@ fn verdict_record(
 }
 
 // Each case of the verdict by its number, with the values that it names.
-pub(crate) fn verdict_given(v: ViewDataValidation) -> VerdictAnswer
+pub fn verdict_given(v: ViewDataValidation) -> VerdictAnswer
     ensures { λ r. ⌜ r ≡ verdictGiven v ⌝ }
 {
     match v {
@@ -109,7 +109,7 @@ pub(crate) fn verdict_given(v: ViewDataValidation) -> VerdictAnswer
 }
 
 // A verdict's answer as it is, with an edition beside it.
-pub(crate) fn reopen_record(a: VerdictAnswer, edition: u32) -> ReopenAnswer
+pub fn reopen_record(a: VerdictAnswer, edition: u32) -> ReopenAnswer
     ensures { λ r. ⌜ r ≡ reopenRecord a edition ⌝ }
 {
     let point = a.point;

@@ -6,8 +6,8 @@ use Rattle.outline.specs.declared.point.Point.{Point}
 use Rattle.outline.specs.declared.point.Vertex.{Vertex}
 use Rattle.verdict.specs.declared.validate.ViewDataValidation.{ViewDataValidation}
 use Rattle.verdict.specs.declared.validate.ViewDataValidation.the-variants as verdict
-use Rattle.verdict_entries.specs.declared.answer.VerdictAnswer.{VerdictAnswer}
-use Rattle.verdict_entries.specs.declared.answer.ReopenAnswer.{ReopenAnswer}
+use Rattle.verdict_answer.specs.declared.answer.VerdictAnswer.{VerdictAnswer}
+use Rattle.verdict_answer.specs.declared.answer.ReopenAnswer.{ReopenAnswer}
 use Rattle.view_entries.specs.Answers.{noPoint, noVertex}
 
 abbrev pub verdictRecord : ℕ → ℕ → ℕ → Point → Vertex → Float → Float → VerdictAnswer

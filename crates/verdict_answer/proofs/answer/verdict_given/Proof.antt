@@ -1,8 +1,8 @@
 use mathlib.Core.Path.{sym, ap, _∙_}
-use Rattle.verdict_entries.specs.VerdictAnswers.{verdictGiven}
+use Rattle.verdict_answer.specs.VerdictAnswers.{verdictGiven}
 use borrow.Author.Needs.{needs}
-use Rattle.verdict_entries.proofs.answer.verdict_given.Statement.{statement}
-use Rattle.verdict_entries.proofs.answer.verdict_given.Tie as tie
+use Rattle.verdict_answer.proofs.answer.verdict_given.Statement.{statement}
+use Rattle.verdict_answer.proofs.answer.verdict_given.Tie as tie
 
 returns : tie.Need-returns
 unfolding verdictGiven
