@@ -27,7 +27,7 @@ use Rattle.stitch_run.specs.TallyLaws.{tally-most}
 use Rattle.stitch_run.specs.RunLaws.{going-opened, kept-turns}
 use Rattle.stitch_run.specs.StitchLaws.{among}
 use Rattle.stitch_run.specs.ReportLaws.{order-snoc, loops-snoc, totals-snoc, totals-length, sum-map, flat-length, loops-size, loops-few, chains-few}
-use Rattle.stitch_links.specs.declared.layout.Layout.{Layout}
+use Rattle.stitch_layout.specs.declared.layout.Layout.{Layout}
 use Rattle.stitch_round.specs.Ready.{Sound}
 use Rattle.stitch_chain.specs.Ready.{Begun, chainsTo, orderTo, mostOf, Opening, chainAt, Walked}
 use Rattle.stitch.specs.Lent.{numbersOf, endsOf, chainEndsOf, howsOf, Lists, lists, Holds, EndFit, EndListed, loopEnd, tallyAfter, endsAfter, LoopFit, LoopListed, TurnFit, Turned}

@@ -12,7 +12,7 @@ use Rattle.stitch.specs.declared.turn.Tally.{Tally}
 use Rattle.stitch_run.specs.Run.{run, turns, orderOf}
 use Rattle.stitch_run.specs.Stitch.{Given, rulesOf, runOf, loopsOf, totals, sumBelow, weightAt, needFor, needOf}
 use Rattle.slice.specs.Slice.{codeWidth, codesAt}
-use Rattle.stitch_links.specs.declared.layout.Layout.{Layout}
+use Rattle.stitch_layout.specs.declared.layout.Layout.{Layout}
 use Rattle.stitch_links.specs.Hung.{Between}
 use Rattle.stitch_round.specs.Ready.{Sound, Points}
 use Rattle.stitch_chain.specs.Ready.{Begun, chainsTo}

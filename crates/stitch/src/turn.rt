@@ -3,7 +3,7 @@ ghost use Rattle.stitch_run.specs.Stitch.{given};
 ghost use Rattle.stitch.specs.Lent.{lists, EndFit, EndListed, LoopFit, LoopListed, TurnFit, Turned, TurnsFit, AllTurned};
 use stitch_chain::rounds;
 use stitch_chain::rounds::ChainEnd;
-use stitch_links::layout::Layout;
+use stitch_layout::layout::Layout;
 use stitch_round::step;
 use stitch_run::plan::Plan;
 

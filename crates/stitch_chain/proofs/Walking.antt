@@ -12,7 +12,7 @@ use Rattle.stitch_vertices.specs.Held.{chainOf}
 use Rattle.stitch_vertices.specs.RestLaws.{chain-length, chain-less}
 use Rattle.stitch_run.specs.declared.plan.Plan.{Plan}
 use Rattle.stitch_chain.specs.declared.rounds.ChainEnd.{ChainEnd}
-use Rattle.stitch_links.specs.declared.layout.Layout.{Layout}
+use Rattle.stitch_layout.specs.declared.layout.Layout.{Layout}
 use Rattle.stitch_links.specs.Hung.{Hung, hung-visit, hung-begin}
 use Rattle.stitch_round.specs.declared.step.Step.{Step}
 use Rattle.stitch_round.specs.declared.step.Step.the-variants.{Onto, Ends}

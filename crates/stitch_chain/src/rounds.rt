@@ -1,7 +1,7 @@
 // A chain: round after round, from its first slice to its end.
 ghost use Rattle.stitch_run.specs.Stitch.{given};
 ghost use Rattle.stitch_chain.specs.Ready.{Placing, Placed, Opening, Walked};
-use stitch_links::layout::Layout;
+use stitch_layout::layout::Layout;
 use stitch_round::slices;
 use stitch_round::step;
 use stitch_round::step::Step;

@@ -1,11 +1,11 @@
 // How the slices of a stitch hang: their layout, and every slice put on its list.
 ghost use Rattle.stitch_links.specs.Hanging.{FarFit, Laying, LaidBy, Hangable, Hanged};
-use crate::layout;
-use crate::layout::Layout;
 use basis::number;
 use basis::number::Tolerance;
 use outline::read;
 use stitch_cell::cell;
+use stitch_layout::layout;
+use stitch_layout::layout::Layout;
 use stitch_run::plan::Plan;
 
 // How far each axis is moved.

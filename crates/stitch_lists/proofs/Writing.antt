@@ -18,7 +18,7 @@ use Rattle.slice.specs.Slice.{sliceView}
 use Rattle.stitch_run.specs.RunLaws.{same-length}
 use Rattle.stitch_run.specs.StitchLaws.{among}
 use Rattle.stitch_run.specs.Demand3Theorems.{room-items, end-items, chain-items, how-items, chains-at-most, loops-at-most}
-use Rattle.stitch_links.specs.declared.layout.Layout.{Layout}
+use Rattle.stitch_layout.specs.declared.layout.Layout.{Layout}
 use Rattle.stitch_links.specs.Hanging.{Hanged, hanged-between}
 use Rattle.stitch_round.specs.Ready.{Points}
 use Rattle.stitch_chain.specs.Ready.{Begun}

@@ -15,7 +15,7 @@ use Rattle.select.specs.declared.best.Selected.the-variants.{Slice, NoSlice}
 use Rattle.stitch_vertices.specs.Held.{chainOf}
 use Rattle.stitch_vertices.specs.RestLaws.{chain-length, chain-last}
 use Rattle.stitch_run.specs.declared.plan.Plan.{Plan}
-use Rattle.stitch_links.specs.declared.layout.Layout.{Layout}
+use Rattle.stitch_layout.specs.declared.layout.Layout.{Layout}
 use Rattle.stitch_answer.specs.declared.answer.Answer.{Answer}
 use Rattle.stitch_answer.specs.declared.answer.Answer.the-variants.{NoCandidate, Asked}
 use Rattle.stitch_answer.specs.Answer.{nearEnd, answerOf, answerAt, Asking, Answered}

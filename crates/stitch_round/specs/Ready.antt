@@ -19,8 +19,9 @@ use Rattle.stitch_run.specs.declared.plan.Plan.{Plan}
 use Rattle.stitch_round.specs.declared.scan.Seen.{Seen}
 use Rattle.stitch_round.specs.declared.step.Step.{Step}
 use Rattle.stitch_round.specs.declared.step.Step.the-variants.{Onto, Ends}
-use Rattle.stitch_links.specs.declared.layout.Layout.{Layout}
-use Rattle.stitch_links.specs.Ready.{There, Marked, ScanFit}
+use Rattle.stitch_layout.specs.declared.layout.Layout.{Layout}
+use Rattle.stitch_links.specs.Ready.{Marked, ScanFit}
+use Rattle.stitch_layout.specs.Ready.{There}
 use Rattle.stitch_links.specs.Hung.{Hung}
 use Rattle.stitch_answer.specs.declared.answer.Answer.{Answer}
 use Rattle.stitch_answer.specs.declared.answer.Answer.the-variants.{NoCandidate, Asked}

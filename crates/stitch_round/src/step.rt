@@ -11,7 +11,7 @@ use outline::read;
 use select::best::Selected;
 use stitch_answer::answer;
 use stitch_answer::answer::Answer;
-use stitch_links::layout::Layout;
+use stitch_layout::layout::Layout;
 use stitch_run::plan::Plan;
 
 // How a chain ended.

@@ -1,7 +1,7 @@
-use Rattle.stitch_links.specs.LoopLaws.{passed-both, passed-alone, passed-run}
+use Rattle.stitch_layout.specs.PuttingLaws.{passed-both, passed-alone, passed-run}
 use borrow.Author.Needs.{needs}
-use Rattle.stitch_links.proofs.layout.passed_to.Statement.{statement}
-use Rattle.stitch_links.proofs.layout.passed_to.Tie as tie
+use Rattle.stitch_layout.proofs.layout.passed_to.Statement.{statement}
+use Rattle.stitch_layout.proofs.layout.passed_to.Tie as tie
 
 same-start-requires : tie.Need-same-start-requires
 same-start-requires c κs = passed-both _ _ _ _ _ (c .before .before .before .pre)

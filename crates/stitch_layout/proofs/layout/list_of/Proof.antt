@@ -1,7 +1,7 @@
-use Rattle.stitch_links.specs.Slices.{listOf}
+use Rattle.stitch_layout.specs.Slices.{listOf}
 use borrow.Author.Needs.{needs}
-use Rattle.stitch_links.proofs.layout.list_of.Statement.{statement}
-use Rattle.stitch_links.proofs.layout.list_of.Tie as tie
+use Rattle.stitch_layout.proofs.layout.list_of.Statement.{statement}
+use Rattle.stitch_layout.proofs.layout.list_of.Tie as tie
 
 pub list-of-spec : {M : Type 1} → statement M
 unfolding listOf

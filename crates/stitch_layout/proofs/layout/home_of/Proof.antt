@@ -1,7 +1,7 @@
-use Rattle.stitch_links.specs.Slices.{homeOf}
+use Rattle.stitch_layout.specs.Slices.{homeOf}
 use borrow.Author.Needs.{needs}
-use Rattle.stitch_links.proofs.layout.home_of.Statement.{statement}
-use Rattle.stitch_links.proofs.layout.home_of.Tie as tie
+use Rattle.stitch_layout.proofs.layout.home_of.Statement.{statement}
+use Rattle.stitch_layout.proofs.layout.home_of.Tie as tie
 
 returns : tie.Need-returns
 unfolding homeOf

@@ -1,9 +1,9 @@
 // Slices whose start points lie in one cell, of one group, hang on one list, in ascending number. Several cells may share a list.
 ghost use mathlib.Core.Path.{_≡_};
 ghost use mathlib.Core.Bool.{true};
-ghost use Rattle.stitch_links.specs.Slices.{groupOf, listOf, homeOf, meetsOf, sameStart, Alike};
-ghost use Rattle.stitch_links.specs.Links.{Run, Linked, everFree};
-ghost use Rattle.stitch_links.specs.Ready.{Masked, Home, Both, Before, Passed, Empty};
+ghost use Rattle.stitch_layout.specs.Slices.{groupOf, listOf, homeOf, meetsOf, sameStart, Alike};
+ghost use Rattle.stitch_layout.specs.Links.{Run, Linked, everFree};
+ghost use Rattle.stitch_layout.specs.Ready.{Masked, Home, Both, Before, Passed, Empty};
 use stitch_cell::cell;
 use stitch_cell::cell::Plane;
 
@@ -17,8 +17,18 @@ pub struct Layout {
     pub over: usize,
 }
 
+// What is looked for: starts in a box, slices of a group, unvisited or the chain's first.
+pub struct Query {
+    pub left: f64,
+    pub right: f64,
+    pub bottom: f64,
+    pub top: f64,
+    pub group: usize,
+    pub first: usize,
+}
+
 // 0: outline 1; 1: outline 2; 2: overlaps of either.
-pub(crate) fn group_of(w: Layout, j: usize) -> usize
+pub fn group_of(w: Layout, j: usize) -> usize
     ensures { λ r. ⌜ r ≡ groupOf w j ⌝ }
 {
     if j < w.two {
@@ -28,7 +38,7 @@ pub(crate) fn group_of(w: Layout, j: usize) -> usize
 }
 
 // The list of a cell and a group: any number below `lists` would do.
-pub(crate) fn list_of(lists: usize, cx: usize, cy: usize, g: usize) -> usize
+pub fn list_of(lists: usize, cx: usize, cy: usize, g: usize) -> usize
     requires { ⌜ Masked lists ⌝ }
     ensures { λ r. ⌜ r ≡ listOf lists cx cy g ⌝ }
 {
@@ -90,7 +100,7 @@ fn last_of_run(points: &[f64], link: &[usize], w: Layout, i: usize, next: usize)
 
 // From where a look goes on that did not meet slice j: the last of j's run. Where slice `seen`, which it did not meet before, begins elsewhere, j itself:
 // then j's run is most often j alone, and is not looked up, since on a list of many points that would take twice as long.
-pub(crate) fn passed_to(points: &[f64], link: &[usize], w: Layout, seen: usize, j: usize) -> usize
+pub fn passed_to(points: &[f64], link: &[usize], w: Layout, seen: usize, j: usize) -> usize
     requires { ⌜ Passed (now points) w (now link) seen j ⌝ }
     ensures { λ r. ⌜ Run (homeOf (now (points .entry)) w) (meetsOf (now (points .entry)) w) (w .lists) (w .count) j r ⌝ }
 {

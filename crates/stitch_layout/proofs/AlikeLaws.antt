@@ -8,8 +8,8 @@ use lib.Ieee.{Float, nan, inf, fin, up, down, level, lt, eq, le}
 use borrow.Author.Tests.{eqb-true, eq-eqb}
 use Rattle.basis.specs.Choice.{by-test, clash, and-left, and-right}
 use Rattle.basis.specs.OrderLaws.{le-trans}
-use Rattle.stitch_links.specs.declared.layout.Layout.{Layout}
-use Rattle.stitch_links.specs.Slices.{xOf, yOf, groupOf, meetsOf, sameStart, Alike}
+use Rattle.stitch_layout.specs.declared.layout.Layout.{Layout}
+use Rattle.stitch_layout.specs.Slices.{xOf, yOf, groupOf, meetsOf, sameStart, Alike}
 
 level-sym : (s t : Bool) (a b : ℕ) → level s a t b ≡ true → level t b s a ≡ true
 level-sym s t a b h =

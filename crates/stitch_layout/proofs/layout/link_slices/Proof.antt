@@ -1,9 +1,9 @@
 use lib.ListN.{length-set}
 use native.Mathlib.Omega.{arith}
-use Rattle.stitch_links.specs.LoopLaws.{Putting, putting-none, putting-before, putting-more, putting-end, putting-inside, home-there}
+use Rattle.stitch_layout.specs.PuttingLaws.{Putting, putting-none, putting-before, putting-more, putting-end, putting-inside, home-there}
 use borrow.Author.Needs.{needs}
-use Rattle.stitch_links.proofs.layout.link_slices.Statement.{statement}
-use Rattle.stitch_links.proofs.layout.link_slices.Tie as tie
+use Rattle.stitch_layout.proofs.layout.link_slices.Statement.{statement}
+use Rattle.stitch_layout.proofs.layout.link_slices.Tie as tie
 
 abbrev Inv-loop : tie.InvT-loop
 Inv-loop points link₀ w i₀ link i = Putting points w link₀ link i

@@ -6,11 +6,7 @@ use mathlib.Core.List.{List}
 use mathlib.Core.Path.{_≡_}
 use lib.Dec.{ltb}
 use lib.ListN.{length, getD}
-use lib.Ieee.{Float}
-use Rattle.select.specs.Select.{noNumber}
-use Rattle.stitch_links.specs.declared.layout.Layout.{Layout}
-use Rattle.stitch_links.specs.declared.look.Query.{Query}
-use Rattle.stitch_links.specs.Slices.{columnOf, lineOf}
+use Rattle.stitch_layout.specs.declared.layout.Query.{Query}
 
 -- x stands at a place of list h, behind which slices from `from` on hang: what is passed over between is not free
 pub record Next (free : ℕ → Bool) (L : ℕ → ℕ) (lists n h from x : ℕ) : Type 0 where
@@ -45,21 +41,3 @@ pub record Linking (L : ℕ → ℕ) (meets : Query → ℕ → Bool) (lists n i
   pub heads : (h : ℕ) → h < lists → Next everFree L lists n h i (getD link h 0)
   pub tails : (k : ℕ) → i ≤ k → k < n → Next everFree L lists n (L k) (suc k) (getD link (lists + k) 0)
   pub runs : (k : ℕ) → i ≤ k → k < n → Run L meets lists n k (getD link (lists + k + n) 0)
-
--- r is a hit, or noNumber; among the slices of C there is no lower one
-pub record Found (hit : ℕ → Bool) (C : ℕ → Type 0) (n r : ℕ) : Type 0 where
-  pub most : r ≤ noNumber
-  pub found : r < noNumber → (r < n) × (hit r ≡ true)
-  pub passed : (j : ℕ) → j < n → j < r → C j → hit j ≡ false
-
--- a look leaves the lists as good as they were
-pub record Looked (free hit : ℕ → Bool) (L : ℕ → ℕ) (meets : Query → ℕ → Bool) (C : ℕ → Type 0) (lists n : ℕ) (link : List ℕ) (r : ℕ) : Type 0 where
-  pub linked : Linked free L meets lists n link
-  pub found : Found hit C n r
-
--- slice j's cells are in a block: columns from x0 on, below x1; lines from y0 on, below y1
-pub record Block (points : List Float) (w : Layout) (x0 x1 y0 y1 j : ℕ) : Type 0 where
-  pub left : x0 ≤ columnOf points w j
-  pub right : columnOf points w j < x1
-  pub bottom : y0 ≤ lineOf points w j
-  pub top : lineOf points w j < y1

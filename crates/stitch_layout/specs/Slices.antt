@@ -1,20 +1,15 @@
--- Slices, their groups and their lists; what a look is for.
-use Prim.Native.Nat.{ℕ, zero, suc, _+_, _-_, _*_, _/_, _%_}
+-- Slices, their groups and their lists.
+use Prim.Native.Nat.{ℕ, _+_, _-_, _*_, _/_, _%_}
 use mathlib.Core.Bool.{Bool, cond, _&&_}
 use mathlib.Core.List.{List}
 use mathlib.Core.Path.{_≡_}
 use lib.Bits.{bitAnd}
 use lib.Dec.{eqb, ltb}
 use lib.ListN.{getD}
-use lib.Ieee.{Float, nan, binary64, add, sub, eq, le}
-use Rattle.select.specs.Select.{noNumber}
-use Rattle.basis.specs.declared.number.Tolerance.{Tolerance}
-use Rattle.outline.specs.declared.point.Point.{Point}
-use Rattle.stitch_run.specs.Run.{free}
+use lib.Ieee.{Float, nan, eq, le}
 use Rattle.stitch_cell.specs.Cell.{cellOf}
-use Rattle.stitch_links.specs.declared.layout.Layout.{Layout}
-use Rattle.stitch_links.specs.declared.look.Query.{Query}
-use Rattle.stitch_links.specs.declared.look.Cells.{Cells}
+use Rattle.stitch_layout.specs.declared.layout.Layout.{Layout}
+use Rattle.stitch_layout.specs.declared.layout.Query.{Query}
 
 abbrev pub xOf : List Float → ℕ → Float
 xOf points j = getD points (2 * j) nan
@@ -55,34 +50,3 @@ sameStart points i j = (eq (xOf points i) (xOf points j)) && (eq (yOf points i) 
 -- a query meets both or neither
 abbrev pub Alike : List Float → Layout → ℕ → ℕ → Type 0
 Alike points w i j = (q : Query) → meetsOf points w q i ≡ meetsOf points w q j
-
--- slice j is looked for
-abbrev pub hitOf : List Float → List Bool → Layout → Query → ℕ → Bool
-hitOf points visited w q j = free visited (q .first) j && meetsOf points w q j
-
--- the lowest number below n that passes, or noNumber: the plain definition
-unfoldable pub lowestOf : (ℕ → Bool) → ℕ → ℕ
-lowestOf p zero = noNumber
-lowestOf p (suc j) = cond (eqb (lowestOf p j) noNumber) (cond (p j) j noNumber) (lowestOf p j)
-
--- the cells of a box's sides
-abbrev pub cellsOf : Layout → Query → Cells
-cellsOf w q =
-    record {
-      x0 = cellOf (w .x) (q .left);
-      x1 = cellOf (w .x) (q .right);
-      y0 = cellOf (w .y) (q .bottom);
-      y1 = cellOf (w .y) (q .top);
-    }
-
--- the box around an end, with a tolerance for each axis
-abbrev pub queryOf : Point → Tolerance → ℕ → ℕ → Query
-queryOf e t g first =
-    record {
-      left = sub binary64 (e .x) (t .x);
-      right = add binary64 (e .x) (t .x);
-      bottom = sub binary64 (e .y) (t .y);
-      top = add binary64 (e .y) (t .y);
-      group = g;
-      first = first;
-    }

@@ -1,9 +1,9 @@
 use mathlib.Core.Path.{refl}
 use borrow.Author.Tests.{not-false}
-use Rattle.stitch_links.specs.LoopLaws.{before-both, before-alone, before-more}
+use Rattle.stitch_layout.specs.PuttingLaws.{before-both, before-alone, before-more}
 use borrow.Author.Needs.{needs}
-use Rattle.stitch_links.proofs.layout.last_of_run.Statement.{statement}
-use Rattle.stitch_links.proofs.layout.last_of_run.Tie as tie
+use Rattle.stitch_layout.proofs.layout.last_of_run.Statement.{statement}
+use Rattle.stitch_layout.proofs.layout.last_of_run.Tie as tie
 
 returns : tie.Need-returns
 returns c = before-alone _ _ _ _ _ (c .before .before .before .before .before .pre) _ refl
