@@ -30,7 +30,8 @@ use Rattle.view_entries.specs.SingleEntry.{singleRefusal, singleAnswer}
 use Rattle.view.specs.Create.{nearVertex, bulgeBefore, createView, singleView}
 use Rattle.cut.specs.Cuts as cuts
 use Rattle.cut.specs.Cuts.{whichOf, hitCut, moved, markedEnd, lapCut, cutOf}
-use Rattle.cut.specs.Order.{distance, sooner, earlier, insert, ordered, orderOf, cutNumbers, cutPoints}
+use Rattle.cut.specs.Order.{distance, earlier, insert, ordered, orderOf, cutNumbers, cutPoints}
+use Rattle.cut_runs.specs.Sooner.{sooner}
 use Rattle.candidate.specs.Candidates as slices
 use Rattle.candidate_write.specs.ItemLaws.{flat-length, wide-numbers}
 use Rattle.candidate.specs.Candidates.{sameNext, firstCut, traverseFrom, traverseOf, sliceOf, pieceOf, walkOf, walked, walkAt, candidateAt, candidatesTo}
