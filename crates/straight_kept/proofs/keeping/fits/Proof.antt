@@ -1,7 +1,7 @@
-use Rattle.straight_side.proofs.Fronting.{fits-no}
+use Rattle.straight_kept.proofs.Sizes.{fits-no}
 use borrow.Author.Needs.{needs}
-use Rattle.straight_side.proofs.keeping.fits.Statement.{statement}
-use Rattle.straight_side.proofs.keeping.fits.Tie as tie
+use Rattle.straight_kept.proofs.keeping.fits.Statement.{statement}
+use Rattle.straight_kept.proofs.keeping.fits.Tie as tie
 
 pub fits-spec : {M : Type 1} → statement M
 fits-spec =

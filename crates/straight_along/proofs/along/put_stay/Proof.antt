@@ -1,8 +1,8 @@
-use Rattle.straight_side.proofs.Walking.{stays}
+use Rattle.straight_along.proofs.Walking.{stays}
 use native.Mathlib.Omega.{arith}
 use borrow.Author.Needs.{needs}
-use Rattle.straight_side.proofs.along.put_stay.Statement.{statement}
-use Rattle.straight_side.proofs.along.put_stay.Tie as tie
+use Rattle.straight_along.proofs.along.put_stay.Statement.{statement}
+use Rattle.straight_along.proofs.along.put_stay.Tie as tie
 
 add-result : tie.Need-add-result
 add-result c =

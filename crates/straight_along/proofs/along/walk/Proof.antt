@@ -1,10 +1,10 @@
 use Prim.Native.Nat.{_-_}
 use Rattle.slice.specs.Ready.{rooms}
 use Rattle.straight_cut.specs.Splits.{straightGiven}
-use Rattle.straight_side.proofs.Walking.{Walking, walking, walk-more}
+use Rattle.straight_along.proofs.Walking.{Walking, walking, walk-more}
 use borrow.Author.Needs.{needs}
-use Rattle.straight_side.proofs.along.walk.Statement.{statement}
-use Rattle.straight_side.proofs.along.walk.Tie as tie
+use Rattle.straight_along.proofs.along.walk.Statement.{statement}
+use Rattle.straight_along.proofs.along.walk.Tie as tie
 
 abbrev Inv-loop : tie.InvT-loop
 Inv-loop outline cut-at cut s other other-vc edition part slice-at₀ slice₀ slice-edition₀ m count n₀ p₀ slice-at slice slice-edition n p =

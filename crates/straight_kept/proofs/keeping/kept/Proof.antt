@@ -1,7 +1,7 @@
-use Rattle.straight_side.proofs.Fronting.{few-fits}
+use Rattle.straight_kept.proofs.Sizes.{few-fits}
 use borrow.Author.Needs.{needs}
-use Rattle.straight_side.proofs.keeping.kept.Statement.{statement}
-use Rattle.straight_side.proofs.keeping.kept.Tie as tie
+use Rattle.straight_kept.proofs.keeping.kept.Statement.{statement}
+use Rattle.straight_kept.proofs.keeping.kept.Tie as tie
 
 pub kept-spec : {M : Type 1} → statement M
 kept-spec =

@@ -1,7 +1,7 @@
-use Rattle.straight_side.proofs.Fronting.{front-length}
+use Rattle.straight_along.proofs.Fronts.{front-length}
 use borrow.Author.Needs.{needs}
-use Rattle.straight_side.proofs.along.walk_fronts.Statement.{statement}
-use Rattle.straight_side.proofs.along.walk_fronts.Tie as tie
+use Rattle.straight_along.proofs.along.walk_fronts.Statement.{statement}
+use Rattle.straight_along.proofs.along.walk_fronts.Tie as tie
 
 pub walk-fronts-spec : {M : Type 1} → statement M
 walk-fronts-spec =

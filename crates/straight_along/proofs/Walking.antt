@@ -23,8 +23,8 @@ use Rattle.candidate.specs.Candidates.{Given, candidateAt}
 use Rattle.prune.specs.declared.mode.Part.{Part}
 use Rattle.prune_write.specs.Ready.{Wrote}
 use Rattle.straight_cut.specs.Inside.{insideOf, InsideFit, KnownProbe}
-use Rattle.straight_side.specs.Side.{viewCodes, viewShape, staysOf, staysTo}
-use Rattle.straight_side.specs.Ready.{StayFit, PlacesRoom}
+use Rattle.straight_along.specs.Stays.{viewCodes, viewShape, staysOf, staysTo}
+use Rattle.straight_along.specs.Ready.{StayFit, PlacesRoom}
 
 module _ (other : List ℤ) (edition : ℕ) (part : Part) where
   -- ---- one candidate

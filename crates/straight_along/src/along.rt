@@ -5,8 +5,8 @@ ghost use lib.ListN.{take};
 ghost use Rattle.slice.specs.Ready.{rooms, Placed};
 ghost use Rattle.prune_write.specs.Ready.{Wrote};
 ghost use Rattle.straight_cut.specs.Splits.{straightGiven};
-ghost use Rattle.straight_side.specs.Side.{viewCodes, viewShape, staysOf, staysTo};
-ghost use Rattle.straight_side.specs.Ready.{StayFit, PlacesRoom, FrontsRoom};
+ghost use Rattle.straight_along.specs.Stays.{viewCodes, viewShape, staysOf, staysTo};
+ghost use Rattle.straight_along.specs.Ready.{StayFit, PlacesRoom, FrontsRoom};
 use candidate::at_cut::Candidate;
 use cut::arrival::Case;
 use prune::mode::Part;
@@ -109,7 +109,7 @@ fn walk(
 }
 
 // The same over cuts and whole microdegrees that stand in front of their lists.
-pub(crate) fn walk_fronts(
+pub fn walk_fronts(
     outline: &[f64],
     cut_at: &[usize],
     cut: &[f64],
