@@ -21,7 +21,7 @@ use Rattle.candidate.specs.declared.at_cut.Candidate.{Candidate}
 use Rattle.candidate.specs.declared.at_cut.Candidate.the-variants.{Nothing, Slice}
 use Rattle.candidate.specs.Candidates.{Given, candidateAt}
 use Rattle.prune.specs.declared.mode.Part.{Part}
-use Rattle.prune_write.specs.Ready.{Wrote}
+use Rattle.prune_put.specs.Ready.{Wrote}
 use Rattle.straight_cut.specs.Inside.{insideOf, InsideFit, KnownProbe}
 use Rattle.straight_along.specs.Stays.{viewCodes, viewShape, staysOf, staysTo}
 use Rattle.straight_along.specs.Ready.{StayFit, PlacesRoom}

@@ -3,7 +3,7 @@ ghost use mathlib.Core.Path.{_≡_};
 ghost use Prim.Native.Nat.{_+_, _*_};
 ghost use lib.ListN.{take};
 ghost use Rattle.slice.specs.Ready.{rooms, Placed};
-ghost use Rattle.prune_write.specs.Ready.{Wrote};
+ghost use Rattle.prune_put.specs.Ready.{Wrote};
 ghost use Rattle.straight_cut.specs.Splits.{straightGiven};
 ghost use Rattle.straight_along.specs.Stays.{viewCodes, viewShape, staysOf, staysTo};
 ghost use Rattle.straight_along.specs.Ready.{StayFit, PlacesRoom, FrontsRoom};

@@ -19,7 +19,7 @@ use Rattle.candidate_entries.specs.CandidatesLaws.{along-sound}
 use Rattle.slice.specs.Slice as slice
 use Rattle.slice.specs.Ready.{Rooms}
 use Rattle.prune.specs.Prune.{keptTo}
-use Rattle.prune_write.specs.Ready.{Wrote}
+use Rattle.prune_put.specs.Ready.{Wrote}
 use Rattle.prune_write.specs.WriteLaws.{kept-few}
 use Rattle.straight_cut.specs.Microdegrees.{readable, wholesOf, WholesRoom}
 use Rattle.straight_cut.specs.MicrodegreesLaws.{wholes-close, wholes-length}

@@ -13,7 +13,7 @@ use Rattle.cut.specs.Cuts.{Given, cutCount}
 use Rattle.cut.specs.Order as order
 use Rattle.slice.specs.Ready.{Rooms, Roomy}
 use Rattle.prune.specs.Prune.{keptTo}
-use Rattle.prune_write.specs.Ready.{Wrote}
+use Rattle.prune_put.specs.Ready.{Wrote}
 use Rattle.straight_cut.specs.Microdegrees.{readable}
 use Rattle.straight_side.specs.declared.keeping.Side.{Side}
 use Rattle.straight_side.specs.Side.{sideCount, sideCands}
