@@ -28,7 +28,7 @@ use Rattle.record.specs.Record.{listsIn, planIn, lengthOf, takenRows, headValue
 use Rattle.record.specs.RecordLaws.{length-body, size-body}
 use Rattle.record_write.specs.Writer.{axesFault, axesRows, keepRows, handedRows, heldRows, lengthGiven}
 use Rattle.record_write.specs.Ready.{KeepsIn, Keeps}
-use Rattle.record_write.specs.ValueLaws.{length-mix}
+use Rattle.record_values.specs.ValueLaws.{length-mix}
 
 -- a number in range, and a tolerance, is no NaN
 pub within-no-nan : (x : Float) → within x ≡ true → T (not (isNan x))

@@ -10,7 +10,6 @@ ghost use Rattle.record_write.specs.Writer.{versionRows, axesFault, axes
 ghost use Rattle.record_write.specs.Ready.{Packs, Keeps};
 ghost use Rattle.record_form.specs.Ready.{FormOk};
 use crate::pack;
-use crate::values;
 use basis::answer;
 use basis::answer::CountAnswer;
 use basis::number;
@@ -21,6 +20,7 @@ use record::head;
 use record::head::Head;
 use record_form::form;
 use record_form::form::Version;
+use record_values::values;
 use slice::edition;
 use stitch_faults::faults;
 use stitch_run::plan::Plan;

@@ -1,8 +1,8 @@
 use borrow.Author.Needs.{needs}
 use Prim.Native.Nat.{_-_}
-use Rattle.record_write.proofs.Mixing.{Mixing, mixing-none, mixing-codes, mixing-numbers, mixing-date, mixing-place, mixing-more, mixing-end}
-use Rattle.record_write.proofs.values.mix_slices.Statement.{statement}
-use Rattle.record_write.proofs.values.mix_slices.Tie as tie
+use Rattle.record_values.proofs.Mixing.{Mixing, mixing-none, mixing-codes, mixing-numbers, mixing-date, mixing-place, mixing-more, mixing-end}
+use Rattle.record_values.proofs.values.mix_slices.Statement.{statement}
+use Rattle.record_values.proofs.values.mix_slices.Tie as tie
 
 abbrev Inv-loop : tie.InvT-loop
 Inv-loop slice-at slice slice-edition count values₀ to q₀ i₀ j₀ k₀ values q i j k = Mixing slice-at slice slice-edition count values₀ to values q i j k

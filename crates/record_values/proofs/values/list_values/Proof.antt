@@ -1,7 +1,7 @@
 use borrow.Author.Needs.{needs}
-use Rattle.record_write.proofs.Mixing.{values-listed}
-use Rattle.record_write.proofs.values.list_values.Statement.{statement}
-use Rattle.record_write.proofs.values.list_values.Tie as tie
+use Rattle.record_values.proofs.Mixing.{values-listed}
+use Rattle.record_values.proofs.values.list_values.Statement.{statement}
+use Rattle.record_values.proofs.values.list_values.Tie as tie
 
 pub list-values-spec : {M : Type 1} → statement M
 list-values-spec =

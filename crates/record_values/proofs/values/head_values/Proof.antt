@@ -5,8 +5,8 @@ use mathlib.Core.List.{[], _∷_}
 use Rattle.fields.specs.Fields.{bitsOf}
 use Rattle.record.specs.declared.head.Head.{Head}
 use Rattle.record.specs.Record.{headValues}
-use Rattle.record_write.proofs.values.head_values.Statement.{statement}
-use Rattle.record_write.proofs.values.head_values.Tie as tie
+use Rattle.record_values.proofs.values.head_values.Statement.{statement}
+use Rattle.record_values.proofs.values.head_values.Tie as tie
 
 told : (n : ℕ) (h : Head) (x y : ℕ) → x ≡ bitsOf (h .plan .tolerance .x) → y ≡ bitsOf (h .plan .tolerance .y)
     → (80 ∷ 66 ∷ 82 ∷ n ∷ h .plan .vc1 ∷ h .plan .vc2 ∷ h .plan .selector ∷ x ∷ y

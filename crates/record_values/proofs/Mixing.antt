@@ -13,8 +13,8 @@ use Rattle.basis.specs.StoreLaws.{sets-then, sets-after}
 use Rattle.slice.specs.Slice.{codeWidth, shapeWidth}
 use Rattle.record_form.specs.Form.{commonWidth, entryWidth, mix}
 use Rattle.record.specs.Record.{lists, valuesOf}
-use Rattle.record_write.specs.Ready.{MixFit}
-use Rattle.record_write.specs.ValueLaws.{map-take, map-drop}
+use Rattle.record_values.specs.Ready.{MixFit}
+use Rattle.record_values.specs.ValueLaws.{map-take, map-drop}
 
 pub record Mixing (codes : List ℕ) (numbers : List Float) (dates : List ℕ) (n : ℕ) (l : List ℕ) (to : ℕ) (l′ : List ℕ) (q i j k : ℕ) : Type 0 where
   pub plain : NoNan numbers

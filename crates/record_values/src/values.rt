@@ -7,7 +7,7 @@ ghost use Rattle.fields.specs.Fields.{bitsOf};
 ghost use Rattle.slice.specs.Slice.{codeWidth, shapeWidth};
 ghost use Rattle.record_form.specs.Form.{mix};
 ghost use Rattle.record.specs.Record.{lists, headValues, valuesOf};
-ghost use Rattle.record_write.specs.Ready.{Numbers, MixFit, ValuesFit};
+ghost use Rattle.record_values.specs.Ready.{Numbers, MixFit, ValuesFit};
 use fields::copy;
 use record::head::Head;
 use record_form::form;
