@@ -20,7 +20,7 @@ use Rattle.slice.specs.Slice.{codeWidth, shapeWidth, codesAt, sliceView, sliceO
 use Rattle.slice.specs.SliceLaws.{start-at, offset-at}
 use Rattle.slice.specs.Editions.{Editions, editionListRows}
 use Rattle.slice.specs.Ready.{EditionsThere}
-use Rattle.stitch_round.specs.Ready.{Sound}
+use Rattle.stitch_slices.specs.Ready.{Sound}
 use Rattle.stitch.specs.Lent.{Lists, NeedFit, StitchFit, Written}
 use Rattle.stitch.specs.declared.write.Stitched.{Stitched}
 use Rattle.stitch_entries.specs.declared.answer.StitchAnswer.{StitchAnswer}

@@ -24,7 +24,8 @@ use Rattle.stitch_round.specs.declared.step.Step.the-variants.{Onto, End
 use Rattle.stitch_run.specs.Run.{Rules, onto, ends, closed, tooSmall, passing, free, candidate, candidatesOf, taken, answered, asked, nextOf}
 use Rattle.stitch_run.specs.Stitch.{given, Given, rulesOf, offersTo, howOf}
 use Rattle.stitch_run.specs.TallyLaws.{passing-same}
-use Rattle.stitch_round.specs.Ready.{Points, toldOf, stepOf, comesTo, RoundFit, standing, Rounded}
+use Rattle.stitch_round.specs.Ready.{toldOf, stepOf, comesTo, RoundFit, standing, Rounded}
+use Rattle.stitch_slices.specs.Ready.{Points}
 
 -- what each answer comes to
 module _ (n first : ℕ) (a : Answer) where

@@ -13,15 +13,10 @@ use stitch_answer::answer;
 use stitch_answer::answer::Answer;
 use stitch_layout::layout::Layout;
 use stitch_run::plan::Plan;
-
-// How a chain ended.
-pub const CLOSED: usize = 0;
-
-pub const TOO_SMALL: usize = 1;
-
-pub const NO_CANDIDATE: usize = 2;
-
-pub const NO_SELECTION: usize = 3;
+use stitch_tally::tally::CLOSED;
+use stitch_tally::tally::NO_CANDIDATE;
+use stitch_tally::tally::NO_SELECTION;
+use stitch_tally::tally::TOO_SMALL;
 
 // What a round comes to: another slice is joined, or the chain ends.
 pub enum Step {

@@ -24,7 +24,7 @@ use Rattle.stitch_run.specs.Stitch.{given, Given, sliceOutline, sliceCount, sli
 use Rattle.slice.specs.declared.data.Codes.{Codes}
 use Rattle.slice.specs.Ready.{CodesThere, SliceThere}
 use Rattle.slice.specs.Slice.{codesAt, sliceView}
-use Rattle.stitch_round.specs.Ready.{SliceFit, SliceMore, SliceAdded, PointsFit, Points}
+use Rattle.stitch_slices.specs.Ready.{SliceFit, SliceMore, SliceAdded, PointsFit, Points}
 
 -- ---- a slice
 

@@ -1,7 +1,7 @@
-use Rattle.stitch_round.proofs.Slicing.{slicing}
+use Rattle.stitch_slices.proofs.Slicing.{slicing}
 use borrow.Author.Needs.{needs}
-use Rattle.stitch_round.proofs.slices.start_point.Statement.{statement}
-use Rattle.stitch_round.proofs.slices.start_point.Tie as tie
+use Rattle.stitch_slices.proofs.slices.start_point.Statement.{statement}
+use Rattle.stitch_slices.proofs.slices.start_point.Tie as tie
 
 pub start-point-spec : {M : Type 1} → statement M
 start-point-spec =

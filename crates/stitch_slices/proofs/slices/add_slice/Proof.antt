@@ -1,7 +1,7 @@
-use Rattle.stitch_round.proofs.Slicing.{slicing}
+use Rattle.stitch_slices.proofs.Slicing.{slicing}
 use borrow.Author.Needs.{needs}
-use Rattle.stitch_round.proofs.slices.add_slice.Statement.{statement}
-use Rattle.stitch_round.proofs.slices.add_slice.Tie as tie
+use Rattle.stitch_slices.proofs.slices.add_slice.Statement.{statement}
+use Rattle.stitch_slices.proofs.slices.add_slice.Tie as tie
 
 pub add-slice-spec : {M : Type 1} → statement M
 add-slice-spec =

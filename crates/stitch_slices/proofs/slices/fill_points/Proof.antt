@@ -2,9 +2,9 @@ use borrow.Author.Needs.{needs}
 use Prim.Native.Nat.{_-_}
 use lib.ListN.{length}
 use Rattle.stitch_run.specs.Stitch.{given}
-use Rattle.stitch_round.proofs.Slicing.{Pointing, pointing}
-use Rattle.stitch_round.proofs.slices.fill_points.Statement.{statement}
-use Rattle.stitch_round.proofs.slices.fill_points.Tie as tie
+use Rattle.stitch_slices.proofs.Slicing.{Pointing, pointing}
+use Rattle.stitch_slices.proofs.slices.fill_points.Statement.{statement}
+use Rattle.stitch_slices.proofs.slices.fill_points.Tie as tie
 
 abbrev Inv-loop : tie.InvT-loop
 Inv-loop points₀ outline1 outline2 slice-at slice p i₀ points i = Pointing (given outline1 outline2 slice-at slice p) (length points₀) points i

@@ -1,7 +1,7 @@
 // The slices: their start points, their vertices in a chain.
 ghost use mathlib.Core.Path.{_≡_};
 ghost use Rattle.stitch_run.specs.Stitch.{given, startPoint};
-ghost use Rattle.stitch_round.specs.Ready.{SliceFit, SliceMore, SliceAdded, PointsFit, Points};
+ghost use Rattle.stitch_slices.specs.Ready.{SliceFit, SliceMore, SliceAdded, PointsFit, Points};
 use outline::point;
 use outline::point::Point;
 use outline::write;
