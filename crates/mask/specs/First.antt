@@ -18,7 +18,7 @@ use Rattle.view_entries.specs.ViewVertices.{viewVerticesRows, viewVerticesRefus
 use Rattle.view_entries.specs.CreateEntry.{createRows, createRefusal}
 use Rattle.view_entries.specs.SingleEntry.{singleRows, singleRefusal}
 use Rattle.view_entries.specs.EntireEntry.{entireRows, entireRefusal}
-use Rattle.view_start.specs.declared.span.Ends.{Ends}
+use Rattle.view_span.specs.declared.span.Ends.{Ends}
 use Rattle.view_start_entries.specs.SpanEntry.{spanRows, spanRefusal}
 use Rattle.view_start_entries.specs.SliceEntry.{sliceRows, sliceRefusal}
 use Rattle.view_start_entries.specs.NewStartEntry.{newStartRows, newStartRefusal}

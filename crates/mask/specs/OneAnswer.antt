@@ -22,7 +22,7 @@ use Rattle.view_entries.specs.CreateEntry.{createAnswer}
 use Rattle.view_entries.specs.SingleEntry.{singleAnswer}
 use Rattle.view_entries.specs.EntireEntry.{entireAnswer}
 use Rattle.verdict_entries.specs.ValidateEntry.{validateAnswer}
-use Rattle.view_start.specs.declared.span.Ends.{Ends}
+use Rattle.view_span.specs.declared.span.Ends.{Ends}
 use Rattle.view_start_entries.specs.declared.answer.SpanAnswer.{SpanAnswer}
 use Rattle.view_start_entries.specs.SpanEntry.{spanAnswer}
 use Rattle.view_start_entries.specs.SliceEntry.{sliceAnswer}

@@ -1,7 +1,7 @@
-use Rattle.view_start.proofs.Spans.{spans}
+use Rattle.view_span.proofs.Spans.{spans}
 use borrow.Author.Needs.{needs}
-use Rattle.view_start.proofs.span.span_of.Statement.{statement}
-use Rattle.view_start.proofs.span.span_of.Tie as tie
+use Rattle.view_span.proofs.span.span_of.Statement.{statement}
+use Rattle.view_span.proofs.span.span_of.Tie as tie
 
 pub span-of-spec : {M : Type 1} → statement M
 span-of-spec =

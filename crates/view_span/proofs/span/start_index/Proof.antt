@@ -1,8 +1,8 @@
 use Rattle.basis.specs.Choice.{cases}
-use Rattle.view_start.specs.Span.{startIndex}
+use Rattle.view_span.specs.Span.{startIndex}
 use borrow.Author.Needs.{needs}
-use Rattle.view_start.proofs.span.start_index.Statement.{statement}
-use Rattle.view_start.proofs.span.start_index.Tie as tie
+use Rattle.view_span.proofs.span.start_index.Statement.{statement}
+use Rattle.view_span.proofs.span.start_index.Tie as tie
 
 pub start-index-spec : {M : Type 1} → statement M
 unfolding startIndex

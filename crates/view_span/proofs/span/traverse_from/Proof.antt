@@ -1,7 +1,7 @@
-use Rattle.view_start.proofs.Spans.{spans}
+use Rattle.view_span.proofs.Spans.{spans}
 use borrow.Author.Needs.{needs}
-use Rattle.view_start.proofs.span.traverse_from.Statement.{statement}
-use Rattle.view_start.proofs.span.traverse_from.Tie as tie
+use Rattle.view_span.proofs.span.traverse_from.Statement.{statement}
+use Rattle.view_span.proofs.span.traverse_from.Tie as tie
 
 pub traverse-from-spec : {M : Type 1} → statement M
 traverse-from-spec =

@@ -1,7 +1,7 @@
-use Rattle.view_start.proofs.Spans.{spans}
+use Rattle.view_span.proofs.Spans.{spans}
 use borrow.Author.Needs.{needs}
-use Rattle.view_start.proofs.span.is_decided.Statement.{statement}
-use Rattle.view_start.proofs.span.is_decided.Tie as tie
+use Rattle.view_span.proofs.span.is_decided.Statement.{statement}
+use Rattle.view_span.proofs.span.is_decided.Tie as tie
 
 pub is-decided-spec : {M : Type 1} → statement M
 is-decided-spec =

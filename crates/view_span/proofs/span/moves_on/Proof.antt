@@ -1,8 +1,8 @@
 use Rattle.basis.specs.Choice.{cases}
-use Rattle.view_start.specs.Span.{movesOn}
+use Rattle.view_span.specs.Span.{movesOn}
 use borrow.Author.Needs.{needs}
-use Rattle.view_start.proofs.span.moves_on.Statement.{statement}
-use Rattle.view_start.proofs.span.moves_on.Tie as tie
+use Rattle.view_span.proofs.span.moves_on.Statement.{statement}
+use Rattle.view_span.proofs.span.moves_on.Tie as tie
 
 pub moves-on-spec : {M : Type 1} → statement M
 unfolding movesOn

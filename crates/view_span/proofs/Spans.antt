@@ -10,9 +10,9 @@ use Rattle.outline.specs.declared.point.Point.{Point}
 use Rattle.outline.specs.declared.point.Vertex.{Vertex}
 use Rattle.outline.specs.Points.{posOf, pointsAgree, distSquared}
 use Rattle.outline.specs.Outline.{outlineAt}
-use Rattle.view_start.specs.declared.span.Ends.{Ends}
-use Rattle.view_start.specs.Span.{EndsFit, StartFit, movesOn, startIndex, ahead, decided, startNearer, traverse, spanWith, spanOf}
-use Rattle.view_start.specs.SpanLaws.{start-lt}
+use Rattle.view_span.specs.declared.span.Ends.{Ends}
+use Rattle.view_span.specs.Span.{EndsFit, StartFit, movesOn, startIndex, ahead, decided, startNearer, traverse, spanWith, spanOf}
+use Rattle.view_span.specs.SpanLaws.{start-lt}
 
 module _ (e : Ends) (n : ℕ) (t : Tolerance) where
   pub decided-far : (n ≡ 0 → ⊥) → false ≡ decided e n t

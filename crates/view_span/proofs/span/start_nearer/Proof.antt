@@ -1,7 +1,7 @@
-use Rattle.view_start.proofs.Spans.{spans}
+use Rattle.view_span.proofs.Spans.{spans}
 use borrow.Author.Needs.{needs}
-use Rattle.view_start.proofs.span.start_nearer.Statement.{statement}
-use Rattle.view_start.proofs.span.start_nearer.Tie as tie
+use Rattle.view_span.proofs.span.start_nearer.Statement.{statement}
+use Rattle.view_span.proofs.span.start_nearer.Tie as tie
 
 pub start-nearer-spec : {M : Type 1} → statement M
 start-nearer-spec =

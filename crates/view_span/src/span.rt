@@ -1,6 +1,6 @@
 // From which segment a view between two points starts, and how many segments further on it ends.
 ghost use mathlib.Core.Path.{_≡_};
-ghost use Rattle.view_start.specs.Span.{EndsFit, Inside, Both, StartFit, canMove, movesOn, startIndex, ahead, decided, startNearer, traverse, spanOf};
+ghost use Rattle.view_span.specs.Span.{EndsFit, Inside, Both, StartFit, canMove, movesOn, startIndex, ahead, decided, startNearer, traverse, spanOf};
 use basis::number::Tolerance;
 use outline::point;
 use outline::point::Point;

@@ -10,8 +10,8 @@ use Rattle.outline.specs.declared.point.Point.{Point}
 use Rattle.outline.specs.Points.{posOf, pointsAgree, distSquared}
 use Rattle.outline.specs.Outline.{Whole, wrap, outlineAt}
 use Rattle.view.specs.Create.{nearVertex}
-use Rattle.view_start.specs.declared.span.Ends.{Ends}
-use Rattle.view_start.specs.declared.span.Span.{Span}
+use Rattle.view_span.specs.declared.span.Ends.{Ends}
+use Rattle.view_span.specs.declared.span.Span.{Span}
 
 -- two points, each with its segment's number
 abbrev pub endsOf : Bool → ℕ → Point → ℕ → Point → Ends

@@ -1,4 +1,4 @@
--- Laws of the span and of what stands on it.
+-- Laws of the span.
 use Prim.Native.Nat.{ℕ, _+_, _-_, _≤_, _<_}
 use mathlib.Core.Bool.{Bool, true, false}
 use mathlib.Core.Path.{_≡_, refl, sym, subst}
@@ -7,17 +7,10 @@ use native.Mathlib.Omega.{arith}
 use lib.Ieee.{Float}
 use Rattle.basis.specs.Choice.{by-test}
 use Rattle.basis.specs.declared.number.Tolerance.{Tolerance}
-use Rattle.outline.specs.declared.point.Point.{Point}
-use Rattle.outline.specs.Outline.{Segment}
 use Rattle.outline.specs.OutlineLaws.{wrap-lt}
-use Rattle.view.specs.declared.create.Walk.{Walk}
-use Rattle.view.specs.Create.{WalkFit}
-use Rattle.view_start.specs.declared.span.Ends.{Ends}
-use Rattle.view_start.specs.declared.span.Span.{Span}
-use Rattle.view_start.specs.declared.slice_points.Splits.{Splits}
-use Rattle.view_start.specs.Span.{EndsFit, SpanFit, startIndex, ahead, decided, startNearer, traverse, spanOf}
-use Rattle.view_start.specs.SlicePoints.{walkOver}
-use Rattle.view_start.specs.NewStart.{roundEnds, lastEnds}
+use Rattle.view_span.specs.declared.span.Ends.{Ends}
+use Rattle.view_span.specs.declared.span.Span.{Span}
+use Rattle.view_span.specs.Span.{EndsFit, SpanFit, startIndex, ahead, decided, startNearer, traverse, spanOf}
 
 -- a start is on a segment of the outline, moved or not
 pub start-lt : (vc i k : ℕ) (b : Bool) → i < vc → k ≡ startIndex vc i b → k < vc
@@ -43,16 +36,3 @@ module _ (o : List Float) (vc : ℕ) (e : Ends) (t : Tolerance) where
   span-fits s f q =
       subst (SpanFit o vc e) (sym q)
       (record { fit = f; starts = start-lt vc (e .«start_index») _ _ (f .starts) refl; reaches = traverse-most _ (omega arith) })
-
--- a walk over a span that leaves its segment
-pub walk-fits : (o : List Float) (vc : ℕ) (e : Ends) (s : Span) (p : Splits) (w : Walk) → SpanFit o vc e s → (s .«traverse_count» ≡ 0 → ⊥) → w ≡ walkOver o vc e s p → WalkFit o vc w
-unfolding walkOver
-walk-fits o vc e s p w f n q = subst (WalkFit o vc) (sym q) (record { whole = f .fit .whole; inside = f .fit .ends; walks = omega (arith, n) })
-
--- the points of a new start
-module _ (o : List Float) (vc i : ℕ) (p : Point) (e : Ends) (g : Segment o vc i) where
-  pub round-ends : e ≡ roundEnds i p → EndsFit o vc e
-  round-ends q = subst (EndsFit o vc) (sym q) (record { whole = g .whole; starts = g .inside; ends = g .inside })
-
-  pub last-ends : e ≡ lastEnds o vc i p → EndsFit o vc e
-  last-ends q = subst (EndsFit o vc) (sym q) (record { whole = g .whole; starts = g .inside; ends = omega arith })

@@ -1,7 +1,7 @@
-use Rattle.view_start.specs.Span.{ahead}
+use Rattle.view_span.specs.Span.{ahead}
 use borrow.Author.Needs.{needs}
-use Rattle.view_start.proofs.span.segments_ahead.Statement.{statement}
-use Rattle.view_start.proofs.span.segments_ahead.Tie as tie
+use Rattle.view_span.proofs.span.segments_ahead.Statement.{statement}
+use Rattle.view_span.proofs.span.segments_ahead.Tie as tie
 
 pub segments-ahead-spec : {M : Type 1} → statement M
 unfolding ahead
