@@ -9,7 +9,8 @@ use Rattle.outline.specs.Points.{pointsAgree, distSquared}
 use Rattle.outline.specs.Outline.{vertexAt, outlineAt, wrap, pointAt}
 use Rattle.view.specs.Create.{nearVertex}
 use Rattle.cut.specs.Cuts.{Given, given, caseOf, whichOf, hitCut, moved, markedEnd, lapCut, cutOf}
-use Rattle.cut.specs.Order.{distance, sooner, earlier, insert, ordered, orderOf, cutNumbers, cutPoints}
+use Rattle.cut.specs.Order.{distance, earlier, insert, ordered, orderOf, cutNumbers, cutPoints}
+use Rattle.cut_runs.specs.Sooner.{sooner}
 
 abbrev two : Float
 two = ofBits binary64 0x4000_0000_0000_0000

@@ -23,8 +23,9 @@ use Rattle.outline.specs.Outline.{Triple}
 use Rattle.cut.specs.declared.arrival.Case.{Case}
 use Rattle.cut.specs.declared.arrival.Cut.{Cut}
 use Rattle.cut.specs.Cuts.{Given, given, cutCount, cutOf, Arrival}
-use Rattle.cut.specs.Order.{distance, sooner, earlier, orderOf, numbersOf, pointOf, cutNumbers, cutPoints, Written}
-use Rattle.cut_merge.specs.Runs.{Goes, before-it, arrived-first}
+use Rattle.cut.specs.Order.{distance, earlier, orderOf, numbersOf, pointOf, cutNumbers, cutPoints, Written}
+use Rattle.cut_runs.specs.Sooner.{sooner}
+use Rattle.cut_runs.specs.Runs.{Goes, before-it, arrived-first}
 use Rattle.cut_order.specs.declared.along.Key.{Key}
 use Rattle.cut_order.specs.Along.{keyBy, goesBy, goesOn, followsBy, Third, Hinted, Followed}
 use Rattle.cut_order.specs.CutsLaws.{order-length, numbers-length, number-at}

@@ -9,7 +9,8 @@ use lib.Ieee.{Float}
 use Rattle.basis.specs.Choice.{codeOf}
 use Rattle.cut.specs.declared.arrival.Cut.{Cut}
 use Rattle.cut.specs.Cuts.{Given, cutCount}
-use Rattle.cut.specs.Order.{distance, sooner, Accepted, Written}
+use Rattle.cut.specs.Order.{distance, Accepted, Written}
+use Rattle.cut_runs.specs.Sooner.{sooner}
 use Rattle.cut_order.specs.declared.along.Key.{Key}
 
 -- what a cut of an arrival number is sorted by

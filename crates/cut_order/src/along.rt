@@ -2,7 +2,7 @@
 ghost use mathlib.Core.Path.{_≡_};
 ghost use Rattle.outline.specs.Outline.{Triple};
 ghost use Rattle.cut.specs.Cuts.{given};
-ghost use Rattle.cut.specs.Order.{sooner};
+ghost use Rattle.cut_runs.specs.Sooner.{sooner};
 ghost use Rattle.cut_order.specs.Along.{keyBy, goesOn, followsBy, Third, Hinted, Followed};
 use crate::keys;
 use crate::write;

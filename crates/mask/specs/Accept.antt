@@ -41,10 +41,12 @@ use Rattle.prune_entries.specs.PruneEntry.{candsRows, lapsRows, codesRows, numb
 use Rattle.prune_entries.specs.PruneEntryLaws.{prune-accepted, prune-sound}
 use Rattle.stitch_run.specs.Stitch as stitch
 use Rattle.stitch.specs.Lent.{Lists, Long}
-use Rattle.stitch_entries.specs.StitchRows.{startsFault}
+use Rattle.stitch_faults.specs.StitchRows.{startsFault}
 use Rattle.stitch_entries.specs.StitchEntry as stitched
-use Rattle.stitch_entries.specs.StitchEntry.{shapeRows, stitchNumber}
-use Rattle.stitch_entries.specs.Matching.{Matched, baseRefusal, base-number}
+use Rattle.stitch_entries.specs.StitchEntry.{stitchNumber}
+use Rattle.stitch_faults.specs.StitchTable as tabled
+use Rattle.stitch_faults.specs.StitchTable.{shapeRows}
+use Rattle.stitch_faults.specs.Matching.{Matched, baseRefusal, base-number}
 
 -- ---- `mask_candidates`
 
@@ -262,11 +264,11 @@ pub record StitchPass (g : stitch.Given) (e : Editions) (x : Lists) : Type 0 whe
 pub stitch-passes : (g : stitch.Given) (e : Editions) (x : Lists) → StitchPass g e x → stitchNumber g e x ≡ 0
 unfolding baseRefusal
 stitch-passes g e x p =
-    let listed = stitched.listPart g in
-    let coded = stitched.codePart g in
-    let numbered = stitched.numberPart g in
-    let indexed = stitched.indexPart g in
-    let lent = stitched.roomPart g (stitched.lengthsOf x) in
+    let listed = tabled.listPart g in
+    let coded = tabled.codePart g in
+    let numbered = tabled.numberPart g in
+    let indexed = tabled.indexPart g in
+    let lent = tabled.roomPart g (stitched.lengthsOf x) in
     let s = p .slices in
     let a = p .slices .fit in
     let lists : Clear listed = (

@@ -18,7 +18,7 @@ use Rattle.view_entries.specs.ViewVertices.{viewVerticesRows, viewVerticesRefus
 use Rattle.view_entries.specs.CreateEntry.{createRows, createRefusal}
 use Rattle.view_entries.specs.SingleEntry.{singleRows, singleRefusal}
 use Rattle.view_entries.specs.EntireEntry.{entireRows, entireRefusal}
-use Rattle.view_start.specs.declared.span.Ends.{Ends}
+use Rattle.view_span.specs.declared.span.Ends.{Ends}
 use Rattle.view_start_entries.specs.SpanEntry.{spanRows, spanRefusal}
 use Rattle.view_start_entries.specs.SliceEntry.{sliceRows, sliceRefusal}
 use Rattle.view_start_entries.specs.NewStartEntry.{newStartRows, newStartRefusal}
@@ -32,7 +32,7 @@ use Rattle.candidate_entries.specs.Candidates.{laterRows, candidatesRows, candi
 use Rattle.prune.specs.Prune as Prune
 use Rattle.prune_entries.specs.PruneEntry.{inputRows, lentRows, pruneRefusal}
 use Rattle.stitch_run.specs.Stitch as stitch
-use Rattle.stitch_entries.specs.declared.faults.Lengths.{Lengths}
+use Rattle.stitch_faults.specs.declared.faults.Lengths.{Lengths}
 use Rattle.slice.specs.Editions.{Editions}
 use Rattle.named_entries.specs.NamedStitch.{namedStitchRows, namedStitchRefusal}
 use Rattle.named_entries.specs.NamedArea.{namedAreaRows, namedAreaRefusal}

@@ -30,8 +30,9 @@ use Rattle.stitch_entries.specs.Answers.{stitchRefused, stitchGiven}
 use Rattle.slice.specs.Slice.{codesAt}
 use Rattle.slice.specs.Editions.{Editions, editions, editionSame, editionFault, editionListRows}
 use Rattle.slice.specs.Faults.{sourceKnown, startInside, offsetInside, eachSlice}
-use Rattle.stitch_entries.specs.StitchRows.{startsFault}
-use Rattle.stitch_entries.specs.StitchEntry.{listPart, codePart, numberPart, indexPart, shapeRows, inputRows, editionPart, roomPart, stitchRefusal, lengthsOf, stitchNumber, StitchLeft}
+use Rattle.stitch_faults.specs.StitchRows.{startsFault}
+use Rattle.stitch_entries.specs.StitchEntry.{lengthsOf, stitchNumber, StitchLeft}
+use Rattle.stitch_faults.specs.StitchTable.{listPart, codePart, numberPart, indexPart, shapeRows, inputRows, editionPart, roomPart, stitchRefusal}
 use Rattle.settings.specs.Settings.{Held, held, countOf, settingAt, known, askedOf}
 use Rattle.named_entries.specs.NamedStitch.{toleranceIn, NamedStitch}
 use Rattle.named_entries.specs.NamedTheorems.{stitch-as-before, accepted-stitch}

@@ -17,7 +17,7 @@ use Rattle.stitch.specs.Lent.{Lists}
 use Rattle.stitch_entries.specs.declared.answer.StitchAnswer.{StitchAnswer}
 use Rattle.stitch_entries.specs.Answers.{stitchRefused}
 use Rattle.stitch_entries.specs.StitchEntry.{lengthsOf, stitchNumber}
-use Rattle.stitch_entries.specs.Matching.{Matched, accepted-codes, accepted-edition}
+use Rattle.stitch_faults.specs.Matching.{Matched, accepted-codes, accepted-edition}
 use Rattle.settings.specs.Settings.{Held}
 use Rattle.named_entries.specs.NamedStitch.{namedStitchRefusal, NamedStitch}
 use Rattle.named_entries.specs.NamedTheorems.{accepted-stitch, never-14}

@@ -13,8 +13,8 @@ use Rattle.view_entries.specs.declared.input.View.{View}
 use Rattle.view_entries.specs.declared.input.Split.{Split}
 use Rattle.view_entries.specs.declared.answer.VertexAnswer.{VertexAnswer}
 use Rattle.view_entries.specs.declared.answer.ViewAnswer.{ViewAnswer}
-use Rattle.verdict_entries.specs.declared.answer.VerdictAnswer.{VerdictAnswer}
-use Rattle.verdict_entries.specs.declared.answer.ReopenAnswer.{ReopenAnswer}
+use Rattle.verdict_answer.specs.declared.answer.VerdictAnswer.{VerdictAnswer}
+use Rattle.verdict_answer.specs.declared.answer.ReopenAnswer.{ReopenAnswer}
 use Rattle.unmoved_entries.specs.declared.answer.UnmovedAnswer.{UnmovedAnswer}
 use Rattle.view_entries.specs.ViewVertex.{viewVertexAnswer}
 use Rattle.view_entries.specs.ViewVertices.{VerticesLeft}
@@ -22,7 +22,7 @@ use Rattle.view_entries.specs.CreateEntry.{createAnswer}
 use Rattle.view_entries.specs.SingleEntry.{singleAnswer}
 use Rattle.view_entries.specs.EntireEntry.{entireAnswer}
 use Rattle.verdict_entries.specs.ValidateEntry.{validateAnswer}
-use Rattle.view_start.specs.declared.span.Ends.{Ends}
+use Rattle.view_span.specs.declared.span.Ends.{Ends}
 use Rattle.view_start_entries.specs.declared.answer.SpanAnswer.{SpanAnswer}
 use Rattle.view_start_entries.specs.SpanEntry.{spanAnswer}
 use Rattle.view_start_entries.specs.SliceEntry.{sliceAnswer}

@@ -16,8 +16,8 @@ use Rattle.outline.specs.Points.{posOf, withBulge, pointsAgree, inBox}
 use Rattle.view.specs.declared.create.OneSegment.the-variants as one
 use Rattle.view.specs.declared.create.Walk.{Walk}
 use Rattle.view.specs.Create.{viewOf, nearVertex, singleView}
-use Rattle.view_start.specs.declared.span.Ends.{Ends}
-use Rattle.view_start.specs.Span.{decided}
+use Rattle.view_span.specs.declared.span.Ends.{Ends}
+use Rattle.view_span.specs.Span.{decided}
 use Rattle.view_start.specs.SlicePoints.{collapses}
 use Rattle.stitch_vertices.specs.Vertices.{addVertex}
 use Rattle.stitch_run.specs.declared.plan.Plan.{Plan}

@@ -17,13 +17,13 @@ use Rattle.slice.specs.SliceLaws.{at-slice}
 use Rattle.slice.specs.Editions.{Editions, editionOf}
 use Rattle.slice.specs.EditionLaws.{at-edition}
 use Rattle.stitch_run.specs.Stitch.{Given}
-use Rattle.stitch_entries.specs.declared.faults.Lengths.{Lengths}
+use Rattle.stitch_faults.specs.declared.faults.Lengths.{Lengths}
 use Rattle.settings.specs.Settings.{Held}
 use Rattle.named_entries.specs.NamedStitch.{namedStitchRows, namedStitchRefusal}
 use Rattle.view.specs.View.{Fit}
 use Rattle.view_entries.specs.declared.input.View.{View}
 use Rattle.view_entries.specs.Inputs.{viewData}
-use Rattle.verdict_entries.specs.declared.answer.ReopenAnswer.{ReopenAnswer}
+use Rattle.verdict_answer.specs.declared.answer.ReopenAnswer.{ReopenAnswer}
 use Rattle.verdict_entries.specs.ReopenEntry.{reopenAnswer}
 use Rattle.verdict_entries.specs.ReopenTheorems.{valid-edition, valid-fit}
 

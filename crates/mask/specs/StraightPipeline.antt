@@ -22,7 +22,7 @@ use Rattle.stitch.specs.Lent.{Lists, Long}
 use Rattle.stitch_entries.specs.declared.answer.StitchAnswer.{StitchAnswer}
 use Rattle.stitch_entries.specs.Answers.{stitchRefused}
 use Rattle.stitch_entries.specs.StitchEntry.{lengthsOf, stitchNumber}
-use Rattle.stitch_entries.specs.Matching.{Matched}
+use Rattle.stitch_faults.specs.Matching.{Matched}
 use Rattle.settings.specs.Settings.{Held}
 use Rattle.named_entries.specs.NamedStitch.{namedStitchRefusal, Holding, NamedStitch}
 use Rattle.named_entries.specs.NamedTheorems.{stitch-number}

@@ -3,7 +3,7 @@ ghost use mathlib.Core.Path.{_≡_};
 ghost use Rattle.verdict_entries.specs.ReopenEntry.{reopenAnswer};
 ghost use Rattle.unmoved_entries.specs.UnmovedEntry.{unmovedAnswer};
 use unmoved_entries::answer::UnmovedAnswer;
-use verdict_entries::answer::ReopenAnswer;
+use verdict_answer::answer::ReopenAnswer;
 use view_entries::input::View;
 
 // The verdict on a slice's view over the new outline, whatever the editions, and the edition that the slice has from now on: the outline's where the verdict is valid, else its own.

@@ -2,7 +2,7 @@
 ghost use mathlib.Core.Path.{_≡_};
 ghost use lib.Dec.{eqb};
 ghost use Rattle.basis.specs.Number.{toleranceOf};
-ghost use Rattle.view_start.specs.Span.{endsOf};
+ghost use Rattle.view_span.specs.Span.{endsOf};
 ghost use Rattle.view_start_entries.specs.SpanEntry.{spanAnswer};
 ghost use Rattle.view_start_entries.specs.SliceEntry.{sliceAnswer};
 ghost use Rattle.view_start_entries.specs.NewStartEntry.{newStartAnswer};

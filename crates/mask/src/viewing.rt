@@ -11,7 +11,7 @@ ghost use Rattle.verdict_entries.specs.ValidateEntry.{validateAnswer};
 use basis::answer::CountAnswer;
 use outline::point::Point;
 use outline::point::Vertex;
-use verdict_entries::answer::VerdictAnswer;
+use verdict_answer::answer::VerdictAnswer;
 use view_entries::answer::VertexAnswer;
 use view_entries::answer::ViewAnswer;
 use view_entries::input::Split;

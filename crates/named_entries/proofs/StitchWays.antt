@@ -17,7 +17,8 @@ use Rattle.stitch_run.specs.Stitch.{Given, given, planOf}
 use Rattle.stitch.specs.Lent.{Lists}
 use Rattle.stitch_entries.specs.declared.answer.StitchAnswer.{StitchAnswer}
 use Rattle.stitch_entries.specs.Answers.{stitchRefused}
-use Rattle.stitch_entries.specs.StitchEntry.{stitchRefusal, lengthsOf, stitchNumber, StitchBy, StitchLeft}
+use Rattle.stitch_entries.specs.StitchEntry.{lengthsOf, stitchNumber, StitchBy, StitchLeft}
+use Rattle.stitch_faults.specs.StitchTable.{stitchRefusal}
 use Rattle.named_entries.specs.Named.{unknownFault}
 use Rattle.named_entries.specs.NamedLaws.{is-1, is-16, is-same, was-4, answer-number, answer-same, answer-still}
 use Rattle.named_entries.specs.NamedStitch.{toleranceIn, earlyPart, namedStitchRefusal, NamedStitch}

@@ -12,8 +12,9 @@ use Rattle.slice.specs.Editions.{Editions, editionListRows}
 use Rattle.stitch_run.specs.Stitch.{Given}
 use Rattle.stitch.specs.Lent.{Lists}
 use Rattle.stitch_entries.specs.declared.answer.StitchAnswer.{StitchAnswer}
-use Rattle.stitch_entries.specs.declared.faults.Lengths.{Lengths}
-use Rattle.stitch_entries.specs.StitchEntry.{listPart, codePart, numberPart, indexPart, editionPart, roomPart, lengthsOf, StitchBy}
+use Rattle.stitch_faults.specs.declared.faults.Lengths.{Lengths}
+use Rattle.stitch_entries.specs.StitchEntry.{lengthsOf, StitchBy}
+use Rattle.stitch_faults.specs.StitchTable.{listPart, codePart, numberPart, indexPart, editionPart, roomPart}
 use Rattle.named_entries.specs.Named.{namedRows}
 
 -- the setting's tolerances; its limit is not looked at

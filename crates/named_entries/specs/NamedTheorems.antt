@@ -22,10 +22,11 @@ use Rattle.stitch_run.specs.Stitch.{Given}
 use Rattle.stitch_run.specs.NeedIsTight.{toAndFro, Tight}
 use Rattle.stitch.specs.Lent.{Lists, Long}
 use Rattle.stitch_entries.specs.declared.answer.StitchAnswer.{StitchAnswer}
-use Rattle.stitch_entries.specs.declared.faults.Lengths.{Lengths}
+use Rattle.stitch_faults.specs.declared.faults.Lengths.{Lengths}
 use Rattle.stitch_entries.specs.Answers.{stitchRefused}
-use Rattle.stitch_entries.specs.StitchEntry.{shapeRows, stitchRefusal, lengthsOf, StitchBy, StitchLeft}
-use Rattle.stitch_entries.specs.Matching as editions
+use Rattle.stitch_entries.specs.StitchEntry.{lengthsOf, StitchBy, StitchLeft}
+use Rattle.stitch_faults.specs.StitchTable.{shapeRows, stitchRefusal}
+use Rattle.stitch_faults.specs.Matching as editions
 use Rattle.stitch_entries.specs.Demand.{chainsIn, Demanded, Shorter}
 use Rattle.stitch_entries.specs.DemandTheorems.{stitch-demand, need-accepted, shorter-refused, need-is-reached}
 use Rattle.area_entries.specs.AreaEntry.{areaRefusal, AreaBy, AreaLeft}

@@ -4,12 +4,12 @@ use mathlib.Core.Path.{_≡_}
 use mathlib.Core.Bool.{true, false}
 use mathlib.Core.List.{List, _++_}
 use lib.ListN.{length}
-use lib.Ieee.{Float}
 use Rattle.basis.specs.Number.{+0}
-use Rattle.basis.specs.Sizes.{mostCandidates, mostLaps, mostSlices}
-use Rattle.basis.specs.Room.{roomOf, cleared}
-use Rattle.slice.specs.Slice.{codeWidth, shapeWidth, Slice}
-use Rattle.slice.specs.Ready.{ShapeThere, Rooms, Roomy, PutFit, Placed}
+use Rattle.basis.specs.Sizes.{mostCandidates, mostLaps}
+use Rattle.basis.specs.Room.{roomOf}
+use Rattle.slice.specs.Slice.{codeWidth, shapeWidth}
+use Rattle.slice.specs.Ready.{Rooms, Roomy}
+use Rattle.prune_put.specs.Ready.{Wrote, Cleared}
 use Rattle.prune.specs.declared.call.Call.{Call}
 use Rattle.prune.specs.declared.counts.Ends.{Ends}
 use Rattle.prune.specs.declared.counts.Pruned.{Pruned}
@@ -37,21 +37,6 @@ abbrev pub Written : Given → Rooms → Pruned → Rooms → Type 0
 Written g l r l′ = WrittenTo g (needOf (g .call)) l r l′
 
 -- ---- one part behind the other
-
--- an item of w codes, a shape and an edition that the lists have, and room for slice number n
-pub record ItemFit (w : ℕ) (at : List ℕ) (shape : List Float) (edition : List ℕ) (k : ℕ) (l : Rooms) (n : ℕ) : Type 0 where
-  pub codes : w * k + w ≤ length at
-  pub shape-there : ShapeThere shape k
-  pub edition-there : k < length edition
-  pub put : PutFit l n
-
--- these slices were written from number m up to r, of at most that many items; the lists are as long as before
-pub record Wrote (s : List Slice) (most : ℕ) (l : Rooms) (m r : ℕ) (l′ : Rooms) : Type 0 where
-  pub placed : Placed s l m r l′
-  pub few : r ≤ m + most
-  pub size-at : length (l′ .at) ≡ length (l .at)
-  pub size-shape : length (l′ .shape) ≡ length (l .shape)
-  pub size-edition : length (l′ .edition) ≡ length (l .edition)
 
 -- one outline's candidates, from slice number m on; before it there are at most those of one outline
 pub record KeepFit (c : Cands) (n : ℕ) (l : Rooms) (m : ℕ) : Type 0 where
@@ -87,18 +72,6 @@ pub record TwiceWritten (o : Overlaps) (n : ℕ) (l : Rooms) (m : ℕ) (r : Ends
   pub wrote : Wrote (lapsTo o true n ++ lapsTo o false n) (2 * n) l m (r .second) l′
 
 -- ---- the rest
-
--- n slices are within the need
-pub record ClearFit (l : Rooms) (n need : ℕ) : Type 0 where
-  pub within : n ≤ need
-  pub few : need ≤ mostSlices
-  pub roomy : Roomy need l
-
--- cleared from slice number n up to the need
-pub record Cleared (l : Rooms) (n need : ℕ) (l′ : Rooms) : Type 0 where
-  pub at : l′ .at ≡ cleared 0 (codeWidth * n) (codeWidth * need) (l .at)
-  pub shape : l′ .shape ≡ cleared +0 (shapeWidth * n) (shapeWidth * need) (l .shape)
-  pub edition : l′ .edition ≡ cleared 0 n need (l .edition)
 
 -- the kept of both outlines end there, and there is room for the overlaps twice within the need
 pub record FinishFit (call : Call) (kept : Ends) (o : Overlaps) (l : Rooms) : Type 0 where

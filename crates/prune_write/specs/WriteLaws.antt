@@ -13,8 +13,6 @@ use borrow.Author.Tests.{eq-eqb, ne-eqb}
 use Rattle.basis.specs.Number.{+0}
 use Rattle.basis.specs.StoreLaws.{sets-front}
 use Rattle.basis.specs.RoomLaws.{room-left}
-use Rattle.slice.specs.declared.data.Codes.{Codes}
-use Rattle.slice.specs.declared.data.Shape.{Shape}
 use Rattle.slice.specs.Slice.{codeWidth, shapeWidth, Slice, sliceOf}
 use Rattle.slice.specs.Ready.{Rooms, Roomy, Placed}
 use Rattle.slice.specs.PutLaws.{codes-length, shapes-length, placed-none, placed-then, placed-at, placed-shape, placed-edition}
@@ -24,11 +22,8 @@ use Rattle.prune.specs.declared.mode.Parts.{Parts}
 use Rattle.prune.specs.declared.counts.Ends.{Ends}
 use Rattle.prune.specs.declared.counts.Pruned.{Pruned}
 use Rattle.prune.specs.Prune.{Cands, Overlaps, Given, given, candSlice, lapSlice, keptTo, lapsTo, partsFor, keptFirst, keptSecond, lapsFor, slicesOf, needOf, prunedAt, prunedOf, sliceCodes, sliceShapes, sliceEditions}
-use Rattle.prune_write.specs.Ready.{ItemFit, Ready, Wrote, BothFit, BothWritten, TwiceWritten, KeepFit, LapsFit, Cleared, FinishFit, Finished, WrittenTo, Written}
-
--- a slice that was written is known by other names
-pub placed-as : (x y : Codes) (s t : Shape) (k : ℕ) (l l′ : Rooms) (m r : ℕ) → x ≡ y → s ≡ t → Placed (sliceOf x s k ∷ []) l m r l′ → Placed (sliceOf y t k ∷ []) l m r l′
-placed-as x y s t k l l′ m r e f p = rw (e, f) at p
+use Rattle.prune_write.specs.Ready.{Ready, BothFit, BothWritten, TwiceWritten, KeepFit, LapsFit, FinishFit, Finished, WrittenTo, Written}
+use Rattle.prune_put.specs.Ready.{ItemFit, Wrote, Cleared}
 
 -- ---- how many
 

@@ -22,11 +22,12 @@ use Rattle.slice.specs.Faults as slices
 use Rattle.slice.specs.Editions.{editionRoomRows}
 use Rattle.stitch_run.specs.declared.plan.Plan.{Plan}
 use Rattle.stitch_run.specs.Stitch.{planOf}
-use Rattle.record.specs.declared.form.Version.{Version}
+use Rattle.record_form.specs.declared.form.Version.{Version}
 use Rattle.record.specs.declared.head.Lengths.{Lengths}
-use Rattle.record.specs.Form.{formFor, headShape, sliceShape}
+use Rattle.record_form.specs.Form.{formFor, headShape, sliceShape}
 use Rattle.record.specs.Record.{headOf, secondIn, headAt, headIn, numberIn, formIn, takenRows, countRows, roomRows, lengthOf}
-use Rattle.record.specs.Ready.{FormOk, ByteOr, PlanFit, HeadFit, HeadRead, Sized}
+use Rattle.record.specs.Ready.{ByteOr, PlanFit, HeadFit, HeadRead, Sized}
+use Rattle.record_form.specs.Ready.{FormOk}
 use Rattle.record.specs.RecordLaws.{head-narrow, head-size, slice-size}
 
 -- ---- the version

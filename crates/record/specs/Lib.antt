@@ -1,4 +1,3 @@
-pub mod Form
 pub mod Record
 pub mod Ready
 pub mod RecordLaws

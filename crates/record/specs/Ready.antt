@@ -5,15 +5,11 @@ use mathlib.Core.List.{List}
 use lib.ListN.{length, getD}
 use Rattle.fields.specs.Fields.{size}
 use Rattle.stitch_run.specs.declared.plan.Plan.{Plan}
-use Rattle.record.specs.declared.form.Version.{Version}
+use Rattle.record_form.specs.declared.form.Version.{Version}
 use Rattle.record.specs.declared.head.Head.{Head}
-use Rattle.record.specs.Form.{headShape}
+use Rattle.record_form.specs.Form.{headShape}
 use Rattle.record.specs.Record.{headIn}
-
--- a table whose widths are those of a tolerance and of an edition, or less
-pub record FormOk (v : Version) : Type 0 where
-  pub second : v .second ≤ 8
-  pub edition : v .edition ≤ 4
+use Rattle.record_form.specs.Ready.{FormOk}
 
 -- the byte at a place, 0 beyond the end
 pub record ByteOr (b : List ℕ) (at r : ℕ) : Type 0 where

@@ -15,11 +15,11 @@ use Rattle.slice.specs.Faults as slices
 use Rattle.slice.specs.Editions.{Editions, editions, editionRoomRows}
 use Rattle.stitch_run.specs.declared.plan.Plan.{Plan}
 use Rattle.stitch_run.specs.Stitch.{Given, given, planOf}
-use Rattle.record.specs.declared.form.Version.{Version}
+use Rattle.record_form.specs.declared.form.Version.{Version}
 use Rattle.record.specs.declared.head.Head.{Head}
 use Rattle.record.specs.declared.head.Seen.{Seen}
 use Rattle.record.specs.declared.head.Lengths.{Lengths}
-use Rattle.record.specs.Form.{formFor, headShape, sliceShape, takenVertices, takenSlices, commonWidth, entryWidth, bodyOf, column, mix}
+use Rattle.record_form.specs.Form.{formFor, headShape, sliceShape, takenVertices, takenSlices, commonWidth, entryWidth, bodyOf, column, mix}
 
 -- the lists of a stitch: both outlines, and of its slices the codes, the shapes and the editions
 pub record Lists : Type 0 where

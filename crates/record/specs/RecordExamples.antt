@@ -8,8 +8,8 @@ use Rattle.basis.specs.Refuse.{firstOf}
 use Rattle.fields.specs.Fields.{size, valueOf}
 use Rattle.stitch_run.specs.declared.plan.Plan.{Plan}
 use Rattle.stitch_run.specs.Stitch.{planOf}
-use Rattle.record.specs.declared.form.Version.{Version}
-use Rattle.record.specs.Form.{form1, form2, formFor, headShape, takenVertices, takenSlices}
+use Rattle.record_form.specs.declared.form.Version.{Version}
+use Rattle.record_form.specs.Form.{form1, form2, formFor, headShape, takenVertices, takenSlices}
 use Rattle.record.specs.Record.{lengthOf, markOk, formIn, takenLengths, readRows, readRefusal}
 
 -- a head with these counts

@@ -20,10 +20,10 @@ use Rattle.basis.specs.StoreLaws.{sets-front}
 use Rattle.slice.specs.Slice.{codeWidth, shapeWidth}
 use Rattle.stitch_run.specs.declared.plan.Plan.{Plan}
 use Rattle.stitch_run.specs.Stitch.{Given}
-use Rattle.record.specs.declared.form.Version.{Version}
-use Rattle.record.specs.Form.{form1, form2, formFor, headShape, sliceShape, takenVertices, commonWidth, entryWidth, vertexShape, bodyOf, column}
+use Rattle.record_form.specs.declared.form.Version.{Version}
+use Rattle.record_form.specs.Form.{form1, form2, formFor, headShape, sliceShape, takenVertices, commonWidth, entryWidth, vertexShape, bodyOf, column}
 use Rattle.record.specs.Record.{Lists, planHeld, bodyIn, outline1From, outline2From, slicesFrom, codesFrom, shapesFrom, datesFrom, listsHeld, takenRows}
-use Rattle.record.specs.Ready.{FormOk}
+use Rattle.record_form.specs.Ready.{FormOk}
 
 -- ---- tables
 

@@ -4,14 +4,15 @@ ghost use Rattle.basis.specs.Refuse.{firstOf, firstFrom};
 ghost use Rattle.basis.specs.Number.{toleranceOf};
 ghost use Rattle.fields.specs.Fields.{numOf};
 ghost use Rattle.record.specs.Record.{markOk, numberIn, formIn, frameRows, secondIn, headAt, lengthOf, takenRows, countRows, roomRows};
-ghost use Rattle.record.specs.Ready.{FormOk, ByteOr, PlanFit, HeadFit, HeadRead, Sized, Counts};
-use crate::form;
-use crate::form::Version;
+ghost use Rattle.record.specs.Ready.{ByteOr, PlanFit, HeadFit, HeadRead, Sized, Counts};
+ghost use Rattle.record_form.specs.Ready.{FormOk};
 use basis::number::Tolerance;
 use basis::refuse;
 use fields::copy;
 use fields::field;
 use fields::shape;
+use record_form::form;
+use record_form::form::Version;
 use select::class::Starts;
 use stitch_run::plan::Plan;
 

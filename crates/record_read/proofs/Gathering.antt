@@ -9,7 +9,7 @@ use lib.Seq.{drop-cons, drop-drop, length-take-le, sets, length-sets}
 use Rattle.fields.specs.Ready.{CopyAt}
 use Rattle.fields.specs.StepLaws.{step-inside, step-left}
 use Rattle.basis.specs.StoreLaws.{sets-then}
-use Rattle.record.specs.Form.{column}
+use Rattle.record_form.specs.Form.{column}
 use Rattle.record_read.specs.Ready.{ColumnFit, Short, DatesFit}
 
 pub record Gathering {A B : Type 0} (g : A → B) (vs : List A) (from stride offset per n : ℕ) (l l′ : List B) (p q left : ℕ) : Type 0 where

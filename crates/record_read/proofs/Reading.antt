@@ -16,13 +16,14 @@ use Rattle.fields.specs.FieldLaws.{Octets, octets-drop, length-unpack, unpack-a
 use Rattle.fields.specs.Ready.{RowsAt}
 use Rattle.slice.specs.Slice.{codeWidth, shapeWidth}
 use Rattle.stitch_run.specs.declared.plan.Plan.{Plan}
-use Rattle.record.specs.declared.form.Version.{Version}
+use Rattle.record_form.specs.declared.form.Version.{Version}
 use Rattle.record.specs.declared.head.Head.{Head}
 use Rattle.record.specs.declared.head.Seen.{Seen}
 use Rattle.record.specs.declared.head.Lengths.{Lengths}
-use Rattle.record.specs.Form.{takenVertices, takenSlices, commonWidth, entryWidth, headShape, sliceShape, vertexShape, bodyOf}
+use Rattle.record_form.specs.Form.{takenVertices, takenSlices, commonWidth, entryWidth, headShape, sliceShape, vertexShape, bodyOf}
 use Rattle.record.specs.Record.{Lists, headIn, planHeld, bodyIn, outline1From, outline2From, slicesFrom, codesFrom, shapesFrom, datesFrom, listsHeld, numberIn, formIn, frameRows, lengthOf, countRows, roomRows, readRows, readRefusal, lengthsOf, seenRefused, seenGiven, ReadLeft, Read}
-use Rattle.record.specs.Ready.{FormOk, HeadFit, HeadRead}
+use Rattle.record.specs.Ready.{HeadFit, HeadRead}
+use Rattle.record_form.specs.Ready.{FormOk}
 use Rattle.record.specs.RecordLaws.{form-ok, head-size, slice-narrow, vertex-narrow, vertex-size, length-body, date-width, length-values, length-outline1, length-outline2, length-codes, length-shapes, length-dates, sets-room}
 use Rattle.record_read.specs.Ready.{Short, Roomy, ListsFit, ListsFilled, Whole, BodyFit}
 

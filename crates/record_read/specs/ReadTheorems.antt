@@ -14,11 +14,11 @@ use Rattle.basis.specs.RefusalOrder.{refusalOrder, before, First}
 use Rattle.basis.specs.RefusalOrderLaws.{first-of}
 use Rattle.fields.specs.Fields.{size, unpack}
 use Rattle.fields.specs.FieldLaws.{unpack-none}
-use Rattle.record.specs.declared.form.Version.{Version}
+use Rattle.record_form.specs.declared.form.Version.{Version}
 use Rattle.record.specs.declared.head.Head.{Head}
 use Rattle.record.specs.declared.head.Lengths.{Lengths}
 use Rattle.record.specs.declared.head.Seen.{Seen}
-use Rattle.record.specs.Form.{formFor, headShape, commonWidth, entryWidth, bodyOf, column}
+use Rattle.record_form.specs.Form.{formFor, headShape, commonWidth, entryWidth, bodyOf, column}
 use Rattle.record.specs.Record.{Lists, lists, headIn, planHeld, secondIn, bodyIn, slicesFrom, datesFrom, listsHeld, markOk, numberIn, readRows, readRefusal, lengthsOf, seenRefused, OldRead}
 use Rattle.record.specs.RecordLaws.{date-width, length-values}
 

@@ -6,11 +6,11 @@ use lib.ListN.{length, getD}
 use lib.Seq.{sets}
 use Rattle.slice.specs.Slice.{codeWidth, shapeWidth}
 use Rattle.stitch_run.specs.declared.plan.Plan.{Plan}
-use Rattle.record.specs.declared.form.Version.{Version}
+use Rattle.record_form.specs.declared.form.Version.{Version}
 use Rattle.record.specs.declared.head.Lengths.{Lengths}
-use Rattle.record.specs.Form.{takenVertices, takenSlices, commonWidth, entryWidth}
+use Rattle.record_form.specs.Form.{takenVertices, takenSlices, commonWidth, entryWidth}
 use Rattle.record.specs.Record.{Lists, outline1From, outline2From, slicesFrom, codesFrom, shapesFrom, datesFrom, lengthOf}
-use Rattle.record.specs.Ready.{FormOk}
+use Rattle.record_form.specs.Ready.{FormOk}
 
 -- rows of values, and room for what is wanted of them
 pub record ColumnFit (n from stride offset per count m : ℕ) : Type 0 where

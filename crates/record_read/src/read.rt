@@ -1,14 +1,14 @@
 // The reader: the head of a record and its lists, or its refusal.
 ghost use mathlib.Core.Path.{_≡_};
 ghost use Rattle.record.specs.Record.{lists, seenRefused, seenGiven, ReadLeft, Read};
-ghost use Rattle.record.specs.Ready.{FormOk};
+ghost use Rattle.record_form.specs.Ready.{FormOk};
 use crate::body;
 use basis::number::Tolerance;
-use record::form::Version;
 use record::head;
 use record::head::Head;
 use record::head::Lengths;
 use record::head::Seen;
+use record_form::form::Version;
 use select::class::Starts;
 use stitch_run::plan::Plan;
 

@@ -19,10 +19,10 @@ use Rattle.stitch.specs.Lent.{Lists}
 use Rattle.stitch_entries.specs.declared.answer.StitchAnswer.{StitchAnswer}
 use Rattle.stitch_entries.specs.Answers.{stitchRefused, stitchGiven}
 use Rattle.stitch_entries.specs.StitchEntry.{stitchNumber, StitchLeft}
-use Rattle.record.specs.declared.form.Version.{Version}
+use Rattle.record_form.specs.declared.form.Version.{Version}
 use Rattle.record.specs.declared.head.Head.{Head}
 use Rattle.record.specs.declared.head.Seen.{Seen}
-use Rattle.record.specs.Form.{formFor}
+use Rattle.record_form.specs.Form.{formFor}
 use Rattle.record.specs.Record as held
 use Rattle.record.specs.Record.{stitchBy, editionsBy, headIn, planHeld, listsHeld, formIn, readRefusal, takenLengths, lengthsOf, seenRefused, seenGiven, Read}
 use Rattle.record.specs.RecordLaws.{read-long}

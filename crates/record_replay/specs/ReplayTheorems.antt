@@ -19,10 +19,11 @@ use Rattle.slice.specs.SliceLaws.{offset-at}
 use Rattle.slice.specs.Editions.{Editions, editions, editionFault, editionListRows}
 use Rattle.stitch_run.specs.Stitch.{Given, sumBelow, weightAt, needFor, needOf}
 use Rattle.stitch.specs.Lent.{Lists}
-use Rattle.stitch_entries.specs.StitchEntry.{listPart, codePart, numberPart, indexPart, shapeRows, editionPart, roomPart, lengthsOf, stitchRefusal, stitchNumber}
-use Rattle.stitch_entries.specs.Matching.{Matched, oneEdition, one-matched, never-14}
-use Rattle.record.specs.declared.form.Version.{Version}
-use Rattle.record.specs.Form.{formFor, takenVertices, takenSlices}
+use Rattle.stitch_entries.specs.StitchEntry.{lengthsOf, stitchNumber}
+use Rattle.stitch_faults.specs.StitchTable.{listPart, codePart, numberPart, indexPart, shapeRows, editionPart, roomPart, stitchRefusal}
+use Rattle.stitch_faults.specs.Matching.{Matched, oneEdition, one-matched, never-14}
+use Rattle.record_form.specs.declared.form.Version.{Version}
+use Rattle.record_form.specs.Form.{formFor, takenVertices, takenSlices}
 use Rattle.record.specs.Record.{planIn, headIn, planHeld, listsHeld, numberIn, formIn, frameRows, lengthOf, takenRows, countRows, roomRows, takenLengths, readRows}
 use Rattle.record.specs.RecordLaws.{Long, read-long, counts-small}
 use Rattle.record_read.specs.ReadTheorems.{NoEditions, no-editions}

@@ -9,10 +9,10 @@ use Rattle.basis.specs.All.{All}
 use Rattle.slice.specs.Editions.{Editions}
 use Rattle.stitch_run.specs.Doubles.{Doubles}
 use Rattle.stitch_run.specs.Stitch.{Given}
-use Rattle.stitch_entries.specs.Matching.{oneEdition}
+use Rattle.stitch_faults.specs.Matching.{oneEdition}
 use Rattle.fields.specs.FieldLaws.{Octets}
 use Rattle.record.specs.declared.head.Lengths.{Lengths}
-use Rattle.record.specs.Form.{form1, form2, formFor}
+use Rattle.record_form.specs.Form.{form1, form2, formFor}
 use Rattle.record.specs.Record.{stitchIn, editionsIn, formIn, readRefusal, recordOf}
 use Rattle.record_read.specs.ReadTheorems.{no-editions}
 use Rattle.record_write.specs.Writer.{lengthGiven, writeRefusal}

@@ -6,7 +6,7 @@ use native.Mathlib.Omega.{arith}
 use native.Mathlib.Nat.{suc-mul}
 use lib.ListN.{length, take, drop, length-drop, take-append-drop}
 use lib.Seq.{take-at, drop-at, drop-drop, length-take-le}
-use Rattle.record.specs.Form.{column, mix}
+use Rattle.record_form.specs.Form.{column, mix}
 
 -- a list of no elements
 nothing : {A : Type 0} (l : List A) → length l ≡ 0 → l ≡ []

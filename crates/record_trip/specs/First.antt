@@ -4,7 +4,7 @@ use Rattle.basis.specs.RefusalOrder.{refusalOrder, before, First}
 use Rattle.basis.specs.RefusalOrderLaws.{first-of}
 use Rattle.slice.specs.Editions.{Editions}
 use Rattle.stitch_run.specs.Stitch.{Given}
-use Rattle.record.specs.declared.form.Version.{Version}
+use Rattle.record_form.specs.declared.form.Version.{Version}
 use Rattle.record_write.specs.Writer.{heldRows, writeRows, writeRefusal}
 
 pub write-first : (n : ℕ) (v : Version) (g : Given) (e : Editions) (room : ℕ) → First (writeRows n v g e room) (writeRefusal n v g e room)

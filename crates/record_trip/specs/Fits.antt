@@ -17,8 +17,8 @@ use Rattle.fields.specs.NumberLaws.{AllPlain, plain-none, plain-one, bits-below
 use Rattle.fields.specs.Ready.{Narrow, narrow-one, Fitted, fit-none, fit-one}
 use Rattle.slice.specs.declared.data.Codes.{Codes}
 use Rattle.slice.specs.Slice.{codeWidth, shapeWidth, codesAt}
-use Rattle.record.specs.declared.form.Version.{Version}
-use Rattle.record.specs.Form.{sliceShape, vertexShape, column, mix}
+use Rattle.record_form.specs.declared.form.Version.{Version}
+use Rattle.record_form.specs.Form.{sliceShape, vertexShape, column, mix}
 use Rattle.record_write.specs.KeepLaws.{within-no-nan}
 use Rattle.record_trip.specs.Kept.{keptIn}
 

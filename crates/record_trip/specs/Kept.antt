@@ -14,10 +14,10 @@ use Rattle.slice.specs.Slice.{codeWidth, codesAt}
 use Rattle.slice.specs.Editions.{Editions, editions, editionOf}
 use Rattle.slice.specs.EditionLaws.{edition-at, at-edition}
 use Rattle.stitch_run.specs.Stitch.{Given}
-use Rattle.stitch_entries.specs.Matching.{Matched, oneEdition}
-use Rattle.record.specs.declared.form.Version.{Version}
-use Rattle.record.specs.Form.{form1, form2, formFor, takenVertices, takenSlices}
-use Rattle.record.specs.Ready.{FormOk}
+use Rattle.stitch_faults.specs.Matching.{Matched, oneEdition}
+use Rattle.record_form.specs.declared.form.Version.{Version}
+use Rattle.record_form.specs.Form.{form1, form2, formFor, takenVertices, takenSlices}
+use Rattle.record_form.specs.Ready.{FormOk}
 use Rattle.record.specs.Record.{lengthOf}
 use Rattle.record.specs.RecordExamples.{counts}
 

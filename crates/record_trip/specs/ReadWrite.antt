@@ -19,14 +19,14 @@ use Rattle.slice.specs.Editions.{Editions, editionListRows, editionRows}
 use Rattle.stitch_run.specs.declared.plan.Plan.{Plan}
 use Rattle.stitch_run.specs.Doubles.{AllDouble, Doubles}
 use Rattle.stitch_run.specs.Stitch.{Given}
-use Rattle.stitch_entries.specs.StitchEntry.{listPart, codePart, numberPart, indexPart, shapeRows, inputRows, editionPart}
-use Rattle.stitch_entries.specs.Matching.{Matched}
+use Rattle.stitch_faults.specs.StitchTable.{listPart, codePart, numberPart, indexPart, shapeRows, inputRows, editionPart}
+use Rattle.stitch_faults.specs.Matching.{Matched}
 use Rattle.fields.specs.Fields.{size, bytesOf, valueOf, pack, unpack, numOf, bitsOf}
 use Rattle.fields.specs.FieldLaws.{Octets, octets-drop, unpack-fitted, pack-unpack}
 use Rattle.fields.specs.NumberLaws.{num-held}
-use Rattle.record.specs.declared.form.Version.{Version}
+use Rattle.record_form.specs.declared.form.Version.{Version}
 use Rattle.record.specs.declared.head.Lengths.{Lengths}
-use Rattle.record.specs.Form.{headShape, entryWidth, bodyOf, column, mix}
+use Rattle.record_form.specs.Form.{headShape, entryWidth, bodyOf, column, mix}
 use Rattle.record.specs.Record.{listsIn, planIn, secondIn, headIn, planHeld, bodyIn, slicesFrom, outline1From, outline2From, codesFrom, shapesFrom, datesFrom, listsHeld, stitchIn, editionsIn, markOk, numberIn, frameRows, lengthOf, takenRows, countRows, roomRows, readRows, readRefusal, headValues, headGiven, valuesOf, recordOf}
 use Rattle.record.specs.RecordLaws.{size-body, head-narrow, body-narrow, length-values}
 use Rattle.record_write.specs.Writer.{axesFault, axesRows, keepRows, versionRows, handedRows, heldRows, lengthGiven, writeRows, writeRefusal}

@@ -23,17 +23,17 @@ use Rattle.slice.specs.SliceLaws.{slice-at, turned-at, start-at, offset-at}
 use Rattle.slice.specs.Editions.{Editions, editions}
 use Rattle.stitch_run.specs.Doubles.{Doubles}
 use Rattle.stitch_run.specs.Stitch.{Given, planOf}
-use Rattle.stitch_entries.specs.StitchRows.{startsFault}
-use Rattle.stitch_entries.specs.declared.faults.Lengths as lent
-use Rattle.stitch_entries.specs.StitchEntry.{stitchRefusal}
-use Rattle.stitch_entries.specs.Matching.{Matched, base-number}
+use Rattle.stitch_faults.specs.StitchRows.{startsFault}
+use Rattle.stitch_faults.specs.declared.faults.Lengths as lent
+use Rattle.stitch_faults.specs.StitchTable.{stitchRefusal}
+use Rattle.stitch_faults.specs.Matching.{Matched, base-number}
 use Rattle.fields.specs.Fields.{size, bytesOf, valueOf, pack, unpack, numOf, bitsOf}
 use Rattle.fields.specs.FieldLaws.{Cut, cut-none, cut-one, cut-fit, cut-append, fitted-cut, unpack-cut, length-pack}
 use Rattle.fields.specs.NumberLaws.{Plain, AllPlain, num-bits, bits-below, nums-bits}
-use Rattle.record.specs.declared.form.Version.{Version}
+use Rattle.record_form.specs.declared.form.Version.{Version}
 use Rattle.record.specs.declared.head.Head.{Head}
 use Rattle.record.specs.declared.head.Lengths.{Lengths}
-use Rattle.record.specs.Form.{headShape, sliceShape, entryWidth, commonWidth, bodyOf, column, mix}
+use Rattle.record_form.specs.Form.{headShape, sliceShape, entryWidth, commonWidth, bodyOf, column, mix}
 use Rattle.record.specs.Record.{Lists, lists, listsIn, planIn, stitchBy, editionsBy, headOf, secondIn, headAt, headIn, planHeld, bodyIn, outline1From, outline2From, codesFrom, shapesFrom, datesFrom, listsFrom, listsHeld, stitchIn, editionsIn, markOk, numberIn, frameRows, lengthOf, countRows, roomRows, readRows, readRefusal, headValues, headGiven, valuesOf, recordOf}
 use Rattle.record.specs.RecordLaws.{head-size, counts-small}
 use Rattle.record_write.specs.Writer.{keepRows, heldRows, lengthGiven, writeRows, writeRefusal}

@@ -24,10 +24,11 @@ use Rattle.slice.specs.Ready.{EditionsThere}
 use Rattle.slice.specs.Editions.{Editions, editions, editionListRows, editionRows}
 use Rattle.stitch_run.specs.declared.plan.Plan.{Plan}
 use Rattle.stitch_run.specs.Stitch.{Given, given}
-use Rattle.record.specs.declared.form.Version.{Version}
+use Rattle.record_form.specs.declared.form.Version.{Version}
 use Rattle.record.specs.declared.head.Head.{Head}
-use Rattle.record.specs.Form.{formFor, headShape, sliceShape, vertexShape, entryWidth, bodyOf}
-use Rattle.record.specs.Ready.{FormOk, Sized}
+use Rattle.record_form.specs.Form.{formFor, headShape, sliceShape, vertexShape, entryWidth, bodyOf}
+use Rattle.record.specs.Ready.{Sized}
+use Rattle.record_form.specs.Ready.{FormOk}
 use Rattle.record.specs.Record.{listsIn, planIn, headGiven, headValues, lengthOf, valuesOf, packed, recordOf}
 use Rattle.record.specs.RecordLaws.{form-ok, sets-room}
 use Rattle.record_write.specs.Writer.{axesFault, keepRows, handedRows, heldRows, lengthGiven, writeRefusal, WriteForm, WriteLeft}

@@ -1,3 +1,2 @@
-pub mod Mixing
 pub mod Packing
 pub mod Keeping

@@ -10,7 +10,7 @@ use Rattle.fields.specs.Fields.{pack, rows}
 use Rattle.fields.specs.FieldLaws.{length-pack, pack-append, size-rows, length-rows}
 use Rattle.fields.specs.Ready.{RowsFrom}
 use Rattle.basis.specs.StoreLaws.{sets-after}
-use Rattle.record.specs.Form.{vertexShape}
+use Rattle.record_form.specs.Form.{vertexShape}
 use Rattle.record.specs.RecordLaws.{vertex-size}
 use Rattle.record_write.specs.Ready.{PackFit}
 

@@ -19,16 +19,16 @@ use Rattle.fields.specs.Ready.{NoNan}
 use Rattle.slice.specs.Slice.{codeWidth, shapeWidth}
 use Rattle.slice.specs.Editions.{Editions, editionListRows, editionRows}
 use Rattle.stitch_run.specs.Stitch.{Given}
-use Rattle.stitch_entries.specs.StitchEntry.{listPart, codePart, numberPart, indexPart}
-use Rattle.stitch_entries.specs.Matching.{Matched}
-use Rattle.record.specs.declared.form.Version.{Version}
-use Rattle.record.specs.Form.{headShape, sliceShape, takenVertices, takenSlices, entryWidth, bodyOf, mix}
-use Rattle.record.specs.Ready.{FormOk}
+use Rattle.stitch_faults.specs.StitchTable.{listPart, codePart, numberPart, indexPart}
+use Rattle.stitch_faults.specs.Matching.{Matched}
+use Rattle.record_form.specs.declared.form.Version.{Version}
+use Rattle.record_form.specs.Form.{headShape, sliceShape, takenVertices, takenSlices, entryWidth, bodyOf, mix}
+use Rattle.record_form.specs.Ready.{FormOk}
 use Rattle.record.specs.Record.{listsIn, planIn, lengthOf, takenRows, headValues, headGiven, valuesOf, recordOf}
 use Rattle.record.specs.RecordLaws.{length-body, size-body}
 use Rattle.record_write.specs.Writer.{axesFault, axesRows, keepRows, handedRows, heldRows, lengthGiven}
 use Rattle.record_write.specs.Ready.{KeepsIn, Keeps}
-use Rattle.record_write.specs.ValueLaws.{length-mix}
+use Rattle.record_values.specs.ValueLaws.{length-mix}
 
 -- a number in range, and a tolerance, is no NaN
 pub within-no-nan : (x : Float) → within x ≡ true → T (not (isNan x))

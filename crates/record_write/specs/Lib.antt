@@ -1,4 +1,3 @@
 pub mod Writer
 pub mod Ready
-pub mod ValueLaws
 pub mod KeepLaws

@@ -3,38 +3,19 @@ use Prim.Native.Nat.{ℕ, _+_, _*_, _≤_}
 use mathlib.Core.Path.{_≡_}
 use mathlib.Core.List.{List}
 use lib.ListN.{length}
-use lib.Ieee.{Float}
-use Rattle.basis.specs.declared.number.Tolerance.{Tolerance}
 use Rattle.fields.specs.Fields.{size}
-use Rattle.fields.specs.Ready.{Number, NoNan}
+use Rattle.fields.specs.Ready.{NoNan}
 use Rattle.slice.specs.Slice.{codeWidth, shapeWidth}
 use Rattle.slice.specs.Editions.{Editions}
 use Rattle.stitch_run.specs.declared.plan.Plan.{Plan}
 use Rattle.stitch_run.specs.Stitch.{Given}
-use Rattle.record.specs.declared.form.Version.{Version}
+use Rattle.record_form.specs.declared.form.Version.{Version}
 use Rattle.record.specs.declared.head.Head.{Head}
-use Rattle.record.specs.Form.{takenVertices, takenSlices, entryWidth}
-use Rattle.record.specs.Ready.{FormOk}
+use Rattle.record_form.specs.Form.{takenVertices, takenSlices, entryWidth}
+use Rattle.record_form.specs.Ready.{FormOk}
 use Rattle.record.specs.Record.{planIn, lengthOf}
+use Rattle.record_values.specs.Ready.{Numbers}
 use Rattle.record_write.specs.Writer.{lengthGiven}
-
--- codes, numbers and editions of so many slices, and room for them from `to` on in a list of m
-pub record MixFit (codes : ℕ) (numbers : List Float) (dates count m to : ℕ) : Type 0 where
-  pub first : count * codeWidth ≤ codes
-  pub second : count * shapeWidth ≤ length numbers
-  pub third : count ≤ dates
-  pub target : to + count * entryWidth ≤ m
-  pub plain : NoNan numbers
-
--- all numbers of a stitch, and room for all values
-pub record ValuesFit (o1 o2 : List Float) (codes : ℕ) (numbers : List Float) (dates count m : ℕ) : Type 0 where
-  pub first : count * codeWidth ≤ codes
-  pub second : count * shapeWidth ≤ length numbers
-  pub third : count ≤ dates
-  pub target : length o1 + length o2 + count * entryWidth ≤ m
-  pub plain1 : NoNan o1
-  pub plain2 : NoNan o2
-  pub plain3 : NoNan numbers
 
 -- values for every field of a table, and room for its bytes
 pub record PackFit (start stride : ℕ) (hs : List ℕ) (head : ℕ) (es : List ℕ) (values vertices slices m : ℕ) : Type 0 where
@@ -43,11 +24,6 @@ pub record PackFit (start stride : ℕ) (hs : List ℕ) (head : ℕ) (es : List 
   pub strides : stride ≡ size es
   pub all : values ≡ vertices * 3 + slices * length es
   pub room : start + (vertices * 24 + slices * stride) ≤ m
-
--- tolerances that are numbers
-pub record Numbers (t : Tolerance) : Type 0 where
-  pub x : Number (t .x)
-  pub y : Number (t .y)
 
 -- what the program takes
 pub record KeepsIn (p : Plan) : Type 0 where

@@ -14,9 +14,9 @@ use Rattle.basis.specs.Room.{roomOf}
 use Rattle.fields.specs.Fields.{bitsOf}
 use Rattle.slice.specs.Editions.{Editions, editionListRows, editionRows}
 use Rattle.stitch_run.specs.Stitch.{Given}
-use Rattle.stitch_entries.specs.StitchEntry.{listPart, codePart, numberPart, indexPart}
-use Rattle.record.specs.declared.form.Version.{Version}
-use Rattle.record.specs.Form.{formFor}
+use Rattle.stitch_faults.specs.StitchTable.{listPart, codePart, numberPart, indexPart}
+use Rattle.record_form.specs.declared.form.Version.{Version}
+use Rattle.record_form.specs.Form.{formFor}
 use Rattle.record.specs.Record.{planIn, versionFault, lengthOf, takenRows, recordOf}
 
 -- 12: "unknown version", before all others

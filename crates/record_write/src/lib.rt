@@ -1,4 +1,3 @@
 // The writer of the record `PBR`.
 pub mod pack;
-pub mod values;
 pub mod write;

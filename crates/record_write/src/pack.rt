@@ -4,10 +4,10 @@ ghost use mathlib.Core.List.{_++_};
 ghost use lib.ListN.{length};
 ghost use lib.Seq.{sets};
 ghost use Rattle.fields.specs.Fields.{pack, rows};
-ghost use Rattle.record.specs.Form.{vertexShape};
+ghost use Rattle.record_form.specs.Form.{vertexShape};
 ghost use Rattle.record_write.specs.Ready.{PackFit};
 use fields::shape;
-use record::form;
+use record_form::form;
 
 // Writes a record from the front on: a head of `start` bytes, the vertices, and slices of `stride` bytes each.
 pub fn pack_form(

@@ -8,21 +8,21 @@ ghost use Rattle.stitch_run.specs.Stitch.{given};
 ghost use Rattle.record.specs.Record.{packed, recordOf};
 ghost use Rattle.record_write.specs.Writer.{versionRows, axesFault, axesRows, handedRows, heldRows, WriteForm, WriteLeft};
 ghost use Rattle.record_write.specs.Ready.{Packs, Keeps};
-ghost use Rattle.record.specs.Ready.{FormOk};
+ghost use Rattle.record_form.specs.Ready.{FormOk};
 use crate::pack;
-use crate::values;
 use basis::answer;
 use basis::answer::CountAnswer;
 use basis::number;
 use basis::number::Tolerance;
 use basis::refuse;
 use fields::copy;
-use record::form;
-use record::form::Version;
 use record::head;
 use record::head::Head;
+use record_form::form;
+use record_form::form::Version;
+use record_values::values;
 use slice::edition;
-use stitch_entries::faults;
+use stitch_faults::faults;
 use stitch_run::plan::Plan;
 
 // Number 12: the version asked for is unknown, so its table has another number.

@@ -2,7 +2,7 @@
 ghost use Prim.Native.Nat.{_≤_};
 ghost use lib.ListN.{length};
 use crate::show;
-use record::form;
+use record_form::form;
 
 // One byte more than a record of either version has at most, so that a longer one is seen to be longer.
 const BYTES: usize = form::RECORD2_MOST + 1;

@@ -1,6 +1,6 @@
 // What a replay prints.
 use libc::STDOUT_FILENO;
-use record::form;
+use record_form::form;
 use record_replay::replay;
 
 // An entry for each slice that is taken; three numbers for each vertex of the need, which is the most where each slice has the most vertices.

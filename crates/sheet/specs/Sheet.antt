@@ -34,8 +34,8 @@ use Rattle.stitch_run.specs.Stitch.{roundCount, roomItems, endItems}
 use Rattle.stitch.specs.Lent.{Lists}
 use Rattle.stitch_entries.specs.declared.answer.StitchAnswer.{StitchAnswer}
 use Rattle.stitch_entries.specs.Answers.{stitchRefused}
-use Rattle.stitch_entries.specs.StitchRows.{lengths}
-use Rattle.stitch_entries.specs.Matching.{Matched, baseRefusal}
+use Rattle.stitch_faults.specs.StitchRows.{lengths}
+use Rattle.stitch_faults.specs.Matching.{Matched, baseRefusal}
 use Rattle.settings.specs.Settings.{Held}
 use Rattle.named_entries.specs.NamedStitch.{Holding, NamedStitch}
 

@@ -30,7 +30,8 @@ use Rattle.view_entries.specs.SingleEntry.{singleRefusal, singleAnswer}
 use Rattle.view.specs.Create.{nearVertex, bulgeBefore, createView, singleView}
 use Rattle.cut.specs.Cuts as cuts
 use Rattle.cut.specs.Cuts.{whichOf, hitCut, moved, markedEnd, lapCut, cutOf}
-use Rattle.cut.specs.Order.{distance, sooner, earlier, insert, ordered, orderOf, cutNumbers, cutPoints}
+use Rattle.cut.specs.Order.{distance, earlier, insert, ordered, orderOf, cutNumbers, cutPoints}
+use Rattle.cut_runs.specs.Sooner.{sooner}
 use Rattle.candidate.specs.Candidates as slices
 use Rattle.candidate_write.specs.ItemLaws.{flat-length, wide-numbers}
 use Rattle.candidate.specs.Candidates.{sameNext, firstCut, traverseFrom, traverseOf, sliceOf, pieceOf, walkOf, walked, walkAt, candidateAt, candidatesTo}
@@ -55,12 +56,12 @@ use Rattle.slice.specs.Slice.{codesAt, shapeAt, sliceView}
 use Rattle.stitch_run.specs.Stitch.{offersTo, rulesOf, runOf, loopOf, loopsOf, howOf, totals, roundCount, loopCount, roomItems}
 use Rattle.stitch_run.specs.Stitch.{endItems, sumBelow, weightAt, needFor}
 use Rattle.stitch.specs.Lent.{Lists}
-use Rattle.stitch_entries.specs.StitchRows.{startsFault, lengths}
+use Rattle.stitch_faults.specs.StitchRows.{startsFault, lengths}
 use Rattle.stitch_entries.specs.declared.answer.StitchAnswer.{StitchAnswer}
 use Rattle.stitch_entries.specs.Answers.{stitchRefused, stitchGiven}
 use Rattle.slice.specs.Editions.{Editions}
 use Rattle.stitch_entries.specs.StitchEntry.{lengthsOf, stitchNumber}
-use Rattle.stitch_entries.specs.Matching.{Matched, baseRefusal, base-number}
+use Rattle.stitch_faults.specs.Matching.{Matched, baseRefusal, base-number}
 use Rattle.named_entries.specs.NamedTheorems.{by-tolerances}
 use Rattle.sheet.specs.Sheet.{Said, candidatesAre, verticesAre, slicesAre, loopsAre, refusedWith, apartInBox, LoopRooms, Case, Holds, Answers, sheet}
 

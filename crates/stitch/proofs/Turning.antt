@@ -15,8 +15,8 @@ use Rattle.outline.specs.Points.{vertexNumbers}
 use Rattle.stitch_vertices.specs.Vertices.{dropLast}
 use Rattle.stitch_vertices.specs.Held.{chainOf}
 use Rattle.stitch_vertices.specs.RestLaws.{chain-length, chain-less, chain-numbers, rest-lent, rest-front, rest-back}
-use Rattle.stitch_chain.specs.declared.rounds.ChainEnd.{ChainEnd}
-use Rattle.stitch.specs.declared.turn.Tally.{Tally}
+use Rattle.stitch_tally.specs.declared.tally.ChainEnd.{ChainEnd}
+use Rattle.stitch_tally.specs.declared.tally.Tally.{Tally}
 use Rattle.stitch_run.specs.Run.{Ending, closed, tooSmall, noCandidate, noSelection, Chain, Stitched, opened, added, begun, turn, turns, slicesOf, orderOf}
 use Rattle.stitch_run.specs.Stitch.{Given, rulesOf, loopOf, loopsOf, howOf, totals, sumBelow, weightAt, needFor, needOf}
 use Rattle.slice.specs.Slice.{sliceView}
@@ -27,10 +27,11 @@ use Rattle.stitch_run.specs.TallyLaws.{tally-most}
 use Rattle.stitch_run.specs.RunLaws.{going-opened, kept-turns}
 use Rattle.stitch_run.specs.StitchLaws.{among}
 use Rattle.stitch_run.specs.ReportLaws.{order-snoc, loops-snoc, totals-snoc, totals-length, sum-map, flat-length, loops-size, loops-few, chains-few}
-use Rattle.stitch_links.specs.declared.layout.Layout.{Layout}
-use Rattle.stitch_round.specs.Ready.{Sound}
+use Rattle.stitch_layout.specs.declared.layout.Layout.{Layout}
+use Rattle.stitch_slices.specs.Ready.{Sound}
 use Rattle.stitch_chain.specs.Ready.{Begun, chainsTo, orderTo, mostOf, Opening, chainAt, Walked}
-use Rattle.stitch.specs.Lent.{numbersOf, endsOf, chainEndsOf, howsOf, Lists, lists, Holds, EndFit, EndListed, loopEnd, tallyAfter, endsAfter, LoopFit, LoopListed, TurnFit, Turned}
+use Rattle.stitch.specs.Lent.{numbersOf, endsOf, chainEndsOf, howsOf, Lists, lists, Holds, TurnFit, Turned}
+use Rattle.stitch_tally.specs.Tallied.{EndFit, EndListed, loopEnd, tallyAfter, endsAfter, LoopFit, LoopListed}
 use Rattle.stitch_chain.specs.ChainLaws.{begins-fit, begun-put}
 
 -- ---- the need

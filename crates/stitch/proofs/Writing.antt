@@ -8,13 +8,13 @@ use native.Mathlib.Omega.{arith}
 use lib.ListN.{length, getD}
 use lib.Ieee.{Float}
 use Rattle.basis.specs.Sizes.{mostVertices}
-use Rattle.stitch.specs.declared.turn.Tally.{Tally}
+use Rattle.stitch_tally.specs.declared.tally.Tally.{Tally}
 use Rattle.stitch_run.specs.Run.{run, turns, orderOf}
 use Rattle.stitch_run.specs.Stitch.{Given, rulesOf, runOf, loopsOf, totals, sumBelow, weightAt, needFor, needOf}
 use Rattle.slice.specs.Slice.{codeWidth, codesAt}
-use Rattle.stitch_links.specs.declared.layout.Layout.{Layout}
+use Rattle.stitch_layout.specs.declared.layout.Layout.{Layout}
 use Rattle.stitch_links.specs.Hung.{Between}
-use Rattle.stitch_round.specs.Ready.{Sound, Points}
+use Rattle.stitch_slices.specs.Ready.{Sound, Points}
 use Rattle.stitch_chain.specs.Ready.{Begun, chainsTo}
 use Rattle.stitch.specs.Lent.{Lists, Long, Holds, TurnFit, Turned, TurnsFit, AllTurned, NeedFit}
 use Rattle.stitch_chain.specs.ChainLaws.{begun-none, begun-then}

@@ -1,26 +1,24 @@
 -- Between two chains: what the lent lists hold, and what the functions require and leave of them.
 use Prim.Native.Nat.{ℕ, _+_, _-_, _*_, _≤_, _<_}
-use mathlib.Core.Bool.{Bool, false, cond}
+use mathlib.Core.Bool.{Bool, false}
 use mathlib.Core.Path.{_≡_}
 use mathlib.Core.List.{List, map, flatMap}
-use lib.Dec.{eqb}
-use lib.ListN.{length, getD, set, replicate}
+use lib.ListN.{length, getD, replicate}
 use lib.Ieee.{Float}
 use Rattle.basis.specs.Number.{+0}
 use Rattle.basis.specs.Sizes.{mostVertices, mostSlices}
 use Rattle.basis.specs.Room.{roomOf, cleared, Stretch}
 use Rattle.outline.specs.declared.point.Vertex.{Vertex}
 use Rattle.outline.specs.Points.{vertexNumbers}
-use Rattle.stitch_chain.specs.declared.rounds.ChainEnd.{ChainEnd}
-use Rattle.stitch.specs.declared.turn.Tally.{Tally}
+use Rattle.stitch_tally.specs.declared.tally.Tally.{Tally}
 use Rattle.stitch.specs.declared.write.Stitched.{Stitched}
-use Rattle.stitch_run.specs.Run.{Chain, closed, turns, slicesOf, orderOf}
+use Rattle.stitch_run.specs.Run.{Chain, turns, slicesOf, orderOf}
 use Rattle.stitch_run.specs.Stitch.{Given, rulesOf, runOf, loopsOf, howOf, totals, needOf, roundCount, loopCount, chainCount, roomItems, endItems, chainItems, chainEndItems, howItems}
 use Rattle.slice.specs.Slice.{codeWidth, sliceOffset}
 use Rattle.stitch_run.specs.Demand3.{finished}
-use Rattle.stitch_links.specs.declared.layout.Layout.{Layout}
+use Rattle.stitch_layout.specs.declared.layout.Layout.{Layout}
 use Rattle.stitch_links.specs.Hung.{Between}
-use Rattle.stitch_round.specs.Ready.{Sound, Points}
+use Rattle.stitch_slices.specs.Ready.{Sound, Points}
 use Rattle.stitch_chain.specs.Ready.{Begun, chainsTo}
 
 -- what the chains l leave in each list
@@ -63,42 +61,6 @@ pub record Holds (g : Given) (l : List (Chain (List Vertex))) (e : Lists) (w : T
   pub chain : Begun (w .rounds) (orderOf l) (e .chain) (g .slices) (x .chain)
   pub chainEnds : Begun (w .chains) (chainEndsOf l) (e .chainEnds) (g .slices) (x .chainEnds)
   pub chainHow : Begun (w .chains) (howsOf l) (e .chainHow) (g .slices) (x .chainHow)
-
--- a chain's end is listed
-pub record EndFit (chainEnds chainHow : List ℕ) (k : ℕ) : Type 0 where
-  pub first : k < length chainEnds
-  pub second : k < length chainHow
-
-pub record EndListed (k : ℕ) (r : ChainEnd) (chainEnds chainHow chainEnds′ chainHow′ : List ℕ) : Type 0 where
-  pub first : chainEnds′ ≡ set chainEnds k (r .rounds)
-  pub second : chainHow′ ≡ set chainHow k (r .how)
-
--- a closed chain leaves a loop: its vertices without the last
-abbrev pub loopEnd : Tally → ChainEnd → ℕ
-loopEnd w r = w .done + (r .verts - 1)
-
-unfoldable pub tallyAfter : Tally → ChainEnd → Tally
-tallyAfter w r =
-    cond (eqb (r .how) (howOf closed))
-    (record { done = loopEnd w r; loops = w .loops + 1; chains = w .chains + 1; rounds = r .rounds })
-    (record { done = w .done; loops = w .loops; chains = w .chains + 1; rounds = r .rounds })
-
-unfoldable pub endsAfter : Tally → ChainEnd → List ℕ → List ℕ
-endsAfter w r ends = cond (eqb (r .how) (howOf closed)) (set ends (w .loops) (loopEnd w r)) ends
-
--- the need of the most slices, each of the greatest offset
-abbrev pub mostNeed : ℕ
-mostNeed = 1 + mostSlices * (mostVertices + 1)
-
-pub record LoopFit (ends : List ℕ) (w : Tally) (r : ChainEnd) : Type 0 where
-  pub inside : w .loops < length ends
-  pub some : 0 < r .verts
-  pub few : w .done + r .verts ≤ mostNeed
-  pub chains : w .chains < mostSlices
-
-pub record LoopListed (w : Tally) (r : ChainEnd) (ends : List ℕ) (w′ : Tally) (ends′ : List ℕ) : Type 0 where
-  pub tally : w′ ≡ tallyAfter w r
-  pub listed : ends′ ≡ endsAfter w r ends
 
 -- slice i's turn
 pub record TurnFit (g : Given) (i : ℕ) (points : List Float) (by : Layout) (visited : List Bool) (link : List ℕ) (w : Tally) (x : Lists) : Type 0 where

@@ -1,52 +1,11 @@
 // Document 01: "A chain starts at the lowest unvisited slice." Each slice has its turn, in ascending number.
 ghost use Rattle.stitch_run.specs.Stitch.{given};
-ghost use Rattle.stitch.specs.Lent.{lists, EndFit, EndListed, LoopFit, LoopListed, TurnFit, Turned, TurnsFit, AllTurned};
+ghost use Rattle.stitch.specs.Lent.{lists, TurnFit, Turned, TurnsFit, AllTurned};
 use stitch_chain::rounds;
-use stitch_chain::rounds::ChainEnd;
-use stitch_links::layout::Layout;
-use stitch_round::step;
+use stitch_layout::layout::Layout;
 use stitch_run::plan::Plan;
-
-// What is finished: vertices of the loops, loops, chains, rounds.
-pub struct Tally {
-    pub done: usize,
-    pub loops: usize,
-    pub chains: usize,
-    pub rounds: usize,
-}
-
-// Lists the end of chain number k and how it ended.
-fn list_chain(chain_ends: &mut [usize], chain_how: &mut [usize], k: usize, e: ChainEnd)
-    requires { ⌜ EndFit (now «chain_ends») (now «chain_how») k ⌝ }
-    ensures { λ _. ⌜ EndListed k e (now («chain_ends» .entry)) (now («chain_how» .entry)) (now («chain_ends» .exit)) (now («chain_how» .exit)) ⌝ }
-{
-    chain_ends[k] = e.rounds;
-    chain_how[k] = e.how;
-}
-
-// Lists the loop of a closed chain: its vertices without the last. Says what is finished now.
-fn list_loop(ends: &mut [usize], w: Tally, e: ChainEnd) -> Tally
-    requires { ⌜ LoopFit (now ends) w e ⌝ }
-    ensures { λ r. ⌜ LoopListed w e (now (ends .entry)) r (now (ends .exit)) ⌝ }
-{
-    let k = w.loops;
-    if e.how != step::CLOSED {
-        return Tally {
-            done: w.done,
-            loops: k,
-            chains: w.chains + 1,
-            rounds: e.rounds,
-        };
-    }
-    let done = w.done + (e.verts - 1);
-    ends[k] = done;
-    Tally {
-        done,
-        loops: k + 1,
-        chains: w.chains + 1,
-        rounds: e.rounds,
-    }
-}
+use stitch_tally::tally;
+use stitch_tally::tally::Tally;
 
 // The turn of slice i: unless it has been visited it begins a chain, in the rest of the room, directly after the loops already finished.
 fn take_turn(
@@ -89,8 +48,8 @@ fn take_turn(
         i,
         w.rounds,
     );
-    list_chain(chain_ends, chain_how, w.chains, e);
-    list_loop(ends, w, e)
+    tally::list_chain(chain_ends, chain_how, w.chains, e);
+    tally::list_loop(ends, w, e)
 }
 
 // Every slice has its turn. Says what is finished at the end.

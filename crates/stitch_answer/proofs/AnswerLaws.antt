@@ -13,9 +13,10 @@ use Rattle.outline.specs.Points.{inBox}
 use Rattle.outline.specs.Outline.{pointAt}
 use Rattle.stitch_run.specs.declared.plan.Plan.{Plan}
 use Rattle.stitch_run.specs.Run.{free, passing}
-use Rattle.stitch_links.specs.declared.layout.Layout.{Layout}
-use Rattle.stitch_links.specs.declared.look.Query.{Query}
-use Rattle.stitch_links.specs.Slices.{xOf, yOf, startsIn, queryOf}
+use Rattle.stitch_layout.specs.declared.layout.Layout.{Layout}
+use Rattle.stitch_layout.specs.declared.layout.Query.{Query}
+use Rattle.stitch_layout.specs.Slices.{xOf, yOf, startsIn}
+use Rattle.stitch_links.specs.Looks.{queryOf}
 use Rattle.stitch_links.specs.Hung.{hung-fit}
 use Rattle.stitch_answer.specs.declared.answer.Answer.{Answer}
 use Rattle.stitch_answer.specs.Answer.{nearEnd, answerOf, offeredOf, Ready, Grouped, Asking, Answered}

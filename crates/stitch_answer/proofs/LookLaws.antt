@@ -12,11 +12,12 @@ use Rattle.basis.specs.Choice.{and-assoc}
 use Rattle.select.specs.declared.class.Starts.{Starts}
 use Rattle.select.specs.declared.best.Selected.the-variants.{Slice, NoSlice}
 use Rattle.select.specs.Select.{noNumber, classOf}
-use Rattle.stitch_links.specs.declared.layout.Layout.{Layout}
-use Rattle.stitch_links.specs.declared.look.Query.{Query}
+use Rattle.stitch_layout.specs.declared.layout.Layout.{Layout}
+use Rattle.stitch_layout.specs.declared.layout.Query.{Query}
 use Rattle.stitch_links.specs.declared.look.Cells.{Cells}
-use Rattle.stitch_links.specs.Slices.{groupOf, homeOf, startsIn, meetsOf, hitOf, lowestOf, cellsOf}
-use Rattle.stitch_links.specs.Links.{Linked}
+use Rattle.stitch_layout.specs.Slices.{groupOf, homeOf, startsIn, meetsOf}
+use Rattle.stitch_links.specs.Looks.{hitOf, lowestOf, cellsOf}
+use Rattle.stitch_layout.specs.Links.{Linked}
 use Rattle.stitch_links.specs.Ready.{Lookable, Sides, Lowest}
 use Rattle.stitch_links.specs.Ready as links
 use Rattle.stitch_answer.specs.declared.answer.Answer.{Answer}

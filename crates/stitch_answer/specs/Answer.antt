@@ -15,10 +15,10 @@ use Rattle.select.specs.declared.best.Selected.the-variants.{Slice, NoSlice}
 use Rattle.select.specs.Select.{noNumber, Known, selectOf}
 use Rattle.stitch_run.specs.declared.plan.Plan.{Plan}
 use Rattle.stitch_run.specs.Run.{free, passing}
-use Rattle.stitch_links.specs.declared.layout.Layout.{Layout}
-use Rattle.stitch_links.specs.declared.look.Query.{Query}
-use Rattle.stitch_links.specs.Slices.{groupOf, homeOf, startsIn, meetsOf}
-use Rattle.stitch_links.specs.Links.{Linked}
+use Rattle.stitch_layout.specs.declared.layout.Layout.{Layout}
+use Rattle.stitch_layout.specs.declared.layout.Query.{Query}
+use Rattle.stitch_layout.specs.Slices.{groupOf, homeOf, startsIn, meetsOf}
+use Rattle.stitch_layout.specs.Links.{Linked}
 use Rattle.stitch_links.specs.Ready.{ScanFit, Lookable}
 use Rattle.stitch_links.specs.Hung.{Hung}
 use Rattle.stitch_answer.specs.declared.answer.Answer.{Answer}

@@ -12,9 +12,10 @@ use Rattle.basis.specs.Choice.{by-test, clash, and-left, and-right}
 use Rattle.select.specs.declared.best.Selected.{Selected}
 use Rattle.select.specs.declared.best.Selected.the-variants.{Slice, NoSlice}
 use Rattle.select.specs.Select.{noNumber, firstThat, orElse}
-use Rattle.stitch_links.specs.declared.layout.Layout.{Layout}
-use Rattle.stitch_links.specs.Slices.{groupOf, lowestOf}
-use Rattle.stitch_links.specs.Links.{Found}
+use Rattle.stitch_layout.specs.declared.layout.Layout.{Layout}
+use Rattle.stitch_layout.specs.Slices.{groupOf}
+use Rattle.stitch_links.specs.Looks.{lowestOf}
+use Rattle.stitch_links.specs.Looks.{Found}
 use Rattle.stitch_links.specs.BlockLaws.{lowest-none, lowest-at, lowest-found}
 use Rattle.stitch_answer.specs.Answer.{hasAny, inGroup}
 

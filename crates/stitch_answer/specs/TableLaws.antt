@@ -12,8 +12,9 @@ use Rattle.select.specs.declared.class.Starts.{Starts}
 use Rattle.select.specs.declared.best.Selected.{Selected}
 use Rattle.select.specs.declared.best.Selected.the-variants.{Slice, NoSlice}
 use Rattle.select.specs.Select.{noNumber, classOf, preferenceOf, suitsOf, orElse, choose, choicesOf, pickOf, selectOf}
-use Rattle.stitch_links.specs.declared.layout.Layout.{Layout}
-use Rattle.stitch_links.specs.Slices.{groupOf, lowestOf}
+use Rattle.stitch_layout.specs.declared.layout.Layout.{Layout}
+use Rattle.stitch_layout.specs.Slices.{groupOf}
+use Rattle.stitch_links.specs.Looks.{lowestOf}
 use Rattle.stitch_links.specs.BlockLaws.{lowest-none}
 use Rattle.stitch_answer.specs.declared.answer.Answer.{Answer}
 use Rattle.stitch_answer.specs.declared.answer.Answer.the-variants.{NoCandidate, Asked}

@@ -6,9 +6,9 @@ use select::best::NO_NUMBER;
 use select::best::Selected;
 use select::class;
 use select::class::Starts;
-use stitch_links::layout::Layout;
+use stitch_layout::layout::Layout;
+use stitch_layout::layout::Query;
 use stitch_links::look;
-use stitch_links::look::Query;
 use stitch_run::plan::Plan;
 
 // The selector is asked where there is a candidate.

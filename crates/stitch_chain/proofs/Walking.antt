@@ -11,8 +11,8 @@ use Rattle.stitch_vertices.specs.Vertices.{dropLast}
 use Rattle.stitch_vertices.specs.Held.{chainOf}
 use Rattle.stitch_vertices.specs.RestLaws.{chain-length, chain-less}
 use Rattle.stitch_run.specs.declared.plan.Plan.{Plan}
-use Rattle.stitch_chain.specs.declared.rounds.ChainEnd.{ChainEnd}
-use Rattle.stitch_links.specs.declared.layout.Layout.{Layout}
+use Rattle.stitch_tally.specs.declared.tally.ChainEnd.{ChainEnd}
+use Rattle.stitch_layout.specs.declared.layout.Layout.{Layout}
 use Rattle.stitch_links.specs.Hung.{Hung, hung-visit, hung-begin}
 use Rattle.stitch_round.specs.declared.step.Step.{Step}
 use Rattle.stitch_round.specs.declared.step.Step.the-variants.{Onto, Ends}
@@ -23,7 +23,8 @@ use Rattle.stitch_run.specs.TallyLaws.{tally-weight, tally-most}
 use Rattle.stitch_run.specs.RunLaws.{placed, placed-longer, onto-facts, Going, going-onward, going-opened, ended-slices, kept-turns}
 use Rattle.stitch_run.specs.NeedLaws.{Roomy, round-fits, roomy-onward, roomy-opened, held-turns}
 use Rattle.stitch_run.specs.StitchLaws.{among, grows}
-use Rattle.stitch_round.specs.Ready.{Sound, Points, toldOf, RoundFit, standing, Rounded}
+use Rattle.stitch_round.specs.Ready.{toldOf, RoundFit, standing, Rounded}
+use Rattle.stitch_slices.specs.Ready.{Sound, Points}
 use Rattle.stitch_chain.specs.Ready.{Begun, Placing, Placed, orderTo, doneTo, mostOf, Opening, chainAt, Walked}
 use Rattle.stitch_chain.specs.ChainLaws.{begun-put, begins-fit}
 

@@ -7,9 +7,9 @@ use lib.ListN.{length, getD, set, take, drop}
 use lib.Ieee.{Float}
 use Rattle.outline.specs.declared.point.Vertex.{Vertex}
 use Rattle.stitch_vertices.specs.Held.{chainOf}
-use Rattle.stitch_chain.specs.declared.rounds.ChainEnd.{ChainEnd}
-use Rattle.stitch_round.specs.Ready.{Sound, Points, SliceMore, SliceAdded}
-use Rattle.stitch_links.specs.declared.layout.Layout.{Layout}
+use Rattle.stitch_tally.specs.declared.tally.ChainEnd.{ChainEnd}
+use Rattle.stitch_slices.specs.Ready.{Sound, Points, SliceMore, SliceAdded}
+use Rattle.stitch_layout.specs.declared.layout.Layout.{Layout}
 use Rattle.stitch_links.specs.Hung.{Between}
 use Rattle.stitch_run.specs.Run.{Chain, Finished, chainFrom, turns, slicesOf, orderOf}
 use Rattle.stitch_run.specs.Stitch.{Given, rulesOf, howOf, sumBelow, weightAt}

@@ -1,18 +1,12 @@
 // A chain: round after round, from its first slice to its end.
 ghost use Rattle.stitch_run.specs.Stitch.{given};
 ghost use Rattle.stitch_chain.specs.Ready.{Placing, Placed, Opening, Walked};
-use stitch_links::layout::Layout;
-use stitch_round::slices;
+use stitch_layout::layout::Layout;
 use stitch_round::step;
 use stitch_round::step::Step;
 use stitch_run::plan::Plan;
-
-// A chain at its end: how many vertices it has, how many rounds were taken up to now, how it ended.
-pub struct ChainEnd {
-    pub verts: usize,
-    pub rounds: usize,
-    pub how: usize,
-}
+use stitch_slices::slices;
+use stitch_tally::tally::ChainEnd;
 
 // Marks slice j and adds its vertices to a chain of n. Says how many it has now.
 fn place(

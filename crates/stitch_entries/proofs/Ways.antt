@@ -6,10 +6,9 @@ use mathlib.Core.List.{List, _++_}
 use native.Mathlib.Nat.{le-of-eq, le-trans}
 use native.Mathlib.Omega.{arith}
 use lib.ListN.{length}
-use lib.Dec.{eqb, ltb}
+use lib.Dec.{eqb}
 use lib.Ieee.{Float}
-use borrow.Author.Tests.{ltb-true, ltb-false, lt-ltb, le-ltb, not-false}
-use Rattle.basis.specs.Choice.{by-test}
+use borrow.Author.Tests.{ltb-false, not-false}
 use Rattle.basis.specs.Sizes.{mostSlices}
 use Rattle.basis.specs.Refuse.{Row, firstFrom, orElse, countFor}
 use Rattle.basis.specs.RefuseLaws.{Clear, clear, clear-left, clear-right, clear-from, stop-rows, go-rows, then-rows, length-ok, size-ok, choice-ok, answer-no, answer-yes}
@@ -21,13 +20,14 @@ use Rattle.slice.specs.Slice.{codeWidth, shapeWidth, codesAt, sliceView, sliceO
 use Rattle.slice.specs.SliceLaws.{start-at, offset-at}
 use Rattle.slice.specs.Editions.{Editions, editionListRows}
 use Rattle.slice.specs.Ready.{EditionsThere}
-use Rattle.stitch_round.specs.Ready.{Sound}
+use Rattle.stitch_slices.specs.Ready.{Sound}
 use Rattle.stitch.specs.Lent.{Lists, NeedFit, StitchFit, Written}
 use Rattle.stitch.specs.declared.write.Stitched.{Stitched}
 use Rattle.stitch_entries.specs.declared.answer.StitchAnswer.{StitchAnswer}
-use Rattle.stitch_entries.specs.declared.faults.Lengths.{Lengths}
+use Rattle.stitch_faults.specs.declared.faults.Lengths.{Lengths}
 use Rattle.stitch_entries.specs.Answers.{stitchRefused, stitchGiven}
-use Rattle.stitch_entries.specs.StitchEntry.{listPart, codePart, numberPart, indexPart, shapeRows, inputRows, editionPart, roomPart, stitchRows, stitchRefusal, lengthsOf, stitchNumber, StitchLeft}
+use Rattle.stitch_entries.specs.StitchEntry.{lengthsOf, stitchNumber, StitchLeft}
+use Rattle.stitch_faults.specs.StitchTable.{listPart, codePart, numberPart, indexPart, shapeRows, inputRows, editionPart, roomPart, stitchRows, stitchRefusal}
 
 module _ (g : Given) where
   -- each slice's view fits its own outline
@@ -182,9 +182,3 @@ each-given o1 o2 at numbers p l r e z = record { each = each-there (given o1 o2 
 pub ruleset finding = (need-given, each-given, input-found, room-found)
 
 pub ruleset ways = (stitch-accepted, stitch-refused, stitch-given)
-
--- room by thirds, as the code asks
-pub third : (room need r : ℕ) → r ≡ need → ltb (room / 3) r ≡ ltb room (3 * need)
-third room need r e =
-    by-test (ltb room (3 * need)) (λ t. let h : room < 3 * need = ltb-true room (3 * need) t in lt-ltb (room / 3) r (omega arith) ∙ sym t)
-    (λ f. let h : 3 * need ≤ room = ltb-false room (3 * need) f in le-ltb (room / 3) r (omega arith) ∙ sym f)

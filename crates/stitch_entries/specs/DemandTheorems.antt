@@ -29,8 +29,9 @@ use Rattle.stitch.specs.Lent.{Lists, Long}
 use Rattle.stitch_entries.specs.declared.answer.StitchAnswer.{StitchAnswer}
 use Rattle.stitch_entries.specs.Answers.{stitchRefused, stitchGiven}
 use Rattle.slice.specs.Editions.{Editions, editionListRows}
-use Rattle.stitch_entries.specs.StitchEntry.{shapeRows, inputRows, editionPart, roomPart, stitchRows, lengthsOf, stitchRefusal, stitchNumber, StitchLeft}
-use Rattle.stitch_entries.specs.Matching.{Matched, baseRefusal, base-number, oneEdition, one-matched}
+use Rattle.stitch_entries.specs.StitchEntry.{lengthsOf, stitchNumber, StitchLeft}
+use Rattle.stitch_faults.specs.StitchTable.{shapeRows, inputRows, editionPart, roomPart, stitchRows, stitchRefusal}
+use Rattle.stitch_faults.specs.Matching.{Matched, baseRefusal, base-number, oneEdition, one-matched}
 use Rattle.stitch_entries.specs.TightLaws.{codes-whole, tight-shape}
 use Rattle.stitch_entries.specs.Demand.{parted, chainsIn, Demanded, Shorter}
 

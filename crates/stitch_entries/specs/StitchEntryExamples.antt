@@ -11,8 +11,8 @@ use Rattle.slice.specs.Faults.{sourceKnown, startInside, offsetInside, eachSlic
 use Rattle.slice.specs.Slice.{codesAt}
 use Rattle.slice.specs.Editions.{editions, editionSame, editionFault}
 use Rattle.stitch_run.specs.StitchExamples.{union}
-use Rattle.stitch_entries.specs.StitchRows.{startsFault, lengths}
-use Rattle.stitch_entries.specs.StitchEntry.{stitchRefusal}
+use Rattle.stitch_faults.specs.StitchRows.{startsFault, lengths}
+use Rattle.stitch_faults.specs.StitchTable.{stitchRefusal}
 
 pub t3-accepted : stitchRefusal union (editions 7 8 (7 ∷ 8 ∷ [])) (lengths 27 2 2 2 2) ≡ 0
 unfolding stitchRefusal firstOf lengthFault sizeFault sourceFault eachSlice sourceKnown startInside offsetInside eachTo placesAtMost tolerable tolerableOn allOf within absF ofBits lt le startsFault editionSame editionFault needOf needFor sumBelow weightAt codesAt

@@ -17,8 +17,8 @@ use Rattle.slice.specs.Faults.{sourceKnown}
 use Rattle.slice.specs.SliceLaws.{at-slice, at-turned, at-start, at-offset}
 use Rattle.stitch_run.specs.StitchExamples.{n2, from}
 use Rattle.stitch_run.specs.NeedIsTight.{copies, codes, numbersOf, toAndFro, copies-length, codes-at}
-use Rattle.stitch_entries.specs.StitchRows.{startsFault}
-use Rattle.stitch_entries.specs.StitchEntry.{shapeRows}
+use Rattle.stitch_faults.specs.StitchRows.{startsFault}
+use Rattle.stitch_faults.specs.StitchTable.{shapeRows}
 
 numbers-length : (n : ℕ) → length (numbersOf n) ≡ 6 * n
 unfolding numbersOf

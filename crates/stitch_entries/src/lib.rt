@@ -1,4 +1,3 @@
 // The stitch by tolerances: what is refused, then one call down. `mask_stitch` is this call with the tolerances of a setting (`named_entries`), and a replay makes it with those of its record.
 pub mod answer;
-pub mod faults;
 pub mod stitching;

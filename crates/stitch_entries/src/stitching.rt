@@ -5,14 +5,15 @@ ghost use Rattle.basis.specs.Refuse.{firstFrom};
 ghost use Rattle.stitch_run.specs.Stitch.{given, planOf};
 ghost use Rattle.stitch.specs.Lent.{lists};
 ghost use Rattle.slice.specs.Editions.{editions};
-ghost use Rattle.stitch_entries.specs.StitchEntry.{inputRows, stitchRefusal, StitchLeft};
+ghost use Rattle.stitch_entries.specs.StitchEntry.{StitchLeft};
+ghost use Rattle.stitch_faults.specs.StitchTable.{inputRows, stitchRefusal};
 use crate::answer;
 use crate::answer::StitchAnswer;
-use crate::faults;
-use crate::faults::Lengths;
 use basis::number::Tolerance;
 use select::class::Starts;
 use slice::edition;
+use stitch_faults::faults;
+use stitch_faults::faults::Lengths;
 use stitch_lists::write;
 use stitch_run::plan::Plan;
 

@@ -1,2 +1,1 @@
-pub mod AlikeLaws
 pub mod RowLaws

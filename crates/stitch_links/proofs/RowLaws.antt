@@ -9,14 +9,16 @@ use lib.Ieee.{Float}
 use Rattle.select.specs.Select.{noNumber}
 use Rattle.stitch_cell.specs.CellLaws.{cell-under}
 use Rattle.stitch_cell.specs.Lower.{lesserOf}
-use Rattle.stitch_links.specs.declared.layout.Layout.{Layout}
-use Rattle.stitch_links.specs.declared.look.Query.{Query}
+use Rattle.stitch_layout.specs.declared.layout.Layout.{Layout}
+use Rattle.stitch_layout.specs.declared.layout.Query.{Query}
 use Rattle.stitch_links.specs.declared.look.Cells.{Cells}
 use Rattle.stitch_run.specs.Run.{free}
-use Rattle.stitch_links.specs.Slices.{listOf, homeOf, meetsOf, hitOf, cellsOf}
-use Rattle.stitch_links.specs.Links.{Linked, Found, Looked, Block}
+use Rattle.stitch_layout.specs.Slices.{listOf, homeOf, meetsOf}
+use Rattle.stitch_links.specs.Looks.{hitOf, cellsOf}
+use Rattle.stitch_layout.specs.Links.{Linked}
+use Rattle.stitch_links.specs.Looks.{Found, Looked, Block}
 use Rattle.stitch_links.specs.Ready.{Lookable, OnList, Row, Rows, Asked, Lowest}
-use Rattle.stitch_links.specs.LoopLaws.{list-under}
+use Rattle.stitch_layout.specs.PuttingLaws.{list-under}
 use Rattle.stitch_links.specs.BlockLaws.{found-none, found-of, found-cell, found-above, found-beside, block-lowest}
 
 module _ (points : List Float) (visited : List Bool) (w : Layout) (q : Query) where

@@ -14,13 +14,14 @@ use Rattle.select.specs.Select.{noNumber}
 use Rattle.basis.specs.Choice.{by-test, clash, and-left, and-right}
 use Rattle.stitch_cell.specs.Lower.{lesserOf}
 use Rattle.stitch_cell.specs.CellLaws.{cell-mono, cell-under}
-use Rattle.stitch_links.specs.declared.layout.Layout.{Layout}
-use Rattle.stitch_links.specs.declared.look.Query.{Query}
+use Rattle.stitch_layout.specs.declared.layout.Layout.{Layout}
+use Rattle.stitch_layout.specs.declared.layout.Query.{Query}
 use Rattle.stitch_links.specs.declared.look.Cells.{Cells}
 use Rattle.stitch_run.specs.Run.{free}
-use Rattle.stitch_links.specs.Slices.{xOf, yOf, groupOf, listOf, columnOf, lineOf, homeOf, startsIn, meetsOf, hitOf, lowestOf, cellsOf}
-use Rattle.stitch_links.specs.Links.{Found, Block}
-use Rattle.stitch_links.specs.Ready.{Fit}
+use Rattle.stitch_layout.specs.Slices.{xOf, yOf, groupOf, listOf, columnOf, lineOf, homeOf, startsIn, meetsOf}
+use Rattle.stitch_links.specs.Looks.{hitOf, lowestOf, cellsOf}
+use Rattle.stitch_links.specs.Looks.{Found, Block}
+use Rattle.stitch_layout.specs.Ready.{Fit}
 
 module _ (hit : ℕ → Bool) (n : ℕ) where
   pub found-none : (C : ℕ → Type 0) → ((j : ℕ) → C j → ⊥) → Found hit C n noNumber

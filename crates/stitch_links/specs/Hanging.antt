@@ -9,10 +9,10 @@ use lib.Ieee.{Float}
 use Rattle.basis.specs.Sizes.{mostSlices}
 use Rattle.select.specs.declared.class.Starts.{Starts}
 use Rattle.stitch_run.specs.declared.plan.Plan.{Plan}
-use Rattle.stitch_links.specs.declared.layout.Layout.{Layout}
-use Rattle.stitch_links.specs.Slices.{homeOf, meetsOf}
-use Rattle.stitch_links.specs.Links.{Linked, everFree}
-use Rattle.stitch_links.specs.Ready.{Empty}
+use Rattle.stitch_layout.specs.declared.layout.Layout.{Layout}
+use Rattle.stitch_layout.specs.Slices.{homeOf, meetsOf}
+use Rattle.stitch_layout.specs.Links.{Linked, everFree}
+use Rattle.stitch_layout.specs.Ready.{Empty}
 use Rattle.stitch_links.specs.Hung.{Laid, Between, hung-fresh}
 
 pub record FarFit (points : List Float) (n : ℕ) : Type 0 where

@@ -11,10 +11,11 @@ use Rattle.select.specs.declared.class.Starts.{Starts}
 use Rattle.stitch_run.specs.declared.plan.Plan.{Plan}
 use Rattle.stitch_run.specs.Run.{free}
 use Rattle.stitch_cell.specs.Cell.{Steady}
-use Rattle.stitch_links.specs.declared.layout.Layout.{Layout}
-use Rattle.stitch_links.specs.Slices.{homeOf, meetsOf}
-use Rattle.stitch_links.specs.Links.{Linked, everFree}
-use Rattle.stitch_links.specs.Ready.{ScanFit, Fit}
+use Rattle.stitch_layout.specs.declared.layout.Layout.{Layout}
+use Rattle.stitch_layout.specs.Slices.{homeOf, meetsOf}
+use Rattle.stitch_layout.specs.Links.{Linked, everFree}
+use Rattle.stitch_links.specs.Ready.{ScanFit}
+use Rattle.stitch_layout.specs.Ready.{Fit}
 use Rattle.stitch_links.specs.LinkLaws.{linked-fresh, linked-visit, linked-begin}
 
 -- the layout is of these slices

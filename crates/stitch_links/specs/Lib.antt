@@ -1,5 +1,4 @@
-pub mod Slices
-pub mod Links
+pub mod Looks
 pub mod Ready
 pub mod LinkLaws
 pub mod LoopLaws

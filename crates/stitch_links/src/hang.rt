@@ -1,12 +1,12 @@
 // The slices of a stitch, put on lists: their layout, and every slice on its list.
 ghost use Rattle.stitch_links.specs.Hanging.{FarFit, Laying, LaidBy, Hangable, Hanged};
-use crate::layout;
-use crate::layout::Layout;
 use basis::number;
 use basis::number::Tolerance;
 use outline::point::Point;
 use outline::read;
 use stitch_cell::cell;
+use stitch_layout::layout;
+use stitch_layout::layout::Layout;
 use stitch_run::plan::Plan;
 
 // How far each axis is moved.

@@ -2,26 +2,19 @@
 ghost use mathlib.Core.Path.{_≡_};
 ghost use Prim.Native.Nat.{_+_};
 ghost use Rattle.stitch_run.specs.Run.{free};
-ghost use Rattle.stitch_links.specs.Slices.{homeOf, startsIn, meetsOf, hitOf, cellsOf, queryOf};
-ghost use Rattle.stitch_links.specs.Links.{Looked, Block};
-ghost use Rattle.stitch_links.specs.Ready.{There, Marked, OnList, Row, Rows, Sides, Asked, Lowest};
-use crate::layout;
-use crate::layout::Layout;
+ghost use Rattle.stitch_layout.specs.Slices.{homeOf, startsIn, meetsOf};
+ghost use Rattle.stitch_links.specs.Looks.{hitOf, cellsOf, queryOf};
+ghost use Rattle.stitch_links.specs.Looks.{Looked, Block};
+ghost use Rattle.stitch_links.specs.Ready.{Marked, OnList, Row, Rows, Sides, Asked, Lowest};
+ghost use Rattle.stitch_layout.specs.Ready.{There};
 use basis::number::Tolerance;
 use outline::point::Point;
 use select::best::NO_NUMBER;
 use stitch_cell::cell;
 use stitch_cell::lower;
-
-// What is looked for: starts in a box, slices of a group, unvisited or the chain's first.
-pub struct Query {
-    pub left: f64,
-    pub right: f64,
-    pub bottom: f64,
-    pub top: f64,
-    pub group: usize,
-    pub first: usize,
-}
+use stitch_layout::layout;
+use stitch_layout::layout::Layout;
+use stitch_layout::layout::Query;
 
 // The cells of a box's sides.
 pub struct Cells {

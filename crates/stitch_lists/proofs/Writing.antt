@@ -11,16 +11,16 @@ use lib.Ieee.{Float}
 use Rattle.basis.specs.Number.{+0}
 use Rattle.basis.specs.Sizes.{mostSlices}
 use Rattle.basis.specs.Room.{roomOf, cleared}
-use Rattle.stitch.specs.declared.turn.Tally.{Tally}
+use Rattle.stitch_tally.specs.declared.tally.Tally.{Tally}
 use Rattle.stitch_run.specs.declared.plan.Plan.{Plan}
 use Rattle.stitch_run.specs.Stitch.{Given, given, rulesOf, runOf, needOf, roundCount, loopCount, chainCount, roomItems, endItems, chainItems, chainEndItems, howItems}
 use Rattle.slice.specs.Slice.{sliceView}
 use Rattle.stitch_run.specs.RunLaws.{same-length}
 use Rattle.stitch_run.specs.StitchLaws.{among}
 use Rattle.stitch_run.specs.Demand3Theorems.{room-items, end-items, chain-items, how-items, chains-at-most, loops-at-most}
-use Rattle.stitch_links.specs.declared.layout.Layout.{Layout}
+use Rattle.stitch_layout.specs.declared.layout.Layout.{Layout}
 use Rattle.stitch_links.specs.Hanging.{Hanged, hanged-between}
-use Rattle.stitch_round.specs.Ready.{Points}
+use Rattle.stitch_slices.specs.Ready.{Points}
 use Rattle.stitch_chain.specs.Ready.{Begun}
 use Rattle.stitch.specs.Lent.{Lists, TurnsFit, AllTurned, NeedFit, RestFit, RestCleared, StitchFit, Few, Tabled, Written}
 

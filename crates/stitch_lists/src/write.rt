@@ -4,12 +4,12 @@ ghost use Rattle.stitch.specs.Lent.{lists, RestFit, RestCleared, StitchFit, Few
 use basis::room;
 use basis::sizes::MOST_SLICES;
 use stitch::turn;
-use stitch::turn::Tally;
 use stitch::write;
 use stitch::write::Stitched;
 use stitch_links::hang;
-use stitch_round::slices;
 use stitch_run::plan::Plan;
+use stitch_slices::slices;
+use stitch_tally::tally::Tally;
 
 // Sets each list to zero behind what was written, up to its need.
 fn clear_rest(

@@ -1,3 +1,2 @@
-pub mod Slicing
 pub mod Scanning
 pub mod Rounding

@@ -15,7 +15,7 @@ use Rattle.select.specs.declared.best.Selected.the-variants.{Slice, NoSlice}
 use Rattle.stitch_vertices.specs.Held.{chainOf}
 use Rattle.stitch_vertices.specs.RestLaws.{chain-length, chain-last}
 use Rattle.stitch_run.specs.declared.plan.Plan.{Plan}
-use Rattle.stitch_links.specs.declared.layout.Layout.{Layout}
+use Rattle.stitch_layout.specs.declared.layout.Layout.{Layout}
 use Rattle.stitch_answer.specs.declared.answer.Answer.{Answer}
 use Rattle.stitch_answer.specs.declared.answer.Answer.the-variants.{NoCandidate, Asked}
 use Rattle.stitch_answer.specs.Answer.{nearEnd, answerOf, answerAt, Asking, Answered}
@@ -24,7 +24,8 @@ use Rattle.stitch_round.specs.declared.step.Step.the-variants.{Onto, End
 use Rattle.stitch_run.specs.Run.{Rules, onto, ends, closed, tooSmall, passing, free, candidate, candidatesOf, taken, answered, asked, nextOf}
 use Rattle.stitch_run.specs.Stitch.{given, Given, rulesOf, offersTo, howOf}
 use Rattle.stitch_run.specs.TallyLaws.{passing-same}
-use Rattle.stitch_round.specs.Ready.{Points, toldOf, stepOf, comesTo, RoundFit, standing, Rounded}
+use Rattle.stitch_round.specs.Ready.{toldOf, stepOf, comesTo, RoundFit, standing, Rounded}
+use Rattle.stitch_slices.specs.Ready.{Points}
 
 -- the outcome of each answer
 module _ (n first : ℕ) (a : Answer) where

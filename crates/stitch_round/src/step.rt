@@ -11,17 +11,12 @@ use outline::read;
 use select::best::Selected;
 use stitch_answer::answer;
 use stitch_answer::answer::Answer;
-use stitch_links::layout::Layout;
+use stitch_layout::layout::Layout;
 use stitch_run::plan::Plan;
-
-// How a chain ended.
-pub const CLOSED: usize = 0;
-
-pub const TOO_SMALL: usize = 1;
-
-pub const NO_CANDIDATE: usize = 2;
-
-pub const NO_SELECTION: usize = 3;
+use stitch_tally::tally::CLOSED;
+use stitch_tally::tally::NO_CANDIDATE;
+use stitch_tally::tally::NO_SELECTION;
+use stitch_tally::tally::TOO_SMALL;
 
 // The outcome of a round: another slice is joined, or the chain ends.
 pub enum Step {

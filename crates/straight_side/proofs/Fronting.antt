@@ -1,14 +1,12 @@
--- Laws by which one outline's slices are found: the cuts and the other outline in front of their lists, lists of three sizes.
+-- Laws by which one outline's slices are found: the cuts and the other outline in front of their lists.
 use Prim.Native.Nat.{ℕ, _+_, _*_, _≤_}
 use mathlib.Core.Path.{_≡_, sym, ap, subst, _∙_}
-use mathlib.Core.Bool.{Bool, true, false, true≢false}
 use mathlib.Core.List.{List}
 use native.Mathlib.Omega.{arith}
 use lib.ListN.{length, take, length-take}
 use lib.IntN.{ℤ, pos}
 use lib.Ieee.{Float}
 use Rattle.basis.specs.Number.{+0}
-use Rattle.basis.specs.Sizes.{mostCandidates}
 use Rattle.basis.specs.Room.{roomOf}
 use Rattle.basis.specs.RoomLaws.{room-front}
 use Rattle.cut.specs.Cuts.{Given, given, cutCount}
@@ -21,7 +19,7 @@ use Rattle.candidate_entries.specs.CandidatesLaws.{along-sound}
 use Rattle.slice.specs.Slice as slice
 use Rattle.slice.specs.Ready.{Rooms}
 use Rattle.prune.specs.Prune.{keptTo}
-use Rattle.prune_write.specs.Ready.{Wrote}
+use Rattle.prune_put.specs.Ready.{Wrote}
 use Rattle.prune_write.specs.WriteLaws.{kept-few}
 use Rattle.straight_cut.specs.Microdegrees.{readable, wholesOf, WholesRoom}
 use Rattle.straight_cut.specs.MicrodegreesLaws.{wholes-close, wholes-length}
@@ -29,15 +27,13 @@ use Rattle.straight_cut.specs.Splits.{straightSplits, straightGiven}
 use Rattle.straight_cut.specs.SplitsLaws.{splits-length}
 use Rattle.straight_cut.specs.ProbeLaws.{probe-known}
 use Rattle.straight_side.specs.declared.keeping.Side.{Side}
-use Rattle.straight_side.specs.Side.{alongStraight, sideCount, sideCands, staysTo}
-use Rattle.straight_side.specs.Ready.{PlacesRoom, FrontsRoom, KeptRoom, KeptWith, KeptFew, Fits, Kept}
+use Rattle.straight_along.specs.Stays.{staysTo}
+use Rattle.straight_along.specs.Ready.{PlacesRoom, FrontsRoom}
+use Rattle.straight_side.specs.Side.{alongStraight, sideCount, sideCands}
+use Rattle.straight_side.specs.Ready.{KeptWith, Kept}
 use Rattle.straight_side.proofs.Staying.{stays-kept}
 
--- the front of a list is as long as it is said to be
-pub front-length : {A : Type 0} (n : ℕ) (l : List A) → n ≤ length l → n ≡ length (take n l)
-front-length n l h = simp length-take (omega arith)
-
--- and a list is no shorter than a front of it
+-- a list is no shorter than a front of it
 front-long : {A : Type 0} (n : ℕ) (l : List A) → length (take n l) ≡ n → n ≤ length l
 front-long n l e = omega (arith, simp length-take at e)
 
@@ -107,26 +103,3 @@ module _ (o : List Float) (ha : List ℕ) (h : List Float) (la : List ℕ) (l : 
           size-shape = p .size-shape;
           size-edition = p .size-edition;
         }
-
--- ---- lists for so many cuts and vertices are enough for a call that has no more, and the largest lists for every call
-module _ (g : Given) (other : List Float) (side : Side) (sorted cutAt : List ℕ) (cut : List Float) (wholes : List ℤ) (room : Rooms) where
-  pub few-lists : (cuts vertices : ℕ) → KeptFew cuts vertices g other side room → length sorted ≡ cuts → length cutAt ≡ 3 * cuts → length cut ≡ 2 * cuts → length wholes ≡ 2 * vertices
-      → KeptWith g other side sorted cutAt cut wholes room
-  few-lists cuts vertices f a b c d =
-      let h = f .fewCuts in
-      let k = f .fewVertices in
-      record { ok = f .ok; sortedLong = omega arith; numberRoom = omega arith; pointRoom = omega arith; wholesRoom = omega arith }
-
-  pub most-lists : KeptRoom g other side room → length sorted ≡ mostCandidates → length cutAt ≡ 3 * mostCandidates → length cut ≡ 2 * mostCandidates → length wholes ≡ 2048 → KeptWith g other side sorted cutAt cut wholes room
-  most-lists ok =
-      let h = ok .both .accepted .ready .fewHits in
-      let k = ok .both .accepted .ready .fewLaps in
-      few-lists mostCandidates 1024 (record { ok = ok; fewCuts = omega arith; fewVertices = ok .both .whole .most })
-
--- ---- the test of the sizes
-pub fits-no : (side : Side) (cuts vertices : ℕ) → Fits side cuts vertices false
-fits-no side cuts vertices = record { fewCuts = λ e. absurd (true≢false (sym e)); fewVertices = λ e. absurd (true≢false (sym e)) }
-
-pub few-fits : (o : List Float) (ha : List ℕ) (h : List Float) (la : List ℕ) (l : List Float) (other : List Float) (side : Side) (room : Rooms) (cuts vertices : ℕ) (r : Bool)
-    → KeptRoom (given o ha h la l (side .cuts)) other side room → Fits side cuts vertices r → r ≡ true → KeptFew cuts vertices (given o ha h la l (side .cuts)) other side room
-few-fits o ha h la l other side room cuts vertices r k f e = record { ok = k; fewCuts = f .fewCuts e; fewVertices = f .fewVertices e }

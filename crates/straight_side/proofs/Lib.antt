@@ -1,3 +1,2 @@
 pub mod Staying
-pub mod Walking
 pub mod Fronting

@@ -28,7 +28,8 @@ use Rattle.prune.specs.Prune.{Cands, cands, candCodes, candSlice, keptTo}
 use Rattle.straight_cut.specs.Microdegrees.{wholesOf}
 use Rattle.straight_cut.specs.Inside.{insideOf, insidesOf}
 use Rattle.straight_cut.specs.InsideLaws.{insides-at}
-use Rattle.straight_side.specs.Side.{alongStraight, sideCount, sideCands, viewCodes, viewShape, staysOf, staysTo}
+use Rattle.straight_along.specs.Stays.{viewCodes, viewShape, staysOf, staysTo}
+use Rattle.straight_side.specs.Side.{alongStraight, sideCount, sideCands}
 
 -- ---- a list with an item behind it: before the seam nothing is new, behind it stands the item
 seam : {A : Type 0} (xs ys : List A) (k j i : ℕ) (d : A) → length xs ≡ k → i ≡ k + j → getD (xs ++ ys) i d ≡ getD ys j d

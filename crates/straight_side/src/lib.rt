@@ -1,3 +1,2 @@
-// One outline of the one call for straight masks (document 02, K11): its candidates by straight splits, their inside answers in the other outline, and those that stay as slices.
-mod along;
+// One outline of the one call for straight masks (document 02, K11): its cuts in order, the other outline in whole microdegrees, and the slices that stay.
 pub mod keeping;

@@ -11,7 +11,8 @@ use Rattle.prune.specs.declared.mode.Parts.{Parts}
 use Rattle.prune.specs.declared.counts.Ends.{Ends}
 use Rattle.prune.specs.declared.counts.Pruned.{Pruned}
 use Rattle.prune.specs.Prune.{keptTo, partsFor, overlaps}
-use Rattle.prune_write.specs.Ready.{Wrote, BothWritten, FinishFit, Finished, WrittenTo}
+use Rattle.prune_write.specs.Ready.{BothWritten, FinishFit, Finished, WrittenTo}
+use Rattle.prune_put.specs.Ready.{Wrote}
 use Rattle.prune_write.specs.WriteLaws.{both-of, written-to}
 use Rattle.straight_side.specs.declared.keeping.Side.{Side}
 use Rattle.straight_side.specs.Side.{alongStraight, sideCount}

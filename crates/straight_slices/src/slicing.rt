@@ -13,8 +13,8 @@ use prune::counts::Pruned;
 use prune::mode;
 use prune::mode::Part;
 use prune_write::write;
+use straight_kept::keeping::kept;
 use straight_side::keeping::Side;
-use straight_side::keeping::kept;
 
 // The turn of outline 1: its slices stand in front.
 fn first_side(job: Job, part: Part) -> Side

@@ -2,7 +2,7 @@
 use crate::words;
 use outline::point::Point;
 use outline::point::Vertex;
-use verdict_entries::answer::VerdictAnswer;
+use verdict_answer::answer::VerdictAnswer;
 use view_entries::answer::ViewAnswer;
 use view_entries::input::Split;
 use view_entries::input::View;

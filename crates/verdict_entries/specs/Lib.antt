@@ -1,4 +1,3 @@
-pub mod VerdictAnswers
 pub mod ValidateEntry
 pub mod ReopenEntry
 pub mod ReopenTheorems

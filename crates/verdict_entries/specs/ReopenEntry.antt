@@ -8,9 +8,9 @@ use lib.Dec.{eqb}
 use lib.Ieee.{Float}
 use Rattle.basis.specs.Refuse.{answer}
 use Rattle.view_entries.specs.declared.input.View.{View}
-use Rattle.verdict_entries.specs.declared.answer.VerdictAnswer.{VerdictAnswer}
-use Rattle.verdict_entries.specs.declared.answer.ReopenAnswer.{ReopenAnswer}
-use Rattle.verdict_entries.specs.VerdictAnswers.{verdictRefused, reopenRecord}
+use Rattle.verdict_answer.specs.declared.answer.VerdictAnswer.{VerdictAnswer}
+use Rattle.verdict_answer.specs.declared.answer.ReopenAnswer.{ReopenAnswer}
+use Rattle.verdict_answer.specs.VerdictAnswers.{verdictRefused, reopenRecord}
 use Rattle.verdict_entries.specs.ValidateEntry.{askRefusal, verdictAnswered}
 
 -- "only "valid" gives the slice the new edition": valid is 7

@@ -14,8 +14,8 @@ use Rattle.view.specs.ViewExamples.{two, at, straight}
 use Rattle.verdict.specs.Validate.{nearSegment, onSegment, bulgeVerdict, finalVerdict, endVerdict, endIndex, startVerdict, verdictOf}
 use Rattle.view_entries.specs.declared.input.View.{View}
 use Rattle.view_entries.specs.Answers.{noPoint, noVertex}
-use Rattle.verdict_entries.specs.declared.answer.VerdictAnswer.{VerdictAnswer}
-use Rattle.verdict_entries.specs.VerdictAnswers.{verdictRecord, verdictRefused, verdictGiven, reopenRecord}
+use Rattle.verdict_answer.specs.declared.answer.VerdictAnswer.{VerdictAnswer}
+use Rattle.verdict_answer.specs.VerdictAnswers.{verdictRecord, verdictRefused, verdictGiven, reopenRecord}
 use Rattle.verdict_entries.specs.ValidateEntry.{startFault, askRefusal, validateRefusal, validateAnswer}
 use Rattle.verdict_entries.specs.ReopenEntry.{newEdition, reopenAnswer}
 

@@ -15,9 +15,9 @@ use Rattle.verdict.specs.Validate.{verdictOf}
 use Rattle.verdict.specs.ValidateTheorems.{valid-fits}
 use Rattle.view_entries.specs.declared.input.View.{View}
 use Rattle.view_entries.specs.Inputs.{viewData}
-use Rattle.verdict_entries.specs.declared.answer.VerdictAnswer.{VerdictAnswer}
-use Rattle.verdict_entries.specs.declared.answer.ReopenAnswer.{ReopenAnswer}
-use Rattle.verdict_entries.specs.VerdictAnswers.{verdictRefused, verdictGiven}
+use Rattle.verdict_answer.specs.declared.answer.VerdictAnswer.{VerdictAnswer}
+use Rattle.verdict_answer.specs.declared.answer.ReopenAnswer.{ReopenAnswer}
+use Rattle.verdict_answer.specs.VerdictAnswers.{verdictRefused, verdictGiven}
 use Rattle.verdict_entries.specs.ValidateEntry.{askRefusal, validateRefusal, verdictAnswered, validateAnswer, ask-accepted, edition-last}
 use Rattle.verdict_entries.specs.ReopenEntry.{newEdition, reopenRefused, reopenGiven, reopenAnswer}
 

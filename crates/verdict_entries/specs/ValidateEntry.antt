@@ -18,9 +18,9 @@ use Rattle.verdict.specs.declared.validate.ViewDataValidation.{ViewDataValidati
 use Rattle.view.specs.View.{viewNumbers}
 use Rattle.verdict.specs.Validate.{Asked, verdictOf}
 use Rattle.view_entries.specs.declared.input.View.{View}
-use Rattle.verdict_entries.specs.declared.answer.VerdictAnswer.{VerdictAnswer}
+use Rattle.verdict_answer.specs.declared.answer.VerdictAnswer.{VerdictAnswer}
 use Rattle.view_entries.specs.Inputs.{viewData}
-use Rattle.verdict_entries.specs.VerdictAnswers.{verdictRefused, verdictGiven}
+use Rattle.verdict_answer.specs.VerdictAnswers.{verdictRefused, verdictGiven}
 
 -- 6, of an outline that is not too short
 unfoldable pub startFault : ℕ → ℕ → Bool

@@ -1,4 +1,3 @@
 // The entries over the verdict on view data: what is refused, then one call down. The crate `mask` exports them.
-pub mod answer;
 pub mod reopen;
 pub mod validate;

@@ -1,10 +1,10 @@
 // Reopening: the verdict whatever the editions, and the edition that the slice has from then on.
 ghost use mathlib.Core.Path.{_≡_};
 ghost use Rattle.verdict_entries.specs.ReopenEntry.{newEdition, reopenRefused, reopenAnswer};
-use crate::answer;
-use crate::answer::ReopenAnswer;
 use crate::validate;
 use verdict::validate::validate_for_source;
+use verdict_answer::answer;
+use verdict_answer::answer::ReopenAnswer;
 use view_entries::input;
 use view_entries::input::View;
 

@@ -1,12 +1,12 @@
 // The entry `mask_validate_for_source`, and the refusals that it shares with `mask_reopen`.
 ghost use mathlib.Core.Path.{_≡_};
 ghost use Rattle.verdict_entries.specs.ValidateEntry.{startFault, askRefusal, validateRefusal, validateAnswer};
-use crate::answer;
-use crate::answer::VerdictAnswer;
 use basis::number;
 use basis::refuse;
 use basis::sizes;
 use verdict::validate;
+use verdict_answer::answer;
+use verdict_answer::answer::VerdictAnswer;
 use view_entries::input;
 use view_entries::input::View;
 

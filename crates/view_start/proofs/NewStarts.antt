@@ -14,12 +14,13 @@ use Rattle.view.specs.declared.create.Walk.{Walk}
 use Rattle.view.specs.declared.create.OneSegment.{OneSegment}
 use Rattle.view.specs.declared.create.OneSegment.the-variants as one
 use Rattle.view.specs.Create.{WalkFit, createView}
-use Rattle.view_start.specs.declared.span.Ends.{Ends}
-use Rattle.view_start.specs.declared.span.Span.{Span}
+use Rattle.view_span.specs.declared.span.Ends.{Ends}
+use Rattle.view_span.specs.declared.span.Span.{Span}
 use Rattle.view_start.specs.declared.slice_points.Splits.{Splits}
-use Rattle.view_start.specs.Span.{endsOf, spanOf}
+use Rattle.view_span.specs.Span.{endsOf, spanOf}
 use Rattle.view_start.specs.SlicePoints.{sliceView}
-use Rattle.view_start.specs.SpanLaws.{span-fits, round-ends, last-ends}
+use Rattle.view_span.specs.SpanLaws.{span-fits}
+use Rattle.view_start.specs.WalkLaws.{round-ends, last-ends}
 use Rattle.view_start.specs.NewStart.{roundEnds, lastEnds, roundWalk, roundView, newStartView}
 
 pub round-inside : (o : List Float) (vc i : ℕ) (p : Point) (e : Ends) (t : Tolerance) (m : Span) → Segment o vc i → e ≡ roundEnds i p → m ≡ spanOf o vc e t → m .«start_index» < vc

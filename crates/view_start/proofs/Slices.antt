@@ -16,11 +16,12 @@ use Rattle.view.specs.declared.create.Walk.{Walk}
 use Rattle.view.specs.declared.create.OneSegment.{OneSegment}
 use Rattle.view.specs.declared.create.OneSegment.the-variants as one
 use Rattle.view.specs.Create.{nearVertex, createView}
-use Rattle.view_start.specs.declared.span.Ends.{Ends}
-use Rattle.view_start.specs.declared.span.Span.{Span}
+use Rattle.view_span.specs.declared.span.Ends.{Ends}
+use Rattle.view_span.specs.declared.span.Span.{Span}
 use Rattle.view_start.specs.declared.slice_points.Splits.{Splits}
-use Rattle.view_start.specs.Span.{SpanFit, spanOf}
-use Rattle.view_start.specs.SpanLaws.{span-fits, walk-fits}
+use Rattle.view_span.specs.Span.{SpanFit, spanOf}
+use Rattle.view_span.specs.SpanLaws.{span-fits}
+use Rattle.view_start.specs.WalkLaws.{walk-fits}
 use Rattle.view_start.specs.SlicePoints.{runningVertex, walkFrom, walkOver, collapses, walkedView, slicedView, sliceView}
 
 module _ (o : List Float) (vc : ℕ) (e : Ends) (s : Span) where

@@ -12,9 +12,9 @@ use Rattle.outline.specs.declared.point.Vertex.{Vertex}
 use Rattle.outline.specs.Outline.{Segment}
 use Rattle.view.specs.declared.create.OneSegment.the-variants as one
 use Rattle.view.specs.Create.{nearVertex, bulgeBefore, createView}
-use Rattle.view_start.specs.declared.span.Ends.{Ends}
+use Rattle.view_span.specs.declared.span.Ends.{Ends}
 use Rattle.view_start.specs.declared.slice_points.Splits.{Splits}
-use Rattle.view_start.specs.Span.{spanOf}
+use Rattle.view_span.specs.Span.{spanOf}
 use Rattle.view_start.specs.SlicePoints.{runningVertex, walkOver, collapses, walkedView, slicedView, sliceView}
 use Rattle.view_start.specs.NewStart.{roundEnds, roundView, newStartView}
 use Rattle.view_start.specs.StartTheorems.{startOf, round-on-vertex, view-fields}

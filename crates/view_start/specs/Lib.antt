@@ -1,8 +1,7 @@
-pub mod Span
 pub mod SlicePoints
 pub mod NewStart
 pub mod Asked
-pub mod SpanLaws
+pub mod WalkLaws
 pub mod SpanTheorems
 pub mod StartTheorems
 pub mod AskedTheorems

@@ -12,9 +12,9 @@ use Rattle.view.specs.declared.create.Walk.{Walk}
 use Rattle.view.specs.declared.create.OneSegment.{OneSegment}
 use Rattle.view.specs.declared.create.OneSegment.the-variants as one
 use Rattle.view.specs.Create.{createView}
-use Rattle.view_start.specs.declared.span.Ends.{Ends}
+use Rattle.view_span.specs.declared.span.Ends.{Ends}
 use Rattle.view_start.specs.declared.slice_points.Splits.{Splits}
-use Rattle.view_start.specs.Span.{endsOf, spanOf}
+use Rattle.view_span.specs.Span.{endsOf, spanOf}
 use Rattle.view_start.specs.SlicePoints.{sliceView}
 
 -- a closed outline is walked from the point to the point

@@ -12,10 +12,10 @@ use Rattle.view.specs.declared.create.Walk.{Walk}
 use Rattle.view.specs.declared.create.OneSegment.{OneSegment}
 use Rattle.view.specs.declared.create.OneSegment.the-variants as one
 use Rattle.view.specs.Create.{nearVertex, createView, singleView}
-use Rattle.view_start.specs.declared.span.Ends.{Ends}
-use Rattle.view_start.specs.declared.span.Span.{Span}
+use Rattle.view_span.specs.declared.span.Ends.{Ends}
+use Rattle.view_span.specs.declared.span.Span.{Span}
 use Rattle.view_start.specs.declared.slice_points.Splits.{Splits}
-use Rattle.view_start.specs.Span.{spanOf}
+use Rattle.view_span.specs.Span.{spanOf}
 
 -- the vertex that the view runs on from: a start that moved is on the outline's own vertex, any other is split off at the start point
 unfoldable pub runningVertex : List Float → ℕ → Span → Vertex → Vertex

@@ -14,9 +14,9 @@ use Rattle.outline.specs.Points.{posOf, pointsAgree}
 use Rattle.outline.specs.Outline.{vertexAt, wrap, outlineAt}
 use Rattle.outline.specs.OutlineLaws.{wrap-lt, wrap-same, wrap-less}
 use Rattle.view.specs.Create.{nearVertex}
-use Rattle.view_start.specs.declared.span.Ends.{Ends}
-use Rattle.view_start.specs.Span.{EndsFit, canMove, movesOn, startIndex, ahead, decided, startNearer, traverse, spanOf}
-use Rattle.view_start.specs.SpanLaws.{start-lt, ahead-lt, span-fits}
+use Rattle.view_span.specs.declared.span.Ends.{Ends}
+use Rattle.view_span.specs.Span.{EndsFit, canMove, movesOn, startIndex, ahead, decided, startNearer, traverse, spanOf}
+use Rattle.view_span.specs.SpanLaws.{start-lt, ahead-lt, span-fits}
 
 -- one index is at most another, or it is above it
 by-order : {P : Type 0} (a b : ℕ) → (a ≤ b → P) → (b < a → P) → P

@@ -15,9 +15,9 @@ use Rattle.view.specs.declared.data.ViewData.{ViewData}
 use Rattle.view.specs.declared.create.OneSegment.{OneSegment}
 use Rattle.view.specs.declared.create.OneSegment.the-variants.{View, Collapsed}
 use Rattle.view.specs.Create.{viewOf, nearVertex, bulgeBefore, createView, singleView, entireOffset, entireView}
-use Rattle.view_start.specs.declared.span.Ends.{Ends}
-use Rattle.view_start.specs.declared.span.Span.{Span}
-use Rattle.view_start.specs.Span.{endsOf, canMove, movesOn, startIndex, ahead, decided, startNearer, traverse, spanWith, spanOf}
+use Rattle.view_span.specs.declared.span.Ends.{Ends}
+use Rattle.view_span.specs.declared.span.Span.{Span}
+use Rattle.view_span.specs.Span.{endsOf, canMove, movesOn, startIndex, ahead, decided, startNearer, traverse, spanWith, spanOf}
 use Rattle.view_start.specs.SlicePoints.{runningVertex, walkOver, collapses, walkedView, slicedView, sliceView}
 use Rattle.view_start.specs.NewStart.{newEnds, roundView, newStartView}
 use Rattle.view_start.specs.Asked.{Asked, Parts, endAsked, handedIn}

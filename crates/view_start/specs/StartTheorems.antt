@@ -25,11 +25,12 @@ use Rattle.view.specs.declared.create.OneSegment.the-variants as one
 use Rattle.view.specs.View.{Fit, vertexOf, viewNumbers}
 use Rattle.view.specs.Create.{WalkFit, viewOf, nearVertex, bulgeBefore, createView, singleView, entireOffset, entireView}
 use Rattle.view.specs.ViewTheorems.{OneBulge, forward-first, forward-inner, forward-last, forward-beyond, create-on-vertex, create-between, create-fits, create-bulges, outline-passes, place-passes, create-numbers, single-fits, single-bulges, single-numbers}
-use Rattle.view_start.specs.declared.span.Ends.{Ends}
-use Rattle.view_start.specs.declared.span.Span.{Span}
+use Rattle.view_span.specs.declared.span.Ends.{Ends}
+use Rattle.view_span.specs.declared.span.Span.{Span}
 use Rattle.view_start.specs.declared.slice_points.Splits.{Splits}
-use Rattle.view_start.specs.Span.{EndsFit, canMove, movesOn, startIndex, ahead, decided, traverse, spanWith, spanOf}
-use Rattle.view_start.specs.SpanLaws.{ahead-lt, span-fits, walk-fits, last-ends, round-ends}
+use Rattle.view_span.specs.Span.{EndsFit, canMove, movesOn, startIndex, ahead, decided, traverse, spanWith, spanOf}
+use Rattle.view_span.specs.SpanLaws.{ahead-lt, span-fits}
+use Rattle.view_start.specs.WalkLaws.{walk-fits, last-ends, round-ends}
 use Rattle.view_start.specs.SlicePoints.{runningVertex, walkFrom, walkOver, collapses, walkedView, slicedView, sliceView}
 use Rattle.view_start.specs.NewStart.{roundEnds, lastEnds, roundWalk, roundView, newStartView}
 use Rattle.view_start.specs.SpanTheorems.{ahead-up, ahead-arrives, ahead-none, span-starts, moved-stands}

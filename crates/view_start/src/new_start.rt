@@ -4,8 +4,6 @@ ghost use Rattle.outline.specs.Outline.{Whole, Segment};
 ghost use Rattle.view_start.specs.NewStart.{roundEnds, lastEnds, roundView, newStartView};
 use crate::slice_points;
 use crate::slice_points::Splits;
-use crate::span;
-use crate::span::Ends;
 use basis::number::Tolerance;
 use outline::point;
 use outline::point::Point;
@@ -14,6 +12,8 @@ use view::create;
 use view::create::OneSegment;
 use view::create::Walk;
 use view::data::ViewData;
+use view_span::span;
+use view_span::span::Ends;
 
 // From the point all the way round to the point.
 fn round_ends(i: usize, p: Point) -> Ends

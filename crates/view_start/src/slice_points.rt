@@ -2,11 +2,8 @@
 ghost use mathlib.Core.Path.{_≡_};
 ghost use Rattle.outline.specs.Outline.{Near};
 ghost use Rattle.view.specs.Create.{WalkFit};
-ghost use Rattle.view_start.specs.Span.{EndsFit, SpanFit};
+ghost use Rattle.view_span.specs.Span.{EndsFit, SpanFit};
 ghost use Rattle.view_start.specs.SlicePoints.{runningVertex, walkOver, collapses, walkedView, slicedView, sliceView};
-use crate::span;
-use crate::span::Ends;
-use crate::span::Span;
 use basis::number::Tolerance;
 use outline::point;
 use outline::point::Vertex;
@@ -14,6 +11,9 @@ use outline::read;
 use view::create;
 use view::create::OneSegment;
 use view::create::Walk;
+use view_span::span;
+use view_span::span::Ends;
+use view_span::span::Span;
 
 // Of the host's two splits what is used: of the start's the first part's bulge and the split vertex, of the end's the first part.
 pub struct Splits {

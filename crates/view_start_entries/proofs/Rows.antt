@@ -5,7 +5,7 @@ use mathlib.Core.Path.{_≡_}
 use mathlib.Core.List.{[], _∷_}
 use lib.Dec.{ltb}
 use Rattle.basis.specs.Refuse.{row, orElse, firstFrom}
-use Rattle.view_start.specs.declared.span.Ends.{Ends}
+use Rattle.view_span.specs.declared.span.Ends.{Ends}
 use Rattle.view_start_entries.specs.StartRows.{backFault}
 
 -- a part of one row

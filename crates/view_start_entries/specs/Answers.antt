@@ -1,7 +1,7 @@
 -- The flat answer of the span's entry. "A refusal returns its number and zero counts": all other fields are 0.
 use Prim.Native.Nat.{ℕ}
 use Rattle.basis.specs.Choice.{codeOf}
-use Rattle.view_start.specs.declared.span.Span.{Span}
+use Rattle.view_span.specs.declared.span.Span.{Span}
 use Rattle.view_start_entries.specs.declared.answer.SpanAnswer.{SpanAnswer}
 
 abbrev pub spanRefused : ℕ → SpanAnswer

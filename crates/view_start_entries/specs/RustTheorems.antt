@@ -20,11 +20,12 @@ use Rattle.view.specs.declared.create.Walk.{Walk}
 use Rattle.view.specs.declared.create.OneSegment.{OneSegment}
 use Rattle.view.specs.declared.create.OneSegment.the-variants as one
 use Rattle.view.specs.Create.{viewOf, nearVertex, bulgeBefore, createView, singleView}
-use Rattle.view_start.specs.declared.span.Ends.{Ends}
-use Rattle.view_start.specs.declared.span.Span.{Span}
+use Rattle.view_span.specs.declared.span.Ends.{Ends}
+use Rattle.view_span.specs.declared.span.Span.{Span}
 use Rattle.view_start.specs.declared.slice_points.Splits.{Splits}
-use Rattle.view_start.specs.Span.{EndsFit, endsOf, canMove, movesOn, startIndex, ahead, decided, startNearer, traverse, spanWith, spanOf}
-use Rattle.view_start.specs.SpanLaws.{start-lt, last-ends}
+use Rattle.view_span.specs.Span.{EndsFit, endsOf, canMove, movesOn, startIndex, ahead, decided, startNearer, traverse, spanWith, spanOf}
+use Rattle.view_span.specs.SpanLaws.{start-lt}
+use Rattle.view_start.specs.WalkLaws.{last-ends}
 use Rattle.view_start.specs.SlicePoints.{runningVertex, walkFrom, walkOver, collapses, walkedView, slicedView, sliceView}
 use Rattle.view_start.specs.NewStart.{roundEnds, lastEnds, newEnds, roundView, newStartView}
 use Rattle.view_start.specs.StartTheorems.{view-fields, startOf, start-below, round-on-vertex, round-between}

@@ -12,9 +12,9 @@ use Rattle.view.specs.declared.create.OneSegment.{OneSegment}
 use Rattle.view_entries.specs.declared.input.Split.{Split}
 use Rattle.view_entries.specs.declared.answer.ViewAnswer.{ViewAnswer}
 use Rattle.view_entries.specs.Answers.{viewRefused, segmentMade}
-use Rattle.view_start.specs.declared.span.Ends.{Ends}
+use Rattle.view_span.specs.declared.span.Ends.{Ends}
 use Rattle.view_start.specs.declared.slice_points.Splits.{Splits}
-use Rattle.view_start.specs.Span.{EndsFit}
+use Rattle.view_span.specs.Span.{EndsFit}
 use Rattle.view_start.specs.SlicePoints.{sliceView}
 use Rattle.view_start_entries.specs.StartRows.{splitsOf, shapeRows, splitRows, indexRows}
 use Rattle.view_start_entries.specs.SpanEntry.{pointRows}

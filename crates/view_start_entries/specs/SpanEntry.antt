@@ -10,9 +10,9 @@ use Rattle.basis.specs.Number.{allWithin}
 use Rattle.basis.specs.declared.number.Tolerance.{Tolerance}
 use Rattle.basis.specs.Refuse.{Row, row, firstOf, answer}
 use Rattle.basis.specs.RefuseLaws.{clear, length-ok, size-ok}
-use Rattle.view_start.specs.declared.span.Ends.{Ends}
-use Rattle.view_start.specs.declared.span.Span.{Span}
-use Rattle.view_start.specs.Span.{EndsFit, spanOf}
+use Rattle.view_span.specs.declared.span.Ends.{Ends}
+use Rattle.view_span.specs.declared.span.Span.{Span}
+use Rattle.view_span.specs.Span.{EndsFit, spanOf}
 use Rattle.view_start_entries.specs.declared.answer.SpanAnswer.{SpanAnswer}
 use Rattle.view_start_entries.specs.Answers.{spanRefused, spanTold}
 use Rattle.view_start_entries.specs.StartRows.{endsNumbers, shapeRows, indexRows}

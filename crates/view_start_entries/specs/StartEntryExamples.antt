@@ -12,8 +12,8 @@ use Rattle.basis.specs.Refuse.{firstOf, lengthFault, sizeFault}
 use Rattle.outline.specs.declared.point.Point.{Point}
 use Rattle.outline.specs.declared.point.Vertex.{Vertex}
 use Rattle.view_entries.specs.declared.input.Split.{Split}
-use Rattle.view_start.specs.declared.span.Ends.{Ends}
-use Rattle.view_start.specs.Span.{endsOf}
+use Rattle.view_span.specs.declared.span.Ends.{Ends}
+use Rattle.view_span.specs.Span.{endsOf}
 use Rattle.view_start_entries.specs.StartRows.{backFault}
 use Rattle.view_start_entries.specs.SpanEntry.{spanRefusal}
 use Rattle.view_start_entries.specs.SliceEntry.{sliceRefusal}

@@ -22,8 +22,8 @@ use Rattle.view.specs.View.{Fit, viewNumbers}
 use Rattle.view_entries.specs.declared.input.Split.{Split}
 use Rattle.view_entries.specs.Answers.{flatView, viewRefused, segmentMade}
 use Rattle.view_entries.specs.ViewVertex.{viewVertexRows, viewVertexRefusal}
-use Rattle.view_start.specs.declared.span.Ends.{Ends}
-use Rattle.view_start.specs.Span.{endsOf, spanOf}
+use Rattle.view_span.specs.declared.span.Ends.{Ends}
+use Rattle.view_span.specs.Span.{endsOf, spanOf}
 use Rattle.view_start.specs.SlicePoints.{sliceView}
 use Rattle.view_start.specs.NewStart.{newEnds, newStartView}
 use Rattle.view_start.specs.Asked.{Asked, Parts, startAsked, endAsked, handedIn}

@@ -10,7 +10,7 @@ use Rattle.basis.specs.declared.number.Tolerance.{Tolerance}
 use Rattle.basis.specs.Refuse.{Row, row, lengthFault, sizeFault, choiceFault}
 use Rattle.outline.specs.Points.{pointNumbers, vertexNumbers}
 use Rattle.view_entries.specs.declared.input.Split.{Split}
-use Rattle.view_start.specs.declared.span.Ends.{Ends}
+use Rattle.view_span.specs.declared.span.Ends.{Ends}
 use Rattle.view_start.specs.declared.slice_points.Splits.{Splits}
 
 -- of the start's split the first part's bulge and the split vertex, of the end's the first part

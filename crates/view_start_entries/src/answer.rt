@@ -2,7 +2,7 @@
 ghost use mathlib.Core.Path.{_≡_};
 ghost use Rattle.view_start_entries.specs.Answers.{spanRefused, spanTold};
 use view_entries::answer;
-use view_start::span::Span;
+use view_span::span::Span;
 
 #[repr(C)]
 pub struct SpanAnswer {

@@ -11,8 +11,8 @@ use basis::number::Tolerance;
 use basis::refuse;
 use outline::point::Point;
 use view_entries::input::Split;
+use view_span::span::Ends;
 use view_start::slice_points::Splits;
-use view_start::span::Ends;
 
 // Of the two splits what is used.
 pub(crate) fn splits_of(start: Split, end: Split) -> Splits

@@ -2,7 +2,7 @@
 ghost use mathlib.Core.Path.{_≡_};
 ghost use lib.Dec.{eqb};
 ghost use Rattle.basis.specs.Number.{toleranceOf};
-ghost use Rattle.view_start.specs.Span.{endsOf};
+ghost use Rattle.view_span.specs.Span.{endsOf};
 ghost use Rattle.view_start_entries.specs.SliceEntry.{sliceRefusal, sliceAnswer};
 use crate::faults;
 use basis::number::Tolerance;
@@ -11,8 +11,8 @@ use outline::point::Point;
 use view_entries::answer;
 use view_entries::answer::ViewAnswer;
 use view_entries::input::Split;
+use view_span::span::Ends;
 use view_start::slice_points;
-use view_start::span::Ends;
 
 fn refusal(
     outline: &[f64],

@@ -2,7 +2,7 @@
 ghost use mathlib.Core.Path.{_≡_};
 ghost use lib.Dec.{eqb};
 ghost use Rattle.basis.specs.Number.{toleranceOf};
-ghost use Rattle.view_start.specs.Span.{endsOf};
+ghost use Rattle.view_span.specs.Span.{endsOf};
 ghost use Rattle.view_start_entries.specs.SpanEntry.{spanRefusal, spanAnswer};
 use crate::answer;
 use crate::answer::SpanAnswer;
@@ -10,8 +10,8 @@ use crate::faults;
 use basis::number::Tolerance;
 use basis::refuse;
 use outline::point::Point;
-use view_start::span;
-use view_start::span::Ends;
+use view_span::span;
+use view_span::span::Ends;
 
 fn refusal(outline: &[f64], vc: usize, closed: u32, e: Ends, t: Tolerance) -> u32
     ensures { λ r. ⌜ r ≡ spanRefusal (now (outline .entry)) vc closed e t ⌝ }

@@ -1,5 +1,5 @@
 use Rattle.basis.specs.Choice.{cases}
-use Rattle.cut.specs.Order.{sooner}
+use Rattle.cut_runs.specs.Sooner.{sooner}
 use borrow.Author.Needs.{needs}
 use Rattle.cut_order.proofs.along.is_sooner.Statement.{statement}
 use Rattle.cut_order.proofs.along.is_sooner.Tie as tie

@@ -1,7 +1,8 @@
 use native.Mathlib.Omega.{arith}
 use Rattle.basis.specs.Choice.{told-yes, told-no, told-not-yes, told-not-no}
 use Prim.Native.Nat.{_-_}
-use Rattle.stitch_links.specs.LoopLaws.{Seeking, seeking-none, onward, seeking-skip, seeking-pass, last-inside, last-further, seeking-on, seeking-found, seeking-end, there}
+use Rattle.stitch_links.specs.LoopLaws.{Seeking, seeking-none, onward, seeking-skip, seeking-pass, last-inside, last-further, seeking-on, seeking-found, seeking-end}
+use Rattle.stitch_layout.specs.PuttingLaws.{there}
 use borrow.Author.Needs.{needs}
 use Rattle.stitch_links.proofs.look.first_on.Statement.{statement}
 use Rattle.stitch_links.proofs.look.first_on.Tie as tie

@@ -1,5 +1,5 @@
 use Rattle.basis.specs.Choice.{told-not-yes, told-not-no}
-use Rattle.stitch_links.specs.Slices.{meetsOf}
+use Rattle.stitch_layout.specs.Slices.{meetsOf}
 use borrow.Author.Needs.{needs}
 use Rattle.stitch_links.proofs.look.meets.Statement.{statement}
 use Rattle.stitch_links.proofs.look.meets.Tie as tie

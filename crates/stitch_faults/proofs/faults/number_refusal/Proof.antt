@@ -1,0 +1,13 @@
+use Rattle.basis.specs.Refuse.{firstFrom}
+use Rattle.basis.specs.RefuseLaws.{rows}
+use borrow.Author.Needs.{needs}
+use Rattle.stitch_faults.proofs.faults.number_refusal.Statement.{statement}
+use Rattle.stitch_faults.proofs.faults.number_refusal.Tie as tie
+
+pub number-refusal-spec : {M : Type 1} → statement M
+unfolding firstFrom
+number-refusal-spec =
+    tie.close
+    (tie.spec (λ c κs. search needs) (λ c κs. search needs) (λ c κs. search needs) (λ c κs. search needs)
+    (λ c κs. search needs) (λ c κs. search needs) (λ c κs. search needs) (λ c κs. search needs)
+    (λ c. search rows depth 24))

@@ -1,0 +1,3 @@
+pub mod StitchRows
+pub mod StitchTable
+pub mod Matching

@@ -1,0 +1,2 @@
+// The refusals of a stitch by tolerances, all but those of editions, which the slices have.
+pub mod faults;

@@ -1,0 +1,2 @@
+// The slices of a stitch: their start points, and a slice added to a chain.
+pub mod slices;

@@ -1,9 +1,0 @@
-use Rattle.straight_side.proofs.Fronting.{fits-no}
-use borrow.Author.Needs.{needs}
-use Rattle.straight_side.proofs.keeping.fits.Statement.{statement}
-use Rattle.straight_side.proofs.keeping.fits.Tie as tie
-
-pub fits-spec : {M : Type 1} → statement M
-fits-spec =
-    tie.close
-    (tie.spec (λ c. search needs) (λ c. search needs) (λ c. search needs) (λ c. fits-no _ _ _) (λ c. fits-no _ _ _))
