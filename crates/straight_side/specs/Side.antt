@@ -15,7 +15,7 @@ use Rattle.candidate.specs.declared.at_cut.Candidate.{Candidate}
 use Rattle.candidate.specs.declared.at_cut.Candidate.the-variants as one
 use Rattle.candidate.specs.declared.at_cut.Candidate.the-variants.{Nothing}
 use Rattle.candidate.specs.Candidates as slices
-use Rattle.candidate_entries.specs.Candidates.{alongCuts}
+use Rattle.candidate_lists.specs.Lists.{alongCuts}
 use Rattle.prune.specs.declared.mode.Part.{Part}
 use Rattle.prune.specs.Prune.{Cands, cands}
 use Rattle.straight_cut.specs.Microdegrees.{wholesOf}
