@@ -147,21 +147,24 @@ enum mask_refusal {
     MASK_ACCEPTED = 0,
     MASK_REFUSED_MARK = 11,     /* a record has fewer than 5 bytes, or does not begin with PBR */
     MASK_REFUSED_VERSION = 12,  /* a version of the record is unknown */
-    MASK_REFUSED_SIZE = 13,     /* a record's length is not as its counts say, or too high */
-    MASK_REFUSED_LENGTH = 1,    /* a list's length disagrees with its count, or a count is too high */
-    MASK_REFUSED_OUTLINE = 2,   /* fewer than 2 or more than 1024 vertices */
+    MASK_REFUSED_SIZE = 13,     /* a record is shorter than its head or too long, or has another
+                                   length than its counts say */
+    MASK_REFUSED_LENGTH = 1,    /* a list's length disagrees with its count, or a count is too high
+                                   (slices of a record: above 28) */
+    MASK_REFUSED_OUTLINE = 2,   /* fewer than 2 or more than 1024 vertices; in a record above 64 */
     MASK_REFUSED_CODE = 3,      /* an unknown mode, selector, source (1, 2) or yes/no code (0, 1) */
     MASK_REFUSED_UNKNOWN_SETTING = 16, /* no setting was entered under the edition */
     MASK_REFUSED_SETTINGS_FULL = 17, /* the record has its 16 settings */
     MASK_REFUSED_TOLERANCE = 4, /* a tolerance is not above 0 or is above 1; an area limit is below
-                                   0 or not finite */
+                                   0 or not finite; for a record of version 1 two that differ */
     MASK_REFUSED_NUMBER = 5,    /* not finite, or beyond 2^30 (areas: not finite) */
-    MASK_REFUSED_RANGE = 18,    /* a coordinate of a straight mask is out of range or not whole, or it has a bulge */
+    MASK_REFUSED_RANGE = 18,    /* a coordinate of a straight mask is out of range or not whole, or
+                                   it has a bulge other than 0 */
     MASK_REFUSED_LOOPS = 19,    /* more than 4096 outlines in a report */
     MASK_REFUSED_INDEX = 6,     /* an index is not below the vertex count */
     MASK_REFUSED_BACKWARD = 15, /* an open outline with its start index above its end index */
     MASK_REFUSED_COUNT = 7,     /* an offset or a traverse count is out of range */
-    MASK_REFUSED_STARTS = 8,    /* the starts of the classes are not in order, or lie past the slices */
+    MASK_REFUSED_STARTS = 8,    /* the starts of the classes are not in order, or past the slices */
     MASK_REFUSED_EDITION = 14,  /* a slice or a view is of another edition than its outline */
     MASK_REFUSED_ROOM = 9,      /* a list lent to be written is shorter than the need */
     MASK_REFUSED_PARTY = 22,    /* a party of the store is neither 0 nor 1 */
@@ -333,9 +336,11 @@ mask_view_answer mask_from_entire_pline(const double *outline, size_t outline_le
  *                at the end point: the running vertex is the start split's split vertex,
  *                or the segment's own first vertex where the start moved; else of the
  *                segment at the end index, at the end point
- * A split that is not used can be any numbers in range: the start's where the start
- * moved, the end's where the end agrees with the first vertex of its segment and the
- * traverse count is not 0.
+ * A split that is not used can be any numbers in range. `mask_from_slice_points`, and
+ * `mask_from_new_start` of an open outline, do not use the start's where the start moved,
+ * nor the end's where the end agrees with the first vertex of its segment and the traverse
+ * count is not 0. `mask_from_new_start` of a closed outline uses the start's always, also
+ * where the start moved, and the end's never.
  */
 typedef struct mask_span_answer {
     uint32_t refusal;
@@ -358,8 +363,11 @@ mask_span_answer mask_slice_span(const double *outline, size_t outline_len, size
                                  double tolerance_y);
 
 /*
- * The view from the start point to the end point. There is none where nothing lies
- * between them. Refusals 1, 2, 3, 4, 5, 6, 15.
+ * The view from the start point to the end point. With a traverse count of 0 it starts with
+ * the end split's `updated_start`, and there is none where that agrees with the end point.
+ * With any other count it starts with the running vertex. With a count of 1 there is none
+ * where that agrees with the end point, and the end point with the first vertex of its
+ * segment. Refusals 1, 2, 3, 4, 5, 6, 15.
  */
 mask_view_answer mask_from_slice_points(const double *outline, size_t outline_len, size_t vc,
                                         uint32_t closed, size_t start_index,
@@ -370,9 +378,10 @@ mask_view_answer mask_from_slice_points(const double *outline, size_t outline_le
 
 /*
  * The view that starts an outline at a point of it. A closed outline is followed once
- * round: its span is that from the point to the point, and `end_split` is not used. An
- * open one is followed to its last vertex, with the span to that vertex at the last
- * index; there is no view where the point is that vertex. Refusals 1, 2, 3, 4, 5, 6.
+ * round, and always has one: `start_split` is of the segment `start_index` of the span from
+ * the point to the point, at the point, and `end_split` is not used. An open one is followed
+ * to its last vertex: this is `mask_from_slice_points` to that vertex at the last index, so
+ * there is no view where the point is that vertex. Refusals 1, 2, 3, 4, 5, 6.
  */
 mask_view_answer mask_from_new_start(const double *outline, size_t outline_len, size_t vc,
                                      uint32_t closed, size_t start_index,
@@ -472,7 +481,8 @@ mask_count_answer mask_candidates(const double *outline, size_t outline_len, siz
  * `mask_cut_order` wrote it, 3 numbers to a cut. It is a hint: one pass looks whether it is
  * the order, and where it is not, or is of another length, the order is worked out as
  * `mask_candidates` does. So for every `cut_at` the answer, the lists and the refusals are
- * those of `mask_candidates`; with the right one it takes less time.
+ * those of `mask_candidates`; with the right one it takes less time. No refusal looks at
+ * `cut_at`. Refusals 1, 2, 3, 4, 5, 6, 7, 9.
  */
 mask_count_answer mask_candidates_along(
     const double *outline, size_t outline_len, size_t vc, uint32_t edition, uint32_t source,
@@ -545,8 +555,8 @@ typedef struct mask_stitch_answer {
  *   chain       1 to a slice: its number; chain after chain
  *   chain_ends  1 to a chain: how many slices all chains up to and with it have
  *   chain_how   1 to a chain: how it ended, of `mask_chain_end`
- * The need of each of the last four is one entry per slice. Refusals 1 to 8, 14,
- * 9, and 16 before 4.
+ * The need of each of the last four is one entry per slice. Refusals 1, 2, 3, 16, 4, 5, 6, 7,
+ * 8, 14, 9.
  */
 mask_stitch_answer mask_stitch(const double *outline1, size_t outline1_len, size_t vc1,
                                uint32_t edition1, const double *outline2, size_t outline2_len,
@@ -637,7 +647,7 @@ mask_setting_answer mask_settings_ask(const size_t *entered, size_t entered_len,
  * the need of `bytes`. Version 1 holds one tolerance and no edition: two tolerances that differ
  * are refused (4), and any editions are left out. Slices of another edition than their outline
  * are refused (14) in both versions. So every record that is written can be replayed. Refusals
- * 12, 1 to 8, 14, 9.
+ * 12, 1, 2, 3, 4, 5, 6, 7, 8, 14, 9.
  */
 mask_count_answer mask_record_write(uint32_t version, const double *outline1, size_t outline1_len,
                                     size_t vc1, uint32_t edition1, const double *outline2,
@@ -664,7 +674,7 @@ typedef struct mask_replay_answer {
  * `chain_ends` and `chain_how` are those of `mask_stitch`, and so is their need, for the stitch
  * in the record; no record needs more than MASK_RECORD_MOST_ROOM vertices in `room` and
  * MASK_RECORD_MOST_SLICES entries in the others. A pattern that is no number reads as +infinity,
- * which is refused with 4 or 5. Refusals 11, 12, 13, 1 to 8, 14, 9.
+ * which is refused with 4 or 5. Refusals 11, 12, 13, 1, 2, 3, 4, 5, 6, 7, 8, 14, 9.
  */
 mask_replay_answer mask_record_replay(const uint8_t *bytes, size_t bytes_len, double *room,
                                       size_t room_len, size_t *ends, size_t ends_len,

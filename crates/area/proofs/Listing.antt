@@ -66,7 +66,7 @@ module _ (areas : List Float) (limit : Float) where
   kept-no : (n : ℕ) → isKept limit (getD areas n nan) ≡ false → keptTo areas limit (n + 1) ≡ keptTo areas limit n
   kept-no n e = rw add-one (unfold keptTo in rw (e, append-nil))
 
--- the first i loops were looked at, and n of them stay; behind the place after those stands 0
+-- the first i loops were looked at, and n of them stay; the places between n and i hold 0
 pub record Listing (areas : List Float) (limit : Float) (entry : List ℕ) (kept : List ℕ) (n i : ℕ) : Type 0 where
   pub roomy : Roomy areas limit entry
   pub ahead : i ≤ length areas

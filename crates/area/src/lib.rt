@@ -4,7 +4,7 @@ ghost use Rattle.basis.specs.Choice.{codeOf};
 ghost use Rattle.area.specs.Area.{isKept, Comparable, Roomy, Kept};
 use basis::number;
 
-// A loop stays: its area, whatever its sign, is not less than the limit. Neither is a NaN, so that is: at least the limit.
+// A loop stays: the absolute value of its area is not below the limit. Neither is a NaN, so that is: at least the limit.
 fn is_kept(area: f64, limit: f64) -> bool
     requires { ⌜ Comparable limit area ⌝ }
     ensures { λ r. ⌜ r ≡ isKept limit area ⌝ }

@@ -15,11 +15,11 @@ use Rattle.area.specs.Area.{keptOf}
 use Rattle.basis.specs.declared.answer.CountAnswer.{CountAnswer}
 use Rattle.basis.specs.Answers.{countRefused, counted}
 
--- 1
+-- 1: "a list's length disagrees with its count, or a count [..] is above its most"
 abbrev pub areaListRows : List Float → ℕ → List Row
 areaListRows areas loops = row (lengthFault 1 (length areas) loops) 1 ∷ row (ltb mostSlices loops) 1 ∷ []
 
--- 5 and 9
+-- 5: "(areas: not finite)"; 9: "the list needs one entry per loop"
 abbrev pub areaLastRows : List Float → ℕ → ℕ → List Row
 areaLastRows areas loops kept = row (not (allOf finite areas)) 5 ∷ row (ltb kept loops) 9 ∷ []
 

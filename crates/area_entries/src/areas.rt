@@ -1,3 +1,4 @@
+// The area pass by a limit: its refusals and its answer.
 ghost use mathlib.Core.Path.{_≡_};
 ghost use Rattle.basis.specs.All.{allOf};
 ghost use Rattle.basis.specs.Number.{finite};
@@ -40,7 +41,7 @@ fn refusal(areas: &[f64], loops: usize, limit: f64, kept: usize) -> u32
     if kept < loops { 9 } else { 0 }
 }
 
-// The numbers of the loops whose area is not below the limit, in order.
+// The numbers of the loops whose area, without its sign, is not below the limit, in order.
 pub fn entry(areas: &[f64], loops: usize, limit: f64, kept: &mut [usize]) -> CountAnswer
     ensures { λ r. ⌜ AreaLeft (now (areas .entry)) loops limit (now (kept .entry)) r (now (kept .exit)) ⌝ }
 {

@@ -45,7 +45,7 @@ module _ {A : Type 0} (f : ℕ → List A) (w : ℕ) (wide : (n : ℕ) → lengt
     unfolding roomOf
     fill-end z room i n s e = s .done ∙ rw (e, items-length n, sub-self (w * n))
 
--- items that are those of the elements of a list, one after the other
+-- one item for each element of a list: taken by number, or along the list, they are the same
 pub items-listed : {A B : Type 0} (f : B → List A) (l : List B) (d : B) (n : ℕ) → length l ≡ n → firstItems (λ i. f (getD l i d)) n ≡ flatMap f l
 unfolding firstItems flatMap
 items-listed f l d n e = go n (omega arith) ∙ ap (flatMap f) (take-all n l (omega arith))

@@ -1,4 +1,5 @@
--- A finite value of a format is a whole number of the format's smallest values, `unitsOf`, and these are fewer than an infinity's. Over any format, so that no power is worked out.
+-- A finite value of a format is a whole number of the format's smallest values, `unitsOf`, and there are fewer of them than 2 ^ (low + emax + 1), where the infinities stand.
+-- Over any format, so that no power is worked out.
 use Prim.Native.Nat.{ℕ, zero, suc, _-_, _+_, _*_, _/_, _%_, _^_, _≤_, _<_}
 use mathlib.Core.Bool.{Bool, _&&_}
 use mathlib.Core.Path.{_≡_, sym, ap, _∙_}

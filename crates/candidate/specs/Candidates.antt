@@ -60,7 +60,7 @@ sameNext cutAt count p = ltb (p + 1) count && eqb (segmentAt cutAt (p + 1)) (seg
 
 -- ---- the next segment that has a cut
 
--- the first place from p on, among that many, whose cut is on segment i; the place after them where none is
+-- of the places from p on (as many as the first argument says) the first whose cut is on segment i; the place after them where there is none
 unfoldable pub firstFrom : ℕ → List ℕ → ℕ → ℕ → ℕ
 firstFrom zero cutAt i p = p
 firstFrom (suc left) cutAt i p = cond (eqb (segmentAt cutAt p) i) p (firstFrom left cutAt i (p + 1))
@@ -72,7 +72,7 @@ firstCut cutAt count i = firstFrom count cutAt i 0
 abbrev pub hasCut : List ℕ → ℕ → ℕ → Bool
 hasCut cutAt count i = ltb (firstCut cutAt count i) count
 
--- the first of k, k + 1, .. (that many) at which the segment so far on from s passes; the one after them where none of them does
+-- of the numbers k, k + 1, .. (as many as the first argument says) the first that leads from segment s on to one that passes; the number after them where none does
 unfoldable pub traverseFrom : ℕ → (ℕ → Bool) → ℕ → ℕ → ℕ → ℕ
 traverseFrom zero has vc s k = k
 traverseFrom (suc left) has vc s k = cond (has (wrap vc (s + k))) k (traverseFrom left has vc s (k + 1))

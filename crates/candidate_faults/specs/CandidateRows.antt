@@ -13,7 +13,7 @@ use Rattle.candidate_faults.specs.declared.Lengths.{Lengths}
 abbrev pub splitLengthRows : ℕ → ℕ → List Row
 splitLengthRows count len = row (lengthFault 9 len count) 1 ∷ []
 
--- 5
+-- 5: "a number is not finite or is too large": of the splits
 abbrev pub splitRows : List Float → List Row
 splitRows splits = row (not (allWithin splits)) 5 ∷ []
 

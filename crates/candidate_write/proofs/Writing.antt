@@ -25,7 +25,7 @@ push {A} xs vs r l k e h b =
     sets-eq vs l k b ∙ ap (λ (q : List A). q ++ vs ++ drop (k + length vs) l) t ∙ ap (λ (q : List A). (xs ++ vs) ++ q) d
 
 module _ {A : Type 0} (w : ℕ) (f : Candidate → List A) (wide : Wide w f) (g : Given) where
-  -- a turn: the items of the first p places stand in front, and those of the next are stored behind them
+  -- a pass: the items of the first p places stand in front, and those of the next place are stored behind them
   items-turn : (p m m′ : ℕ) (c : Candidate) (r l l′ : List A) → c ≡ candidateAt g p → m ≡ length (candidatesTo g p)
       → l ≡ flatMap f (candidatesTo g p) ++ drop (w * m) r → w * m + w * length (kept c) ≤ length l
       → l′ ≡ sets l (w * m) (f c) → m′ ≡ m + length (kept c) → l′ ≡ flatMap f (candidatesTo g (suc p)) ++ drop (w * m′) r

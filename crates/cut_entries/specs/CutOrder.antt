@@ -14,7 +14,7 @@ use Rattle.basis.specs.declared.answer.CountAnswer.{CountAnswer}
 use Rattle.basis.specs.Answers.{countRefused, counted}
 use Rattle.cut_entries.specs.CutRows.{listRows, valueRows, indexRows}
 
--- 1 to 7
+-- 1 to 7: what is handed in
 unfoldable pub cutInputRows : Given → List Row
 cutInputRows g = listRows g ++ (valueRows g ++ indexRows g)
 
@@ -45,7 +45,7 @@ pub record Wrote (g : Given) (cutAt : List ℕ) (cut : List Float) (r : ℕ) (cu
 
 -- ---- what a caller has shown
 
--- so few cuts that lists for that many will do
+-- so few cuts that lists for `most` of them are enough
 pub record Few (most : ℕ) (g : Given) (cutAt : List ℕ) (cut : List Float) : Type 0 where
   pub roomy : Roomy g cutAt cut
   pub few : cutCount g ≤ most

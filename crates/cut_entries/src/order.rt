@@ -40,7 +40,7 @@ fn room_refusal(count: usize, numbers: usize, points: usize) -> u32
     refuse::or_else(r, points < 2 * count, 9)
 }
 
-// All numbers. The cuts are counted where nothing was found before, so that there are few.
+// All numbers. The cuts are counted only where 1 to 7 found nothing: then there are few.
 fn refusal(
     outline: &[f64],
     hit_at: &[usize],
@@ -60,7 +60,7 @@ fn refusal(
     room_refusal(s.hits + 2 * s.laps, numbers, points)
 }
 
-// The cuts of an accepted call, put in order by a list for 16 of them, which costs little to set up; by one for 64; by one for 256; and by one for the most.
+// The cuts of an accepted call, put in order by a list for 16 of them, which costs little to set up. The next three functions have lists for 64 cuts, for 256, and for 768, which is the most.
 fn order_small(
     outline: &[f64],
     hit_at: &[usize],

@@ -1,4 +1,4 @@
--- Laws by which the look at an order that a caller says is proved.
+-- Laws by which the test of a hint is proved: of an order of the cuts that a caller hands in.
 use Prim.Native.Nat.{ℕ, zero, suc, _+_, _-_, _*_, _/_, _%_, _≤_, _<_}
 use mathlib.Core.Bool.{Bool, true, false, not, _&&_, _||_, true≢false}
 use mathlib.Core.Path.{_≡_, refl, sym, ap, _∙_}
@@ -47,7 +47,7 @@ listed-at h (suc n) i k =
     by-test (eqb i n) (λ e. let q = eqb-true i n e in rw q (getD-at (listed h n) (h n) [] 0 n m))
     (λ e. let q = lt-of-le-ne (le-of-suc-le-suc k) (eqb-false i n e) in List·getD-append (listed h n) (h n ∷ []) 0 i (omega arith) ∙ listed-at h n i q)
 
--- items by two lists of numbers that agree
+-- the items of two functions that agree
 items-same : {A : Type 0} (f : ℕ → List A) (g : ℕ → List A) (n : ℕ) → ((i : ℕ) → i < n → f i ≡ g i) → firstItems f n ≡ firstItems g n
 unfolding firstItems
 items-same f g zero e = refl
@@ -77,7 +77,7 @@ module _ (g : Given) where
       by-test (earlier g x y) (λ e. before-it e)
       (λ e. let r : (ltb x y && not (earlier g y x)) ≡ true = or-cases (earlier g x y) _ h e in arrived-first (not-true (earlier g y x) (and-right (ltb x y) (not (earlier g y x)) r)) (ltb-true x y (and-left (ltb x y) (not (earlier g y x)) r)))
 
--- ---- the first i were looked at
+-- ---- the first i places of the hint were looked at
 pub record Following (g : Given) (cutAt : List ℕ) (entry cut : List Float) (last : Key) (i : ℕ) : Type 0 where
   pub hinted : Hinted g entry
   pub exact : length cutAt ≡ 3 * cutCount g
@@ -93,7 +93,7 @@ module _ (o : List Float) (ha : List ℕ) (h : List Float) (la : List ℕ) (l : 
   abbrev here : Given
   here = given o ha h la l s
 
-  -- the arrival number that is said at a place
+  -- the arrival number that the hint has at a place
   abbrev said : ℕ → ℕ
   said p = getD cutAt (3 * p + 2) 0
 
@@ -193,7 +193,7 @@ module _ (o : List Float) (ha : List ℕ) (h : List Float) (la : List ℕ) (l : 
         long = λ t. omega (arith, f .exact);
       }
     where
-      -- what is said are the numbers of the cuts in their order
+      -- the hint is the numbers of the cuts in their order
       all : length cutAt ≡ 3 * cutCount here → ((p : ℕ) → p < cutCount here → said p ≡ getD (orderOf here) p 0) → ((p : ℕ) → p < cutCount here → getD cutAt (3 * p) 0 ≡ cutOf here (said p) .segment)
           → ((p : ℕ) → p < cutCount here → getD cutAt (3 * p + 1) 0 ≡ codeOf (cutOf here (said p) .mark)) → cutAt ≡ roomOf 0 3 (cutCount here) (cutNumbers here) cutAt
       all exact same segs marks =

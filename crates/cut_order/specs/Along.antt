@@ -20,7 +20,7 @@ keyBy o c n = record { segment = c .segment; distance = distance o c; arrival = 
 unfoldable pub goesBy : Key → Key → Bool
 goesBy k l = sooner (k .segment) (l .segment) (k .distance) (l .distance) || (ltb (k .arrival) (l .arrival) && not (sooner (l .segment) (k .segment) (l .distance) (k .distance)))
 
--- the first goes on from nothing
+-- the first of all has none in front of it
 unfoldable pub goesOn : ℕ → Key → Key → Bool
 goesOn i last key = eqb i 0 || goesBy last key
 

@@ -1,4 +1,4 @@
-// The order of the cuts as a caller says it, looked at in one pass.
+// A hint: the order of the cuts as a caller hands it in, tested in one pass.
 ghost use mathlib.Core.Path.{_≡_};
 ghost use Rattle.outline.specs.Outline.{Triple};
 ghost use Rattle.cut.specs.Cuts.{given};
@@ -43,7 +43,7 @@ fn is_sooner(a: usize, b: usize, x: f64, y: f64) -> bool
     x < y
 }
 
-// The first goes on from nothing. Every other goes behind the one in front of it: that one is before it, or is not behind it and arrived first.
+// The first is always right. Every other has to come after the one before it: that one goes before it, or neither goes before the other and that one arrived first.
 fn goes_on(i: usize, last: Key, key: Key) -> bool
     ensures { λ r. ⌜ r ≡ goesOn i last key ⌝ }
 {
@@ -57,7 +57,7 @@ fn goes_on(i: usize, last: Key, key: Key) -> bool
         & !is_sooner(key.segment, last.segment, key.distance, last.distance)
 }
 
-// What is said at place i is the cut, and it goes on from the one in front of it.
+// What the hint has at place i is the cut, and the cut may come after the one before it.
 fn follows(cut_at: &[usize], i: usize, c: Cut, last: Key, key: Key) -> bool
     requires { ⌜ Third (now «cut_at») i ⌝ }
     ensures { λ r. ⌜ r ≡ followsBy (now («cut_at» .entry)) i c last key ⌝ }
@@ -67,7 +67,7 @@ fn follows(cut_at: &[usize], i: usize, c: Cut, last: Key, key: Key) -> bool
     segment & (mark & goes_on(i, last, key))
 }
 
-// Whether the list says the cuts in their order, three numbers each. Where it does, their points stand in front of the room.
+// Whether the list holds the cuts in their order, three numbers each. Where it does, their points stand in front of the room.
 pub fn is_along(
     outline: &[f64],
     hit_at: &[usize],

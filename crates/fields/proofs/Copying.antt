@@ -1,4 +1,4 @@
--- A loop that copies `per` elements through a function g, one store a turn.
+-- A loop that copies `per` elements through a function g, one store in each pass.
 use Prim.Native.Nat.{ℕ, _+_, _-_, _≤_, _<_}
 use mathlib.Core.Path.{_≡_, refl, sym, ap, _∙_}
 use mathlib.Core.List.{List, [], _∷_, _++_, map, map-append, map-id}

@@ -46,7 +46,7 @@ module _ (l : List ℕ) (at w v i : ℕ) (g : Getting l at w v i) (h : 0 < i) (x
         below = getting-power b;
       }
 
-  -- the byte was read from a place that is its own
+  -- the byte was read at a place p that is at + (i - 1)
   pub getting-at : (p : ℕ) → p ≡ at + (i - 1) → x ≡ getD l p 0 → x < 256 → Getting l at w (x + 256 * v) (i - 1)
   getting-at p q e b = getting-more (e ∙ ap (λ (k : ℕ). getD l k 0) q) b
 

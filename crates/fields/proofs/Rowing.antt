@@ -1,4 +1,4 @@
--- The loops over rows: what is left to do, over what is done, is the whole. A turn takes one row off what is left.
+-- The loops over rows: what is left to do, over what is done, is the whole. A pass takes one row off what is left.
 use Prim.Native.Nat.{ℕ, suc, _+_, _-_, _*_, _≤_, _<_}
 use mathlib.Core.Path.{_≡_, refl, sym, ap, _∙_}
 use mathlib.Core.List.{List, _++_}

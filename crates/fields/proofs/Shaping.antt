@@ -1,4 +1,4 @@
--- The loops over a shape's fields: what is left to do, over what is done, is the whole. A turn takes one field off what is left.
+-- The loops over a shape's fields: what is left to do, over what is done, is the whole. A pass takes one field off what is left.
 use Prim.Native.Nat.{ℕ, suc, _+_, _≤_, _<_}
 use mathlib.Core.Path.{_≡_, refl, ap, _∙_}
 use mathlib.Core.List.{List, [], _∷_}

@@ -1,4 +1,4 @@
--- Rows counted down: k steps of s from p on end by m. The first does, and the others from p + s on.
+-- Rows counted down: k steps of s, from p on, end at m or before. So does the first, and so do the others, from p + s on.
 use Prim.Native.Nat.{ℕ, zero, suc, _+_, _-_, _*_, _≤_, _<_}
 use mathlib.Core.Path.{_≡_}
 use native.Mathlib.Omega.{arith}

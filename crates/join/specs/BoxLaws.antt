@@ -89,7 +89,7 @@ smaller n (x ∷ l) a h = (record { number = a .0 .number; small = h .0 }, small
 
 -- ---- tolerances that number 4 lets through
 
--- "position tolerance: above 0, at most 1"
+-- "position tolerance: above 0 to 1"
 pub record InTolerance (t : Float) : Type 0 where
   pub positive : Positive binary64 t
   pub small : natAbs (whole t) ≤ 2 ^ 1074

@@ -16,7 +16,7 @@ use Rattle.stitch_run.specs.Demand3.{firstSlice}
 
 -- ---- "State it in exact whole numbers by scaling every f64 by a common power of two."
 
--- x times 2 ^ n. With n = 1074 the division leaves nothing of a finite f64 (`whole-exact`). A NaN and the infinities count as 0; no accepted call holds one.
+-- x times 2 ^ n. With n = 1074 the division has no remainder, for every finite f64 (`whole-exact`). A NaN and the infinities count as 0; no accepted call holds one.
 unfoldable pub scaled : ℕ → Float → ℤ
 scaled n nan = pos 0
 scaled n (inf s) = pos 0

@@ -1,4 +1,4 @@
--- No figure below 2^-24 holds: a stitch that document 01 lets through, computed, whose loop closes the axis tolerance and 2^-24 off, on both axes. Its two tolerances differ.
+-- No figure below 2^-24 holds: a stitch that document 01 lets through, computed. At its closing it is off by the axis tolerance plus 2^-24, on both axes. Its two tolerances differ.
 use Prim.Native.Nat.{ℕ, _+_, _≤_}
 use mathlib.Core.Bool.{true, false}
 use mathlib.Core.Path.{_≡_, refl, ap, subst}
@@ -51,7 +51,7 @@ py = ofBits binary64 0xc1c0_0000_0000_0004
 abbrev eight : Float
 eight = ofBits binary64 0x4020_0000_0000_0000
 
--- ---- the stitch: one slice of outline 1, from (px, py) by (0, 8) and (8, 0) to (ex, ey)
+-- ---- the stitch: one slice of outline 1, from (px, py) through (0, 8) and (8, 0) to (ex, ey)
 
 abbrev pub tight : Given
 tight =
@@ -168,7 +168,7 @@ pub beyond-taken : inSpan wide limit beyond ≡ true
 unfolding inSpan add sub neg lt le ofBits
 beyond-taken = refl
 
--- the tolerance and 2^-23 off,
+-- off by the tolerance plus 2^-23,
 pub beyond-apart : natAbs (whole beyond -ℤ whole limit) ≡ natAbs (whole wide) + twoToMinus 23
 unfolding scaled ofBits
 beyond-apart = refl

@@ -26,13 +26,13 @@ use Rattle.join.specs.RangeLaws.{VertexIn, StitchIn, slice-in, drop-in, 
 
 -- ---- the scale
 
--- Every finite f64, m · 2 ^ e with m · up e / down e for its size, is a whole number of 2^-1074: the division in `scaled` leaves nothing.
+-- Every finite f64, m · 2 ^ e with m · up e / down e for its size, is a whole number of 2^-1074: the division in `scaled` has no remainder.
 pub whole-exact : (s : Bool) (m : ℕ) (e : ℤ) → Double (fin s m e) → natAbs (whole (fin s m e)) * down e ≡ m * up e * 2 ^ 1074
 whole-exact s m e d = scaled-exact binary64 m e s d
 
 -- ---- one join
 
--- What numbers 1, 2, 4 and 5 leave of a stitch; document 01's n is 30.
+-- What holds of a stitch that numbers 1, 2, 4 and 5 let through; document 01's n is 30.
 pub record Ranged (n : ℕ) (g : Given) : Type 0 where
   pub numbers : StitchIn (InRange n) g
   pub tolerances : Tolerances (g .tolerance)

@@ -44,7 +44,7 @@ module _ {C : Type 0} where
 
 -- ---- a round
 
--- what a round came to chose slice j, in a chain that began with `first`
+-- slice j is what a round chose: it is joined, or it is the chain's first slice and closes the chain
 abbrev Chose : ℕ → Next → ℕ → Type 0
 Chose first (onto k) j = k ≡ j
 Chose first (ends e) j = (e ≡ closed) × (first ≡ j)

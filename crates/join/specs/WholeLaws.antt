@@ -76,7 +76,7 @@ module _ (f : Format) (m : ℕ) (e : ℤ) where
   fin-bottom false = refl
   fin-bottom true = neg-beneath (unitsOf f m e)
 
-  -- the division in `scaled` leaves nothing
+  -- the division in `scaled` has no remainder
   over-exact : (s t : Bool) → T (fits f (fin s m e)) → over t (m * up e) * 2 ^ low f ≡ over t (unitsOf f m e) * down e
   over-exact s false h = sym (units-exact f s m e h)
   over-exact s true h = zero-mul (2 ^ low f) ∙ sym (zero-mul (down e))

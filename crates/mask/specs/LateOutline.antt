@@ -34,11 +34,11 @@ module _ (one : Made 1) (two : Made 2) (same : two .handed .lapAt ≡ one .hande
     matched : Matched g (dated (one .edition) (two .edition))
     matched = carried-match one two same mode opposing inside1 inside2 known choice told1 told2 l r left roomy holds g n at
 
-    -- with the editions of when the outlines were cut 14 is never given, whatever else the call has, and whatever record and setting it names
+    -- with the editions that the outlines had when they were cut 14 is never given, whatever else the call has, and whatever record and setting it names
     pub same-never-14 : (h : Held) (k : ℕ) (x : Lists) → namedStitchRefusal h k g (dated (one .edition) (two .edition)) (lengthsOf x) ≡ 14 → ⊥
     same-never-14 h k x q = never-14 h k g (dated (one .edition) (two .edition)) (lengthsOf x) matched q
 
-    -- with any editions of the outlines: a slice of an accepted stitch is of an outline that has the edition of when it was cut
+    -- with any editions of the outlines: a slice of an accepted stitch is of an outline that still has the edition with which it was cut
     module _ (h : Held) (setting first second : ℕ) (x : Lists) (s : StitchAnswer) (y : Lists) (kept : NamedStitch h setting g (dated first second) x s y) (accepted : s .refusal ≡ 0) (i : ℕ)
         (below : i < g .slices) where
       number : stitchNumber g (dated first second) x ≡ 0

@@ -1,5 +1,5 @@
 -- Request K12: "In all our records no walk or chain has passed its guard. Show that none can". So number 10 is not among the refusals, and nothing looks for it.
--- Each statement is made from the contract of the entry: whatever answer and lists it permits.
+-- What is said of walks and chains is said from the contract of the entry: whatever answer and lists it permits.
 use Prim.Native.Nat.{ℕ, _≤_, _<_}
 use mathlib.Core.Bool.{false}
 use mathlib.Core.Path.{_≡_, ap, _∙_}

@@ -1,5 +1,5 @@
 -- Request K6: "With both equal, all answers are those of before."
--- Document 01's agreement, box and range of one tolerance, and that those of two are these where both are `alike`. Only six definitions ask for agreement or box,
+-- Document 01's agreement, box and range of one tolerance, and that those of two are these where both are `alike`. Of the definitions that an entry's contract reaches, six ask for agreement or box,
 -- and each is shown here with document 01's own in it. Every definition of the base above them takes a tolerance as a whole and hands it on, and so does every entry of the base:
 -- an entry with the tolerance given twice is the entry of before.
 use Prim.Native.Nat.{ℕ}

@@ -174,7 +174,7 @@ module _ (one : Made 1) (two : Made 2) (same : two .handed .lapAt ≡ one .hande
         stitch-accepts selector x choice long =
             stitch-number h k (there .sized) (there .there) (stitchCall selector) (carried (one .edition) (two .edition)) (lengthsOf x) ∙ by-tolerances selector x choice long
 
-        -- so a host that goes by the needs never sees a refusal in the middle
+        -- so a host that lends what the needs say never sees a refusal in the middle
         pub never-refuses : (selector : ℕ) (x : Lists) (s : StitchAnswer) (y : Lists) → selector ≤ 1 → Long (stitchCall selector) x
             → NamedStitch h k (stitchCall selector) (carried (one .edition) (two .edition)) x s y → (r .refusal ≡ 0) × (s .refusal ≡ 0)
         never-refuses selector x s y choice long kept = (

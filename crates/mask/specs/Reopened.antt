@@ -69,7 +69,7 @@ module _ (g : Given) (e : Editions) (i : ℕ) (re : Reopened g e i) where
   unfolding offsetInside
   reopened-offset = le-leb (codesAt (g .sliceAt) i .offset) vc (subst (λ (n : ℕ). n ≤ vc) (sym (re .offset)) (fit .reaches))
 
-  -- so where each other slice has its own number in order, the stitch is not refused with that number: the reopened slice does not cause it
+  -- so where every other slice passes the test of 6, of 7 or of 14, the stitch is not refused with that number: the reopened slice does not cause it
   module _ (h : Held) (setting : ℕ) (l : Lengths) (whole : length (g .sliceAt) ≡ codeWidth * g .slices) where
     abbrev Others : (ℕ → Type 0) → Type 0
     Others P = (j : ℕ) → j < g .slices → (j ≡ i → ⊥) → P j

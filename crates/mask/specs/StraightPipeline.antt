@@ -121,7 +121,7 @@ module _ (g : Given) (l : slice.Rooms) (r : PruneAnswer) (left : slice.Rooms) (h
     pub stitch-accepts : (selector : ℕ) (x : Lists) → selector ≤ 1 → Long (stitchCall selector) x → namedStitchRefusal h k (stitchCall selector) carried (lengthsOf x) ≡ 0
     stitch-accepts selector x choice long = stitch-number h k (there .sized) (there .there) (stitchCall selector) carried (lengthsOf x) ∙ by-tolerances selector x choice long
 
-    -- so a host that goes by the needs never sees a refusal in the middle
+    -- so a host that lends what the needs say never sees a refusal in the middle
     pub never-refuses : (selector : ℕ) (x : Lists) (s : StitchAnswer) (y : Lists) → selector ≤ 1 → Long (stitchCall selector) x → NamedStitch h k (stitchCall selector) carried x s y → s .refusal ≡ 0
     never-refuses selector x s y choice long kept =
         ap (λ (a : StitchAnswer). a .refusal)

@@ -8,7 +8,7 @@ use basis::answer::CountAnswer;
 use store_entries::answer::DoneAnswer;
 use store_entries::answer::HandleAnswer;
 
-// A slice of a party is put into the store: the lowest handle, from 0, that no live slice of the party has.
+// A slice of a party is put into the store. It gets the lowest handle, from 0, that no live slice of the party has.
 #[no_mangle]
 pub extern "C" fn mask_store_put(
     held: &mut [usize],
@@ -34,7 +34,7 @@ pub extern "C" fn mask_store_put(
     )
 }
 
-// The party's slice with a handle is let go.
+// The party's slice with a handle is released.
 #[no_mangle]
 pub extern "C" fn mask_store_release(
     held: &mut [usize],

@@ -7,7 +7,7 @@ use straight_entries::answer::AreaAnswer;
 use straight_entries::answer::ReportAnswer;
 use straight_entries::answer::WindingAnswer;
 
-// The winding number of an outline round a probe, which comes in doubled coordinates. Inside is any but 0.
+// The winding number of an outline round a probe, which comes in doubled coordinates. Any number but 0 means inside.
 #[no_mangle]
 pub extern "C" fn mask_straight_winding(outline: &[i64], vc: usize, x: i64, y: i64) -> WindingAnswer
     ensures { λ r. ⌜ r ≡ windingAnswer (now (outline .entry)) vc x y ⌝ }

@@ -11,7 +11,7 @@ use record_replay::replay::ReplayAnswer;
 use select::class::Starts;
 use stitch_run::plan::Plan;
 
-// The record of a stitch, of the version asked for, at the front of the lent bytes; how many they are.
+// Writes the record of a stitch, of the version asked for, at the front of the lent bytes. Says how many bytes it has.
 #[no_mangle]
 pub extern "C" fn mask_record_write(
     version: u32,

@@ -62,7 +62,7 @@ pub extern "C" fn mask_stitch(
     )
 }
 
-// The numbers of the loops whose area is not below the setting's limit, in order.
+// The numbers of the loops whose area, without its sign, is not below the setting's limit, in order.
 #[no_mangle]
 pub extern "C" fn mask_area_pass(
     areas: &[f64],

@@ -1,4 +1,6 @@
--- With a record that holds the setting, the answers are those of the calls with its numbers, as they were before settings.
+-- With a record that holds the setting, the answers are those of the calls with its numbers. So demand 3 holds of `mask_stitch`:
+-- `named-demand` `named-need-accepted` `named-shorter-refused` `named-need-is-reached` say of it, from its contract, what stitch_entries/specs/DemandTheorems.antt says of the stitch by
+-- tolerances.
 use Prim.Native.Nat.{ℕ, _≤_, _<_}
 use mathlib.Core.Bool.{true, false, not}
 use mathlib.Core.Path.{_≡_, refl, sym, subst, _∙_}

@@ -1,10 +1,11 @@
+// The entry `mask_area_pass`: the area pass by the limit of a setting.
 ghost use Rattle.settings.specs.Settings.{held};
 ghost use Rattle.named_entries.specs.NamedArea.{NamedArea};
 use crate::known;
 use basis::answer;
 use basis::answer::CountAnswer;
 
-// The numbers of the loops whose area is not below the setting's limit, in order.
+// The numbers of the loops whose area, without its sign, is not below the setting's limit, in order.
 pub fn entry(
     areas: &[f64],
     loops: usize,

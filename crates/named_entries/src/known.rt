@@ -1,3 +1,4 @@
+// Number 16: the setting is unknown.
 ghost use mathlib.Core.Path.{_≡_};
 ghost use Rattle.named_entries.specs.Named.{unknownFault};
 

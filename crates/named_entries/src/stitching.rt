@@ -1,3 +1,4 @@
+// The entry `mask_stitch`: the stitch by the tolerances of a setting.
 ghost use Rattle.slice.specs.Editions.{editions};
 ghost use Rattle.settings.specs.Settings.{held};
 ghost use Rattle.stitch_run.specs.Stitch.{given, planOf};

@@ -1,4 +1,4 @@
--- An outline: "x, y, bulge of each vertex" in one list, and its vertex count vc.
+-- An outline: the numbers of its vertices in one list, and its vertex count vc. Document 01: "A vertex is a record of x, y and bulge, all f64."
 use Prim.Native.Nat.{ℕ, _+_, _*_, _%_, _≤_, _<_}
 use mathlib.Core.Path.{_≡_}
 use mathlib.Core.List.{List}

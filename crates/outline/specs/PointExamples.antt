@@ -56,7 +56,7 @@ pub only-finite : (within nan ≡ false) × (within (inf false) ≡ false) × (w
 unfolding within absF ofBits le
 only-finite = (refl, refl, refl)
 
--- ---- "position tolerance: above 0, at most 1"
+-- ---- "position tolerance: above 0 to 1"
 
 -- The smallest double above 0 is a tolerance, and so is 1.
 pub tolerances : (tolerable (alike (ofBits binary64 1)) ≡ true) × (tolerable (alike one) ≡ true)

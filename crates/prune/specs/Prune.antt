@@ -16,7 +16,7 @@ use Rattle.prune.specs.declared.counts.Pruned.{Pruned}
 
 -- ---- what is there
 
--- the candidates of one outline: start and offset, the six numbers, the edition it was cut from, the host's yes/no "inside the other outline" of each
+-- the candidates of one outline: start and offset, the six numbers, the edition it was cut from, "the inside answer per candidate": whether it lies inside the other outline
 pub record Cands : Type 0 where
   pub at : List ℕ
   pub shape : List Float

@@ -5,7 +5,7 @@ ghost use Rattle.prune.specs.Ready.{CandFit, LapFit};
 use crate::mode::Part;
 use slice::data::Codes;
 
-// Those of candidate number k.
+// The codes of the slice that candidate number k becomes.
 pub fn cand_codes(cand_at: &[usize], part: Part, k: usize) -> Codes
     requires { ⌜ CandFit (now «cand_at») k ⌝ }
     ensures { λ r. ⌜ r ≡ candCodes (now («cand_at» .entry)) part k ⌝ }
@@ -26,7 +26,7 @@ fn lap_inverted(lap_at: &[usize], first: bool, j: usize) -> usize
     if first { lap_at[7 * j + 4] } else { 0 }
 }
 
-// Those of overlap number j, for outline 1 or for outline 2. Its view is of outline 2 in both.
+// The codes of the slice that overlap number j becomes, for outline 1 or for outline 2. Its view is of outline 2 in both.
 pub fn lap_codes(lap_at: &[usize], first: bool, j: usize) -> Codes
     requires { ⌜ LapFit (now «lap_at») j ⌝ }
     ensures { λ r. ⌜ r ≡ lapCodes (now («lap_at» .entry)) first j ⌝ }

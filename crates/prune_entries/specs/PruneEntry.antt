@@ -33,7 +33,7 @@ startsRows g = startRows (g .call) (g .first .at) (g .second .at) (g .laps .at)
 abbrev pub reachesRows : Given → List Row
 reachesRows g = reachRows (g .call) (g .first .at) (g .second .at) (g .laps .at)
 
--- 1 to 7
+-- 1 to 7: what is handed in
 unfoldable pub inputRows : Given → List Row
 inputRows g =
     candsRows (g .first) (g .call .count1)

@@ -125,7 +125,7 @@ module _ (g : Given) (l : Rooms) (number : ℕ) where
         roomy = record { at = ltb-false _ _ (room .0); shape = ltb-false _ _ (room .1 .0); edition = ltb-false _ _ (room .1 .1 .0) };
       }
 
-  -- what later theorems start from: every slice that comes of an accepted call is one that a stitch accepts
+  -- what later theorems start from: the candidates and overlaps of an accepted call are sound for their outlines
   pub prune-sound : number ≡ pruneNumber g l → number ≡ 0 → Sound g
   prune-sound e z =
       let c = g .call in

@@ -1,3 +1,4 @@
+// The entry `mask_prune`: its refusals and its answer.
 ghost use mathlib.Core.Path.{_≡_};
 ghost use Rattle.basis.specs.Refuse.{firstFrom};
 ghost use Rattle.slice.specs.Ready.{rooms};
@@ -10,7 +11,7 @@ use prune::call;
 use prune::call::Call;
 use prune_write::write;
 
-// Numbers 1 to 7: what is handed in.
+// Numbers 1 to 7 without 4: what is handed in.
 fn input_refusal(
     c: Call,
     cand_at1: &[usize],

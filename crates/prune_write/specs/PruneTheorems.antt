@@ -155,7 +155,7 @@ slices-sound g first second laps =
     (cand-sound (c .vc1) (c .vc2) (c .vc2) (c .count2) (secondPart w) refl (omega arith) refl (g .second) second)
     (lap-sound (c .vc1) (c .vc2) (c .laps) (g .laps) laps)
 
--- so a stitch accepts the lists that go out
+-- so a stitch's numbers 1, 3, 5, 6 and 7 do not apply to the lists that go out
 pub stitch-accepts : (g : Given) → CandsSound (g .call .vc1) (g .call .count1) (g .first) → CandsSound (g .call .vc2) (g .call .count2) (g .second)
     → OverlapsSound (g .call .vc2) (g .call .laps) (g .laps) → Accepted (g .call .vc1) (g .call .vc2) (prunedOf g .slices) (sliceCodes g) (sliceShapes g)
 stitch-accepts g first second laps = rw (slices-counted g) (sound-accepted (g .call .vc1) (g .call .vc2) (slicesOf g) (slices-sound g first second laps))

@@ -32,7 +32,7 @@ pub record WrittenTo (g : Given) (need : ℕ) (l : Rooms) (r : Pruned) (l′ : R
   pub shape : l′ .shape ≡ roomOf +0 shapeWidth need (sliceShapes g) (l .shape)
   pub edition : l′ .edition ≡ roomOf 0 1 need (sliceEditions g) (l .edition)
 
--- which is that of the call
+-- the same with the need of the call
 abbrev pub Written : Given → Rooms → Pruned → Rooms → Type 0
 Written g l r l′ = WrittenTo g (needOf (g .call)) l r l′
 
@@ -53,7 +53,7 @@ pub record Wrote (s : List Slice) (most : ℕ) (l : Rooms) (m r : ℕ) (l′ : R
   pub size-shape : length (l′ .shape) ≡ length (l .shape)
   pub size-edition : length (l′ .edition) ≡ length (l .edition)
 
--- one outline's candidates, from slice number m on; there are at most those of both outlines and the overlaps twice
+-- one outline's candidates, from slice number m on; before it there are at most those of one outline
 pub record KeepFit (c : Cands) (n : ℕ) (l : Rooms) (m : ℕ) : Type 0 where
   pub cands : CandsFit c n
   pub low : m ≤ mostCandidates

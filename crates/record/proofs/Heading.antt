@@ -126,12 +126,12 @@ module _ {v : Version} {b : List ℕ} (h : HeadFit v b) {ws z f : List ℕ} (w :
         counts = rw e (record { first = n1; second = n2; third = n3 });
       }
 
--- ---- the count's refusal
+-- ---- the refusal by the counts
 pub counted : (n m : ℕ) (p : Plan) (told found r : ℕ) → told ≡ m → found ≡ orElse 0 (not (eqb n told)) 13 → r ≡ firstFrom found (takenRows p) → r ≡ firstFrom 0 (countRows n m p)
 counted n m p told found r e f g =
     then-rows r found 0 (row (not (eqb n m)) 13 ∷ []) (takenRows p) g (unfold firstFrom in (f ∙ ap (λ (k : ℕ). orElse 0 (not (eqb n k)) 13) e))
 
--- ---- the room's: that of the editions behind that of the slices, and that behind that of the outlines
+-- ---- the refusal by the room: the outlines' rows, then the slices', then the editions'
 pub then-slices : (n q found : ℕ) (p : Plan) (l : Lengths) → n ≡ firstFrom q (slices.roomRows (p .slices) (l .«slice_at») (l .slice))
     → q ≡ orElse (orElse found (ltb (l .outline1) (3 * p .vc1)) 9) (ltb (l .outline2) (3 * p .vc2)) 9 → (r : ℕ) → r ≡ firstFrom n (editionRoomRows (p .slices) (l .«slice_edition»))
     → r ≡ firstFrom found (roomRows p l)

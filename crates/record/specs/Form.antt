@@ -42,7 +42,7 @@ takenVertices = 64
 abbrev pub takenSlices : ℕ
 takenSlices = 28
 
--- the fields of a slice: codes, shape, edition
+-- the fields of a slice: codes and shape; with them the edition
 abbrev pub commonWidth : ℕ
 commonWidth = codeWidth + shapeWidth
 

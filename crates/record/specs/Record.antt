@@ -184,7 +184,7 @@ pub record ReadLeft (v : Version) (b : List ℕ) (l : Lists) (r : Seen) (left : 
 abbrev pub Read : List ℕ → Lists → Seen → Lists → Type 0
 Read b l r left = ReadLeft (formIn b) b l r left
 
--- the reader before K14 knew version 1 alone
+-- K14, "the old reader": it knows version 1 alone
 abbrev pub OldRead : List ℕ → Lists → Seen → Lists → Type 0
 OldRead b l r left = ReadLeft (formFor 1) b l r left
 

@@ -160,7 +160,7 @@ unfolding bodyIn
 length-values v p b =
     sym (length-unpack (bodyOf v (p .vc1 + p .vc2) (p .slices)) (drop (size (headShape v)) b) ∙ length-body v (p .vc1 + p .vc2) (p .slices) ∙ omega arith)
 
--- those that are read are, whatever the bytes are
+-- the lists that are read are, whatever the bytes are
 pub read-long : (v : Version) (b : List ℕ) → Long (planHeld v b) (listsHeld v b)
 unfolding listsHeld
 read-long v b =

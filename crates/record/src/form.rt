@@ -85,7 +85,7 @@ pub const VERTEX: [usize; 3] = [8, 8, 8];
 
 pub const VERTEX_BYTES: usize = 24;
 
-// What the program takes: vertices of an outline, slices.
+// The most that the reader and the writer take (K1: "The program takes at most .."): vertices of an outline, slices.
 pub const TAKEN_VERTICES: usize = 64;
 
 pub const TAKEN_SLICES: usize = 28;
@@ -95,12 +95,12 @@ pub const COMMON_WIDTH: usize = CODE_WIDTH + SHAPE_WIDTH;
 
 pub const ENTRY_WIDTH: usize = COMMON_WIDTH + 1;
 
-// Room for the numbers of an outline that it takes, and for the codes and the shapes of slices.
+// Room for the numbers of such an outline, and for the codes and the shapes of so many slices.
 pub const OUTLINE: usize = 3 * TAKEN_VERTICES;
 
 pub const CODES: usize = CODE_WIDTH * TAKEN_SLICES;
 
 pub const SHAPES: usize = SHAPE_WIDTH * TAKEN_SLICES;
 
-// Room for the values of a record that the program takes.
+// Room for the values of such a record.
 pub const VALUES: usize = 1024;

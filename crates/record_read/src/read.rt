@@ -1,3 +1,4 @@
+// The reader: the head of a record and its lists, or its refusal.
 ghost use mathlib.Core.Path.{_≡_};
 ghost use Rattle.record.specs.Record.{lists, seenRefused, seenGiven, ReadLeft, Read};
 ghost use Rattle.record.specs.Ready.{FormOk};

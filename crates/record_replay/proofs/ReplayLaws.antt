@@ -30,7 +30,7 @@ use Rattle.record_replay.specs.declared.replay.ReplayAnswer.{ReplayAnswe
 use Rattle.record_replay.specs.Replayed.{heldIn, datesIn, formNumber, replayNumber, replayRefused, replayGiven, replayOf, ReplayLeft}
 use Rattle.record_replay.specs.Ready.{reading, fronts, Held}
 
--- what the stitch's answer comes to
+-- the replay's answer, from the stitch's
 pub replay-answer : (version slices n rounds loops chains : ℕ) (a : StitchAnswer) → a ≡ answer stitchRefused n (stitchGiven rounds loops chains)
     → replayOf version slices a ≡ answer replayRefused n (replayGiven version slices rounds loops chains)
 unfolding replayOf answer

@@ -1,3 +1,4 @@
+// A replay: a record is read, and its stitch is run again.
 ghost use mathlib.Core.Path.{_≡_};
 ghost use Rattle.stitch.specs.Lent.{lists};
 ghost use Rattle.stitch_entries.specs.StitchEntry.{StitchLeft};

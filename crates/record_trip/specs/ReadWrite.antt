@@ -1,5 +1,5 @@
--- The other way: reading a record that is accepted, then writing what was read, gives the same bytes; and written as another version that has room for it, it reads as the same
--- stitch in the same editions.
+-- The other way: reading a record that is accepted, then writing what was read, gives the same bytes; and written as another version, where that has both tolerances or the record
+-- has one, it reads as the same stitch, in the editions that the version keeps.
 use Prim.Native.Nat.{ℕ, _+_, _*_, _≤_}
 use mathlib.Core.Bool.{true, not, cond}
 use mathlib.Core.Path.{_≡_, refl, sym, ap, _∙_}
@@ -39,7 +39,7 @@ one-byte : (l : List ℕ) → valueOf 1 l ≡ getD l 0 0
 unfolding valueOf
 one-byte l = omega arith
 
--- the bytes of fifteen values, of which five are known by other names; a sixth is another, but not where its bytes are written
+-- the bytes of fifteen values, of which five are known by other names; of a sixth only the bytes are the same
 fifteen : (v : Version) (a0 a1 a2 a3 a7 a8 b0 b1 b2 b3 b7 b8 x4 x5 x6 x9 x10 x11 x12 x13 x14 : ℕ) → a0 ≡ b0 → a1 ≡ b1 → a2 ≡ b2 → a3 ≡ b3 → a7 ≡ b7
     → bytesOf (v .second) a8 ≡ bytesOf (v .second) b8
     → pack (headShape v) (a0 ∷ a1 ∷ a2 ∷ a3 ∷ x4 ∷ x5 ∷ x6 ∷ a7 ∷ a8 ∷ x9 ∷ x10 ∷ x11 ∷ x12 ∷ x13 ∷ x14 ∷ [])

@@ -25,14 +25,14 @@ use slice::edition;
 use stitch_entries::faults;
 use stitch_run::plan::Plan;
 
-// Number 12: the version asked for is another than its table's.
+// Number 12: the version asked for is unknown, so its table has another number.
 fn version_refusal(version: usize, v: Version) -> u32
     ensures { λ n. ⌜ n ≡ firstFrom 0 (versionRows version v) ⌝ }
 {
     refuse::or_else(0, version != v.number, 12)
 }
 
-// The version has one tolerance, and both axes do not have one in range.
+// The version has one tolerance for both axes, and the two tolerances differ, or one is out of range.
 fn axes_differ(v: Version, t: Tolerance) -> bool
     ensures { λ r. ⌜ r ≡ axesFault v t ⌝ }
 {
@@ -45,7 +45,7 @@ fn axes_differ(v: Version, t: Tolerance) -> bool
     copy::bits(t.x) != copy::bits(t.y)
 }
 
-// Number 4, for two tolerances that differ.
+// Number 4: the version cannot hold both tolerances.
 fn axes_refusal(r: u32, v: Version, t: Tolerance) -> u32
     ensures { λ n. ⌜ n ≡ firstFrom r (axesRows v t) ⌝ }
 {

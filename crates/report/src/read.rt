@@ -49,7 +49,7 @@ fn read_all(fd: i32, points: &mut [i64]) -> State
     s
 }
 
-// The report on what can be read there. Where a line is no pair, there is none.
+// The report on what can be read there. Where a read failed, or a line is no pair, there is none.
 pub(crate) fn report_on(fd: i32) {
     let mut points = [0i64; 2050];
     let s = read_all(fd, &mut points);

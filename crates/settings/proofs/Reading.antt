@@ -1,4 +1,4 @@
--- What the functions are proved by: the count of no number, a number read or missing, three numbers stored.
+-- What the functions are proved by: the count in an empty list, a number read or missing, three numbers stored.
 use Prim.Native.Nat.{ℕ, zero, suc, _+_, _-_, _*_, _≤_, _<_}
 use mathlib.Core.Bool.{Bool, true, false, not}
 use mathlib.Core.Path.{_≡_, refl, sym, _∙_}

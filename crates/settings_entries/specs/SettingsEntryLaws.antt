@@ -1,4 +1,4 @@
--- What acceptance and refusal come to, entry by entry.
+-- What each entry answers and leaves, where it is accepted and where it is refused.
 use Prim.Native.Nat.{ℕ}
 use mathlib.Core.Bool.{Bool, _&&_}
 use mathlib.Core.Path.{_≡_, refl, sym, ap, _∙_}

@@ -17,7 +17,7 @@ use Rattle.settings_entries.specs.History.{enter, ask, entered, asked, s
 abbrev zeros : Held
 zeros = held (0 ∷ []) (replicate 48 +0)
 
--- 2 ^ -10 across, 2 ^ -11 up, areas from 1 on
+-- tolerances of 2 ^ -10 for x and 2 ^ -11 for y, and an area limit of 1
 abbrev fine : Setting
 fine = settingOf (fin false 1 (negsuc 9)) (fin false 1 (negsuc 10)) one
 
@@ -54,7 +54,7 @@ pub sixteen : askRefusal crowded 16 ∷ askRefusal crowded 17 ∷ askRefusal cro
 unfolding askRefusal firstOf lengthsFault known countOf
 sixteen = refl
 
--- "position tolerance: above 0, at most 1"; "area limit: 0 to any finite": what is not in range is 4, a NaN and an infinity too
+-- "position tolerance: above 0 to 1"; "area limit: 0 to any finite": what is not in range is 4, a NaN and an infinity too
 pub out-of-range :
     enterRefusal zeros (settingOf one +0 one)
     ∷ enterRefusal zeros (settingOf (fin false 3 (negsuc 0)) one one)

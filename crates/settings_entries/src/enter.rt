@@ -1,3 +1,4 @@
+// The entry `mask_settings_enter`.
 ghost use mathlib.Core.Path.{_≡_};
 ghost use Rattle.settings.specs.Settings.{held};
 ghost use Rattle.settings_entries.specs.SettingsEntry.{settingOf, settingOk, enterRefusal, EnterLeft};

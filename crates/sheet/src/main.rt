@@ -1,4 +1,4 @@
-// The sheet of document 01, T1 to T10, through the exported entries. specs/Sheet.antt has the same cases as a list, and its theorems say that the entries answer so.
+// The sheet of document 01, T1 to T10, through the exported entries. specs/Sheet.antt has the same cases as a list, and specs/SheetTheorems.antt proves that the entries answer so.
 mod corners;
 mod gap;
 mod print;

@@ -261,7 +261,7 @@ pub(crate) fn modes(
     of_mode(2, 1, 21, at_a, shape_a, count_a, at_b, shape_b, count_b);
 }
 
-// T9: the union with one vertex less.
+// T9: the union, with room for one vertex less than it needs.
 pub(crate) fn short_room(
     at_a: &[usize],
     shape_a: &[f64],
@@ -274,7 +274,7 @@ pub(crate) fn short_room(
     of_mode(0, 0, 24, at_a, shape_a, count_a, at_b, shape_b, count_b);
 }
 
-// T8.
+// T8: no slices.
 pub(crate) fn nothing() {
     print::word(b"T8 no slices");
     let slice_at = [0usize; 0];

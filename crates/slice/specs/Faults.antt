@@ -11,7 +11,7 @@ use Rattle.slice.specs.Slice.{codeWidth, shapeWidth, codesAt}
 
 -- ---- one slice
 
--- 3: "source or yes/no code is unknown"
+-- 3: "source [..] is unknown"
 unfoldable pub sourceKnown : Codes → Bool
 sourceKnown c = not (sourceFault (c .source))
 
@@ -25,7 +25,7 @@ offsetInside vc1 vc2 c = leb (c .offset) (countFor vc1 vc2 (c .source))
 
 -- ---- a list of slices
 
--- the test passes of every slice in the list of codes
+-- the test passes for every slice in the list of codes
 unfoldable pub eachSlice : (Codes → Bool) → List ℕ → Bool
 eachSlice q at = eachTo (λ i. q (codesAt at i)) (length at / codeWidth)
 

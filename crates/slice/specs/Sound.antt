@@ -1,4 +1,4 @@
--- Slices in which a stitch finds nothing to refuse: one, and lists of them.
+-- Slices to which a stitch's numbers 1, 3, 5, 6 and 7 do not apply: one, and lists of them.
 use Prim.Native.Nat.{ℕ, _*_, _≤_, _<_}
 use mathlib.Core.Bool.{true}
 use mathlib.Core.Path.{_≡_}

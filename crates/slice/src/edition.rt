@@ -44,7 +44,7 @@ fn editions_differ(edition1: u32, edition2: u32, slice_at: &[usize], slice_editi
     !same
 }
 
-// Number 1: there is one edition a slice.
+// Number 1: there is not one edition for each slice.
 pub fn list_refusal(r: u32, len: usize, count: usize) -> u32
     ensures { λ n. ⌜ n ≡ firstFrom r (editionListRows len count) ⌝ }
 {

@@ -80,7 +80,7 @@ fn offsets_inside(vc1: usize, vc2: usize, slice_at: &[usize]) -> bool
     ok
 }
 
-// Number 1: the lists of `count` slices have these lengths.
+// Number 1: lists of these lengths are not those of `count` slices.
 pub fn list_refusal(r: u32, at: usize, shape: usize, count: usize) -> u32
     ensures { λ n. ⌜ n ≡ firstFrom r (listRows at shape count) ⌝ }
 {

@@ -106,7 +106,7 @@ begun-as k k′ items items′ entry need l l′ p q r b =
       size = ap length (sym r) ∙ b .size;
     }
 
--- ---- the vertex room: its rest from a on was lent, and came back as `part`
+-- ---- the vertex room: its rest, from vertex d on, was lent, and came back as `part`
 module _ (room part : List Float) (d need : ℕ) (items : List Float) (h : 3 * d ≤ length room) (b : Begun (3 * d) items room (3 * need) room) where
   abbrev back : List Float
   back = take (3 * d) room ++ (part ++ drop (length room - 3 * d) (drop (3 * d) room))
@@ -128,7 +128,7 @@ module _ (room part : List Float) (d need : ℕ) (items : List Float) (h : 3 * d
     pub back-none : Begun (3 * d) items room (3 * need) back
     back-none = record { front = rest-front (3 * d) room h part ∙ b .front; counted = b .counted; beyond = back-beyond; size = back-length }
 
-    -- a closed one its first k vertices
+    -- a closed chain leaves its first k vertices
     pub back-loop : (k : ℕ) → 3 * k ≤ length part → Begun (3 * (d + k)) (items ++ flatMap vertexNumbers (reverse (chainOf part k))) room (3 * need) back
     back-loop k f =
         let e : 3 * (d + k) ≡ 3 * d + 3 * k = omega arith in

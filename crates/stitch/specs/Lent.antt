@@ -86,7 +86,7 @@ tallyAfter w r =
 unfoldable pub endsAfter : Tally → ChainEnd → List ℕ → List ℕ
 endsAfter w r ends = cond (eqb (r .how) (howOf closed)) (set ends (w .loops) (loopEnd w r)) ends
 
--- what the need comes to for the most slices, each of the greatest offset
+-- the need of the most slices, each of the greatest offset
 abbrev pub mostNeed : ℕ
 mostNeed = 1 + mostSlices * (mostVertices + 1)
 
@@ -156,7 +156,7 @@ pub record StitchFit (g : Given) (x : Lists) : Type 0 where
   pub sound : Sound g
   pub long : Long g x
 
--- no more slices than so many
+-- no more slices than `most`
 pub record Few (most : ℕ) (g : Given) (x : Lists) : Type 0 where
   pub fit : StitchFit g x
   pub few : g .slices ≤ most

@@ -1,3 +1,3 @@
-// The stitch: chains of rounds, loops.
+// The stitch: each slice's turn, the loops, and the room that a stitch needs.
 pub mod turn;
 pub mod write;

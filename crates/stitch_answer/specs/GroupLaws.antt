@@ -91,7 +91,7 @@ module _ (p : ℕ → Bool) (w : Layout) (n : ℕ) (few : n ≤ mostSlices) wher
       (λ e. by-test (ltb j (w .over)) (λ f. out (p j) (let h = b (ltb-false j (w .two) e) (ltb-true j (w .over) f) in rw (e, f) at h))
       (λ f. out (p j) (let h = c (ltb-false j (w .two) e) (ltb-false j (w .over) f) in rw (e, f) at h)))
 
-  -- the group of a slice in one
+  -- where the slices of a group end
   of-0 : (j : ℕ) → H 0 j ≡ true → j < w .two
   unfolding groupOf
   of-0 j h =
@@ -123,7 +123,7 @@ module _ (p : ℕ → Bool) (w : Layout) (n : ℕ) (few : n ≤ mostSlices) wher
       lowest-at p n (X 1) few (s .0) (and-left (p (X 1)) _ (s .1))
       (λ j l. let y = s .0 in alone j (λ k. none-of 0 a j (omega arith)) (λ k m. before 1 j (omega arith) l) (λ k m. absurd (omega arith)))
 
-  -- some of a group: some at all
+  -- where a slice of a group passes, some slice passes
   pub some-any : (g : ℕ) → eqb (X g) noNumber ≡ false → eqb (lowestOf p n) noNumber ≡ false
   some-any g a =
       let s = some-of g a in

@@ -44,7 +44,7 @@ module _ (v : Plane) (h : Steady v) where
 pub bits-of : (v : Plane) (p k : Float) → Steady v → k ≡ keptOff (v .near) (add binary64 p (v .far)) → T (not (isNan k))
 bits-of v p k f e = rw e (clear-number _ (moved-clear v f p))
 
--- ---- planes that may be
+-- ---- planes that are steady
 abbrev half : Float
 half = ofBits binary64 0x3fe0_0000_0000_0000
 

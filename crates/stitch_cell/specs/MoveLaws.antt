@@ -1,4 +1,4 @@
--- Moved far out, rounded, and kept off: the order of coordinates is kept. Assumes nothing.
+-- Moved far out, rounded, and kept off: the order of coordinates is kept.
 use Prim.Native.Nat.{ℕ, zero, suc, _+_, _-_, _*_, _^_, _≤_, _<_, compare·zero-suc}
 use native.Mathlib.Nat.{zero-mul, zero-div, zero-mod, mul-one, mul-pos, mul-comm, mul-assoc, mul-left-comm, mul-sub, add-mul, mul-le-mul-right}
 use native.Mathlib.Omega.{arith}

@@ -2,13 +2,13 @@
 ghost use mathlib.Core.Path.{_≡_};
 ghost use Rattle.stitch_cell.specs.Cell.{keptOff, cellOf, Steady};
 
-// How far an axis is moved, and the nearest that a moved coordinate may be. Any numbers above 0, `far` finite: they decide how fast a search is, never its answer.
+// How far an axis is moved, and the least that a moved coordinate may be. Any numbers above 0, `far` finite: they decide how fast a search is, never its answer.
 pub struct Plane {
     pub far: f64,
     pub near: f64,
 }
 
-// What is nearer, and a NaN, is `near`.
+// z, or `near` where z is below it or is a NaN.
 fn kept_off(near: f64, z: f64) -> f64
     ensures { λ r. ⌜ r ≡ keptOff near z ⌝ }
 {
@@ -25,7 +25,7 @@ pub fn cell(plane: Plane, p: f64) -> usize
 // The farthest that an axis is moved: 2^62.
 const FARTHEST: f64 = 4611686018427387904.0;
 
-// The axis moved so far, where that is above 0 and its half is too; else by 2.
+// The axis moved by `far`, where that and its half are above 0 and it is at most 2^62; else by 2.
 pub fn moved(far: f64) -> Plane
     ensures { λ r. ⌜ Steady r ⌝ }
 {

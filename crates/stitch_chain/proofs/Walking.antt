@@ -55,7 +55,7 @@ pub record Walking (g : Given) (i : ℕ) (points : List Float) (by : Layout) (li
   pub lines : g .slices ≤ length chain
   pub kept : length chain ≡ length chain₀
 
--- what a round comes to, from what the code was told
+-- the outcome of a round, from what the code was told
 onto-of : (x : Next) (j : ℕ) → Onto j ≡ toldOf x → x ≡ onto j
 onto-of (onto k) j e = cc
 onto-of (ends x) j e = absurd (let z : _≡_ {A = ℕ} 0 1 = cc in omega arith)
@@ -78,7 +78,7 @@ module _ {C : Type 0} (R : Rules C) where
 -- ---- what the definition's laws say of a chain under way
 
 module _ (g : Given) (i : ℕ) (w : Underway (List Vertex)) (u : Going (rulesOf g) (among g) (orderTo g i) w) where
-  -- its slices are not all of them before the round is listed
+  -- before the round is listed there are fewer rounds than slices
   low-of : suc (length (orderTo g i ++ map (λ r. r .slice) (w .past))) ≤ g .slices
   unfolding rulesOf
   low-of =

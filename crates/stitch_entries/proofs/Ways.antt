@@ -1,4 +1,4 @@
--- What the entry `mask_stitch` is proved by: acceptance, the dead guard, and the two ways out.
+-- What the stitch by tolerances is proved by: acceptance, and the two ways out.
 use Prim.Native.Nat.{ℕ, zero, suc, _*_, _/_, _≤_, _<_}
 use mathlib.Core.Bool.{Bool, true, false, cond}
 use mathlib.Core.Path.{_≡_, refl, sym, subst, _∙_}

@@ -1,5 +1,6 @@
--- Demand 3, said of the stitch by tolerances: from its contract `StitchLeft` alone, whatever answer and lists it permits. Of `mask_stitch`, which names a setting:
--- named_entries/specs/NamedTheorems.antt `named-demand`.
+-- Demand 3, said of the stitch by tolerances: from its contract `StitchLeft` alone, whatever answer and lists it permits. `mask_stitch` names a setting, and its contract is
+-- `NamedStitch`. named_entries/specs/NamedTheorems.antt says the same of it: `by-tolerances` leads from its contract to this one, `named-demand` has the rounds and the chains,
+-- and `named-need-accepted` `named-shorter-refused` `named-need-is-reached` have the room.
 use Prim.Native.Nat.{ℕ, zero, suc, _+_, _-_, _≤_}
 use mathlib.Core.Bool.{Bool, true, false, _&&_, false≢true}
 use mathlib.Core.Path.{_≡_, refl, sym, ap, _∙_}
@@ -105,7 +106,7 @@ module _ (g : Given) (e : Editions) (x : Lists) (r : StitchAnswer) (left : Lists
         ∙ ap (totals 0) (sym (map-map length slicesOf (runOf g))) in
         rw (h, chain-is, ← flatten-map (runOf g)) (parted-totals [] 0 refl parts _)
 
-    -- Whatever the answer and the lists: rounds are slices, and the chains that are listed are those of demand 3.
+    -- Whatever the answer and the lists: there are as many rounds as slices, and the chains that are listed are those of demand 3.
     pub stitch-demand : Demanded (g .slices) (r .rounds) (r .chains) (take (g .slices) (left .chain)) (chainsIn (r .chains) left)
     unfolding chainItems chainCount
     stitch-demand =

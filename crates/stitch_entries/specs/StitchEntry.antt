@@ -35,11 +35,11 @@ shapeRows g = listPart g ++ (codePart g ++ (numberPart g ++ indexPart g))
 abbrev pub inputRows : Given → ℕ → List Row
 inputRows g len = editionListRows len (g .slices) ++ shapeRows g
 
--- 14
+-- 14: a slice has another edition than its outline
 abbrev pub editionPart : Given → Editions → List Row
 editionPart g e = editionRows e (g .sliceAt)
 
--- 9
+-- 9: "lent room smaller than the need"
 abbrev pub roomPart : Given → Lengths → List Row
 roomPart g l = roomRows (g .sliceAt) (g .slices) l
 

@@ -20,7 +20,7 @@ listRows len1 vc1 len2 vc2 at numbers count =
     ∷ row (lengthFault 3 len2 vc2) 1
     ∷ (slices.listRows at numbers count ++ (row (ltb mostSlices count) 1 ∷ []))
 
--- 2 and 3
+-- 2: "an outline is too short or too long"; 3: "selector, source or yes/no code is unknown"
 abbrev pub codeRows : ℕ → ℕ → ℕ → List ℕ → List Row
 codeRows vc1 vc2 selector at =
     row (sizeFault vc1) 2
@@ -28,7 +28,7 @@ codeRows vc1 vc2 selector at =
     ∷ row (choiceFault selector) 3
     ∷ slices.codeRows at
 
--- 4 and 5
+-- 4: a tolerance "is not finite or is out of range"; 5: "a number is not finite or is too large"
 abbrev pub numberRows : Tolerance → List Float → List Float → List Float → List Row
 numberRows t o1 o2 numbers =
     row (not (tolerable t)) 4
@@ -42,7 +42,7 @@ unfoldable pub startsFault : Starts → ℕ → Bool
 startsFault s count =
     ltb (s .«pline1_overlapping») (s .pline2) || (ltb (s .«pline2_overlapping») (s .«pline1_overlapping») || ltb count (s .«pline2_overlapping»))
 
--- 6, 7 and 8
+-- 6 and 7 of the slices, and 8
 abbrev pub indexRows : ℕ → ℕ → List ℕ → Starts → ℕ → List Row
 indexRows vc1 vc2 at starts count =
     slices.indexRows vc1 vc2 at ++ (row (startsFault starts count) 8 ∷ [])

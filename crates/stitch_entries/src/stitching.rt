@@ -1,3 +1,4 @@
+// The stitch by tolerances: what is refused, then the stitch.
 ghost use mathlib.Core.Path.{_≡_};
 ghost use Rattle.basis.specs.Number.{toleranceOf};
 ghost use Rattle.basis.specs.Refuse.{firstFrom};
@@ -34,7 +35,7 @@ fn input_refusal(
     faults::index_refusal(r, slice_at, p)
 }
 
-// All numbers. Editions are compared, and the need is worked out, only where 1 to 8 found nothing. Number 10 is proved never to be given, so nothing is looked at for it.
+// All numbers. Editions are compared, and the need is worked out, only where 1 to 8 found nothing. There is no number 10 (request K12).
 fn refusal(
     outline1: &[f64],
     edition1: u32,

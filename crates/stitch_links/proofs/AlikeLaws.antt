@@ -48,7 +48,7 @@ both-ways : (a b : Bool) → (a ≡ true → b ≡ true) → (b ≡ true → a �
 both-ways a b f g = by-test a (λ h. h ∙ sym (f h)) (λ h. by-test b (λ k. clash a (g k) h) (λ k. h ∙ sym k))
 
 module _ (x y : Float) (h : eq x y ≡ true) where
-  -- equal numbers are not told apart
+  -- no comparison sees a difference between equal numbers
   le-same : (a : Float) → le a x ≡ le a y
   le-same a = both-ways (le a x) (le a y) (λ l. le-trans a x y l (eq-le x y h)) (λ l. le-trans a y x l (eq-le y x (eq-sym x y h)))
 

@@ -65,7 +65,7 @@ module _ (points : List Float) (visited : List Bool) (w : Layout) (q : Query) wh
         same = s ∙ t .same;
       }
 
-  -- all
+  -- all cells are looked through
   pub row-end : (link₀ link : List ℕ) (x y0 y y1 best : ℕ) → Swept link₀ link x (x + 1) y0 y best → y1 < y → Of (Block points w x (x + 1) y0 (y1 + 1)) link best
   row-end link₀ link x y0 y y1 best t l =
       record {

@@ -31,7 +31,7 @@ pub record Hung (points : List Float) (visited : List Bool) (first : ℕ) (w : L
   pub laid : Laid w n s
   pub linked : 0 < w .lists → Linked (free visited first) (homeOf points w) (meetsOf points w) (w .lists) (w .count) link
 
--- between two chains: the lists are good for the last chain's first slice, whichever it was
+-- between two chains: the invariant holds with some slice as the first, such as the last chain's
 pub record Between (points : List Float) (visited : List Bool) (w : Layout) (link : List ℕ) (n : ℕ) (s : Starts) : Type 0 where
   pub before : ℕ
   pub hung : Hung points visited before w link n s

@@ -17,7 +17,7 @@ use Rattle.stitch_run.specs.Run.{free}
 use Rattle.stitch_links.specs.declared.look.Query.{Query}
 use Rattle.stitch_links.specs.Links.{Next, Run, placeOf, Linked, Linking, everFree, Found, Looked}
 
--- ---- what is free only gets less: the lists stay good
+-- ---- where fewer slices are free, the invariant still holds
 module _ (f g : ℕ → Bool) (L : ℕ → ℕ) (meets : Query → ℕ → Bool) (lists n : ℕ) (less : (j : ℕ) → f j ≡ false → g j ≡ false) where
   next-fewer : (h from x : ℕ) → Next f L lists n h from x → Next g L lists n h from x
   next-fewer h from x t = record { higher = t .higher; mine = t .mine; passed = λ j a b c d. less j (t .passed j a b c d) }

@@ -12,7 +12,7 @@ use Rattle.stitch_links.specs.declared.layout.Layout.{Layout}
 use Rattle.stitch_links.specs.declared.look.Query.{Query}
 use Rattle.stitch_links.specs.Slices.{columnOf, lineOf}
 
--- x stands at a place of list h, behind which slices from `from` on hang: what is passed over between is not free
+-- x is a link of list h: it leads to a slice of that list from number `from` on, or to none. The slices of the list that it passes over are not free
 pub record Next (free : ℕ → Bool) (L : ℕ → ℕ) (lists n h from x : ℕ) : Type 0 where
   pub higher : lists + from ≤ x
   pub mine : x < lists + n → L (x - lists) ≡ h
@@ -52,7 +52,7 @@ pub record Found (hit : ℕ → Bool) (C : ℕ → Type 0) (n r : ℕ) : Type 0 
   pub found : r < noNumber → (r < n) × (hit r ≡ true)
   pub passed : (j : ℕ) → j < n → j < r → C j → hit j ≡ false
 
--- a look leaves the lists as good as they were
+-- what a look leaves: the invariant of the lists, and the slice that it found
 pub record Looked (free hit : ℕ → Bool) (L : ℕ → ℕ) (meets : Query → ℕ → Bool) (C : ℕ → Type 0) (lists n : ℕ) (link : List ℕ) (r : ℕ) : Type 0 where
   pub linked : Linked free L meets lists n link
   pub found : Found hit C n r

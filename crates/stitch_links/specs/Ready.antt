@@ -48,7 +48,7 @@ pub record ScanFit (points : List Float) (visited : List Bool) (n : ℕ) : Type 
   pub marks : length visited ≡ n
   pub few : n ≤ mostSlices
 
--- links before any slice is put on: none anywhere
+-- links before any slice is put on: every list is empty
 pub record Empty (points : List Float) (w : Layout) (link : List ℕ) : Type 0 where
   pub fit : Fit points w
   pub size : w .lists + w .count + w .count ≤ length link
@@ -103,7 +103,7 @@ pub record Asked (points : List Float) (visited : List Bool) (w : Layout) (q : Q
   pub ready : Lookable points visited w (q .first) link
   pub cells : c ≡ cellsOf w q
 
--- the lowest slice that is looked for, by the plain definition; and the lists are as good as they were
+-- the lowest slice that is looked for, by the plain definition; and the invariant of the lists still holds
 pub record Lowest (points : List Float) (visited : List Bool) (w : Layout) (q : Query) (link : List ℕ) (r : ℕ) : Type 0 where
   pub is : r ≡ lowestOf (hitOf points visited w q) (w .count)
   pub linked : Linked (free visited (q .first)) (homeOf points w) (meetsOf points w) (w .lists) (w .count) link

@@ -1,4 +1,4 @@
-// How the slices of a stitch hang: their layout, and every slice put on its list.
+// The slices of a stitch, put on lists: their layout, and every slice on its list.
 ghost use Rattle.stitch_links.specs.Hanging.{FarFit, Laying, LaidBy, Hangable, Hanged};
 use crate::layout;
 use crate::layout::Layout;
@@ -21,7 +21,7 @@ fn larger(a: f64, b: f64) -> f64 {
 // 18 * 2^52.
 const WIDE: f64 = 81064793292668928.0;
 
-// The last digit of a moved coordinate is some tolerances wide, and no start point comes below the half. For speed alone: nothing is said of it.
+// So far that the last digit of a moved coordinate is some tolerances wide, and that no moved start point is below the half. This is for speed alone: there is no promise.
 fn far_of(points: &[f64], count: usize, t: Tolerance) -> Far
     requires { ⌜ FarFit (now points) count ⌝ }
 {
@@ -52,7 +52,7 @@ fn layout_of(p: Plan, lists: usize, far: Far) -> Layout
     }
 }
 
-// The slices by so many lists, in links that hold none yet. With no lists nothing is put on: a scan looks.
+// Puts the slices on so many lists, in links that hold none yet. With 0 lists no slice is put on one: then a scan looks for slices.
 pub fn hang(points: &[f64], link: &mut [usize], p: Plan, lists: usize) -> Layout
     requires { ⌜ Hangable (now points) (now link) p lists ⌝ }
     ensures { λ r. ⌜ Hanged (now (points .entry)) (now (link .exit)) p r ⌝ }

@@ -1,4 +1,4 @@
-// Slices whose start points lie in one cell, of one group, hang on one list, in ascending number. Several cells may share a list.
+// Slices whose start points lie in one cell, of one group, are on one list, in ascending number. Several cells may share a list.
 ghost use mathlib.Core.Path.{_≡_};
 ghost use mathlib.Core.Bool.{true};
 ghost use Rattle.stitch_links.specs.Slices.{groupOf, listOf, homeOf, meetsOf, sameStart, Alike};
@@ -7,7 +7,7 @@ ghost use Rattle.stitch_links.specs.Ready.{Masked, Home, Both, Before, P
 use stitch_cell::cell;
 use stitch_cell::cell::Plane;
 
-// How slices hang: how many there are, how many lists, how far each axis is moved, and where outline 2's slices and the overlaps begin.
+// How slices are put on lists: how many there are, how many lists, how far each axis is moved, and where outline 2's slices and the overlaps begin.
 pub struct Layout {
     pub count: usize,
     pub lists: usize,
@@ -88,7 +88,7 @@ fn last_of_run(points: &[f64], link: &[usize], w: Layout, i: usize, next: usize)
     link[run]
 }
 
-// From where a look goes on that did not meet slice j: the last of j's run. Where slice `seen`, which it did not meet before, begins elsewhere, j itself:
+// A look that did not meet slice j goes on from here: the last of j's run. Where slice `seen`, the one that it did not meet before (0 at first), begins at another point, it goes on from j:
 // then j's run is most often j alone, and is not looked up, since on a list of many points that would take twice as long.
 pub(crate) fn passed_to(points: &[f64], link: &[usize], w: Layout, seen: usize, j: usize) -> usize
     requires { ⌜ Passed (now points) w (now link) seen j ⌝ }

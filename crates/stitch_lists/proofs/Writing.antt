@@ -61,7 +61,7 @@ module _ (g : Given) (x : Lists) (w : Tally) (x′ : Lists) (need : ℕ) where
         chainHow = room-of 0 1 (g .slices) (w .chains) (g .slices) _ (x .chainHow) (x′ .chainHow) (x″ .chainHow) (h .chainHow) one (c .chainHow);
       }
 
--- ---- the locals of the top function
+-- ---- the working lists
 
 pub take-marks : (n m : ℕ) → n ≤ m → take n (replicate m false) ≡ replicate n false
 take-marks zero m h = refl
@@ -71,7 +71,7 @@ take-marks (suc n) (suc m) h = ap (λ (l : List Bool). false ∷ l) (take-marks 
 pub marks-length : (most n : ℕ) → n ≤ most → n ≡ length (take n (replicate most false))
 marks-length most n h = sym (length-take-le n (replicate most false) (rw (length-replicate most false) h))
 
--- lists of their own for at most so many slices, and links for them by so many lists
+-- working lists for at most `most` slices, and links for `held` lists of cells
 pub tabled-of : (most full held : ℕ) (g : Given) (x : Lists) → Few most g x → (points : List Float) (visited : List Bool) (link : List ℕ) → length points ≡ 2 * most
     → visited ≡ take (g .slices) (replicate most false) → link ≡ replicate full full → (0 < held → held + most + most ≤ full) → held ≤ 4096 → Tabled g points visited link held x
 tabled-of most full held g x f points visited link e m l h s =

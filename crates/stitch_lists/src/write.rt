@@ -32,7 +32,7 @@ fn clear_rest(
     room::clear_counts(chain_how, w.chains, count);
 }
 
-// The stitch by a table of start points, marks, and links for so many lists, that are long enough. Nothing has been visited, and the lists hold nothing.
+// The stitch with a table of start points, marks, and links for `held` lists, all long enough. No slice has been visited, and the lists hold none.
 fn write_with(
     points: &mut [f64],
     visited: &mut [bool],
@@ -79,7 +79,7 @@ fn write_with(
     }
 }
 
-// So many slices are scanned: that is as fast as lists of cells, and takes less room.
+// Up to so many slices are scanned: that is as fast as lists of cells, and takes less room.
 const SCANNED: usize = 4;
 
 fn write_scanned(
@@ -118,7 +118,7 @@ fn write_scanned(
     )
 }
 
-// So many slices have small working lists, which cost little to set up: so many lists of cells, a link for each list and slice, and for each slice the last of its run.
+// Up to so many slices have small working lists, which cost little to set up: as many lists of cells, a link for each list and each slice, and for each slice the last of its run.
 const FEW: usize = 64;
 
 const FEW_LINKS: usize = 192;
@@ -159,7 +159,7 @@ fn write_few(
     )
 }
 
-// The same for the most.
+// The same for up to 1,792 slices.
 const MOST_LISTS: usize = 2048;
 
 const MOST_LINKS: usize = 5632;

@@ -1,4 +1,4 @@
--- Laws of a round: the candidates are the definition's, and so is what the round comes to.
+-- Laws of a round: the candidates are the definition's, and so is the outcome.
 use Prim.Native.Nat.{ℕ, _-_, _<_}
 use mathlib.Core.Bool.{Bool, true, false, cond, _&&_}
 use mathlib.Core.Path.{_≡_, refl, sym, ap, _∙_}
@@ -26,7 +26,7 @@ use Rattle.stitch_run.specs.Stitch.{given, Given, rulesOf, offersTo, howOf}
 use Rattle.stitch_run.specs.TallyLaws.{passing-same}
 use Rattle.stitch_round.specs.Ready.{Points, toldOf, stepOf, comesTo, RoundFit, standing, Rounded}
 
--- what each answer comes to
+-- the outcome of each answer
 module _ (n first : ℕ) (a : Answer) where
   pub step-none : a ≡ NoCandidate → Ends 2 ≡ comesTo n first a
   unfolding howOf
@@ -42,7 +42,7 @@ module _ (n first : ℕ) (a : Answer) where
 pub ruleset stepping = (step-none, step-no, step-chosen)
 
 module _ (points : List Float) (visited : List Bool) (link : List ℕ) (w : Layout) (room : List Float) (n first : ℕ) (p : Plan) (f : RoundFit points visited link w room n first p) where
-  -- what lists of cells ask
+  -- what a look by lists of cells needs
   pub round-asking : (w .lists ≡ 0 → ⊥) → Asking points visited link w first p
   round-asking h = record { scan = f .scan; selectors = f .selectors; hung = f .hung; some = omega arith }
 
@@ -54,7 +54,7 @@ module _ (points : List Float) (visited : List Bool) (link : List ℕ) (w : Layo
     pub round-looked : (link′ : List ℕ) → Answered points visited link′ w first current e p r → Answered points visited link′ w first current (posOf (vertexAt room (n - 1))) p r
     round-looked link′ h = rw (b, a) at h
 
--- the selector's answer, and what the round comes to
+-- the selector's answer, and the outcome of the round
 module _ (points : List Float) (visited : List Bool) (room : List Float) (n first current : ℕ) (p : Plan) (some : 0 < n)
     (o1 o2 : List Float) (at : List ℕ) (numbers : List Float) (t : Points (given o1 o2 at numbers p) points) where
   abbrev g : Given

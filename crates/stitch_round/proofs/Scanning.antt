@@ -28,7 +28,7 @@ use Rattle.stitch_round.specs.Ready.{Met}
 pub near-of : (t : Tolerance) (end p : Point) (points : List Float) (i : ℕ) (r : Bool) → p ≡ pointAt points i → r ≡ inBox t end p → r ≡ inBox t end (pointAt points i)
 near-of t end p points i r e f = f ∙ ap (inBox t end) e
 
--- ---- the scan: those below j were met
+-- ---- the scan: the slices below j were looked at
 
 pub record Meeting (p : ℕ → Bool) (s : Starts) (c : Choices) (n : ℕ) (a : Bool) (b : Best) (j : ℕ) : Type 0 where
   pub upto : j ≤ n

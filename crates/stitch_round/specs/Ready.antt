@@ -105,7 +105,7 @@ pub record RoundFit (points : List Float) (visited : List Bool) (link : List ℕ
 abbrev pub standing : ℕ → ℕ → List Vertex → List Bool → Underway (List Vertex)
 standing first current vs visited = record { first = first; current = current; built = vs; visited = visited; past = [] }
 
--- the round of the definition, for whichever slices have these start points; and the lists are as good as they were
+-- the round of the definition, for whichever slices have these start points; and the invariant of the lists still holds
 pub record Rounded (points : List Float) (visited : List Bool) (link : List ℕ) (w : Layout) (room : List Float) (n first current : ℕ) (p : Plan) (r : Step) : Type 0 where
   pub is : (o1 o2 : List Float) (at : List ℕ) (numbers : List Float) → Points (given o1 o2 at numbers p) points
       → r ≡ toldOf (nextOf (rulesOf (given o1 o2 at numbers p)) (standing first current (chainOf room n) visited))

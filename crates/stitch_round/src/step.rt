@@ -1,4 +1,4 @@
-// A round: the candidates of the chain's last vertex, the selector's answer, and what it comes to.
+// A round: the candidates of the chain's last vertex, the selector's answer, and the outcome.
 ghost use mathlib.Core.Path.{_≡_};
 ghost use Prim.Native.Nat.{_-_};
 ghost use Rattle.outline.specs.Points.{posOf};
@@ -23,7 +23,7 @@ pub const NO_CANDIDATE: usize = 2;
 
 pub const NO_SELECTION: usize = 3;
 
-// What a round comes to: another slice is joined, or the chain ends.
+// The outcome of a round: another slice is joined, or the chain ends.
 pub enum Step {
     Onto(usize),
     Ends(usize),
@@ -55,7 +55,7 @@ fn step_of(n: usize, first: usize, answer: Answer) -> Step
     taken(n, first, j)
 }
 
-// What the selector answers for the last vertex of a chain of n vertices: by lists of cells, or by a scan where the slices hang on no lists.
+// What the selector answers for the last vertex of a chain of n vertices: by lists of cells, or by a scan where the slices are on no lists.
 fn look(
     points: &[f64],
     visited: &[bool],
@@ -78,7 +78,7 @@ fn look(
     answer::answer_of(points, visited, link, layout, end, first, current, p)
 }
 
-// What the round comes to.
+// The outcome of the round.
 pub fn next_of(
     points: &[f64],
     visited: &[bool],

@@ -46,7 +46,7 @@ unfolding totals
 totals-length m [] = refl
 totals-length m (a ∷ l) = ap suc (totals-length (m + a) l)
 
--- no total is above what all come to
+-- no total is above the sum of all
 pub totals-most : (m most : ℕ) (l : List ℕ) → m + sumOver (λ i. i) l ≤ most → All (λ n. n ≤ most) (totals m l)
 unfolding totals
 totals-most m most [] h = tt

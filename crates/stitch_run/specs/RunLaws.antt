@@ -119,7 +119,7 @@ module _ {C : Type 0} (R : Rules C) (among : Among R) where
         lowest = subst LowestFirst (sym (l ∙ u .begins)) (u .above);
       }
 
-  -- where the slices that are left and those that are placed are n together, none is joined any more
+  -- where n slices are placed, no round joins another. So a walk that may join as many as are not placed is a whole chain
   pub nothing-left : (prior : List ℕ) (w : Underway C) (j : ℕ) → nextOf R w ≡ onto j → Going prior w → R .count ≤ length (prior ++ placed w) → ⊥
   nothing-left prior w j q u h = omega (arith, placed-longer prior w j, tally-most (R .count) _ _ (going-onward prior w j q u .tally))
 

@@ -115,7 +115,7 @@ howOf tooSmall = 1
 howOf noCandidate = 2
 howOf noSelection = 3
 
--- for each number of a list, what all numbers up to and with it come to, m being before the first
+-- for each number of a list, the sum of m and of all numbers up to and with it
 unfoldable pub totals : ℕ → List ℕ → List ℕ
 totals m [] = []
 totals m (k ∷ l) = (m + k) ∷ totals (m + k) l

@@ -82,7 +82,7 @@ unvisited true true o e h = e
 unvisited true false o e h = sym h
 unvisited false c o e h = refl
 
--- a mark that is not set lies past those that all are
+-- where all marks up to i are set, a mark that is not set lies past i
 pub past-marks : (l : List Bool) (i j : ℕ) → ((k : ℕ) → k < suc i → getD l k false ≡ true) → getD l j false ≡ false → i < j
 past-marks l i j h e = go (decLt i j)
   where

@@ -31,7 +31,7 @@ module _ (t : Tolerance) (room : List Float) (v : Vertex) where
   repeat-last zero last p q r h e f g k = absurd (h refl)
   repeat-last (suc n) last p q r h e f g k = let m : suc n - 1 ≡ n = omega arith in k ∙ rw (f, g, e, m)
 
-  -- a chain whose last is repeated has one
+  -- a chain whose last vertex is repeated has a vertex
   pub repeat-some : (n : ℕ) → repeats t (chainOf room n) v ≡ true → 0 < n
   unfolding chainOf repeats
   repeat-some zero e = absurd (false≢true e)
@@ -186,7 +186,7 @@ module _ (t : Tolerance) (f : ℕ → Vertex) (most n : ℕ) (room : List Float)
         upto = omega arith;
       }
 
--- all vertices of the view have been
+-- all vertices of the view have been added
 pub adding-end : (t : Tolerance) (o : List Float) (vc : ℕ) (v : ViewData) (n : ℕ) (room : List Float) (r : ℕ) (room′ : List Float) (k : ℕ)
     → Adding t (vertexOf o vc v) (vertexCount v) n room r room′ k → vertexCount v ≤ k → Extended t o vc v n room r room′
 unfolding addView
@@ -194,7 +194,7 @@ adding-end t o vc v n room r room′ k a h =
     let e : k ≡ vertexCount v = omega (arith, a .upto) in
     record { grown = rw e at (a .grown); some = a .some (omega arith) }
 
--- room for one more of them
+-- there is room for one vertex more
 pub adding-fits : (t : Tolerance) (f : ℕ → Vertex) (n : ℕ) (room : List Float) (r : ℕ) (room′ : List Float) (k : ℕ) (o : List Float) (vc : ℕ) (v : ViewData)
     → ViewMore room n o vc v → Adding t f (vertexCount v) n room r room′ k → k < vertexCount v → OneMore room′ r
 adding-fits t f n room r room′ k o vc v m a h = record { fits = omega (arith, m .fits, a .grown .high, a .grown .size) }

@@ -1,4 +1,4 @@
--- The loops over marks: the live ones found, the lowest number that is not told, marks put down.
+-- The loops over marks: the live ones found, the lowest number whose flag is not set, marks written.
 use mathlib.Core.Path.{_≡_, refl, sym, ap, _∙_}
 use mathlib.Core.Bool.{Bool, true, false, not, cond, _||_, true≢false}
 use mathlib.Core.List.{List, [], _∷_, _++_, append-nil, append-assoc}
@@ -112,14 +112,14 @@ module _ (held : List ℕ) (p n : ℕ) (order handles places : List ℕ) (f : Lo
     unfolding s
     place-known = s .place t place-below ∙ ap (keyed placeOf (livesTo (length held) held p)) is-place
 
-    -- its handle is told already, or its place
+    -- the flag of its handle is set already, or that of its place
     pub looked-handle : (getD handles h 0 ≡ 0 → ⊥) → Looked held (p + 1) n order handles places
     looked-handle d = dead (fresh-handle (length held) (livesTo (length held) held p) (getD held p 0) (sym handle-known ∙ told-some (getD handles h 0) d))
 
     pub looked-place : (getD places t 0 ≡ 0 → ⊥) → Looked held (p + 1) n order handles places
     looked-place d = dead (fresh-place (length held) (livesTo (length held) held p) (getD held p 0) (sym place-known ∙ told-some (getD places t 0) d))
 
-    -- neither is
+    -- neither flag is set
     pub looked-more : getD handles h 0 ≡ 0 → getD places t 0 ≡ 0 → Looked held (p + 1) (n + 1) (set order n (getD held p 0)) (set handles h 1) (set places t 1)
     unfolding livesTo thenLive s
     looked-more a b =
@@ -152,7 +152,7 @@ module _ (held : List ℕ) (p n : ℕ) (order handles places : List ℕ) (f : Lo
 pub looked-end : (held order handles places : List ℕ) (p n : ℕ) → length held ≤ p → p ≤ length held → Looked held p n order handles places → Looked held (length held) n order handles places
 looked-end held order handles places p n a b s = let e : p ≡ length held = omega arith in rw e at s
 
--- ---- the lowest number that is not told: `left` numbers are still to be looked at
+-- ---- the lowest number whose flag is not set: `left` numbers are still to be looked at
 
 module _ (used : ℕ → Bool) (cap : ℕ) where
   abbrev pub Lowest : ℕ → Type 0

@@ -94,7 +94,7 @@ module _ {A : Type 0} (key : A → ℕ) where
   pub lowest-new : (n : ℕ) (l : List A) → length l < n → keyed key l (lowestFrom (keyed key l) 0 n) ≡ false
   lowest-new n l h = let q : lowestFrom (keyed key l) 0 n < n = lowest-below n l h in lowest-free (keyed key l) 0 n (omega arith)
 
--- a key that no element has, none of fewer has
+-- a key that no element has: none has it after elements are taken out
 pub without-none : {A : Type 0} (key other : A → ℕ) (l : List A) (k j : ℕ) → keyed other l j ≡ false → keyed other (without key l k) j ≡ false
 unfolding keyed without
 without-none key other [] k j e = refl

@@ -1,4 +1,4 @@
--- The store as four lent lists: what plain list they mean, and what each call makes of them. Written for any number of places.
+-- The store as four lent lists: what plain list they mean, and what each call makes of them. Written for any number of places; a mark can name 2,047.
 use Prim.Native.Nat.{ℕ, suc, _*_}
 use mathlib.Core.Bool.{cond}
 use mathlib.Core.Path.{_≡_}

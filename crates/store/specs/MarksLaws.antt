@@ -104,7 +104,7 @@ Proper cap (m ∷ l) = (named cap m ≡ true) × ((keyed handleOf l (handleOf m)
 other : (a b : ℕ) → eqb a b ≡ false → eqb b a ≡ false
 other a b e = ne-eqb b a (λ q. borrow.Author.Tests.eqb-false a b e (sym q))
 
--- a key that is none of a list's, before one more element
+-- a key that neither a list nor one more element has
 none-snoc : (key : ℕ → ℕ) (l : List ℕ) (m x : ℕ) → keyed key l (key x) ≡ false → eqb (key x) (key m) ≡ false → keyed key (l ++ (m ∷ [])) (key x) ≡ false
 none-snoc key l m x a b = keyed-snoc key l m (key x) ∙ rw (a, other (key x) (key m) b)
 
@@ -158,7 +158,7 @@ lives-most cap held (suc p) =
 
 -- ---- no mark clashes with those before it
 
--- a key of a list is that of one of its elements
+-- the key of each element is a key of the list
 keyed-at : (key : ℕ → ℕ) (l : List ℕ) (k : ℕ) → k < length l → keyed key l (key (getD l k 0)) ≡ true
 unfolding keyed
 keyed-at key [] k h = absurd (omega arith)

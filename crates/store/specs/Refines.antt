@@ -1,4 +1,4 @@
--- K9: "Whatever the sequence of calls, it answers as a plain list would", for every content of the lists.
+-- K9: "Whatever the sequence of calls, it answers as a plain list would", for every content of lists of up to 2,047 places: a mark names no more.
 use Prim.Native.Nat.{ℕ, _≤_, _<_}
 use mathlib.Core.Bool.{true, false}
 use mathlib.Core.Path.{_≡_, refl, sym, ap, _∙_}

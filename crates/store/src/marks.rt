@@ -42,7 +42,7 @@ fn names(cap: usize, m: usize) -> bool
     0 < k && (k <= cap && m / 2048 < cap)
 }
 
-// Number `p` is looked at, after `n` live marks: where it is a live mark it is put down, and its handle and its place are told. How many are live.
+// Looks at number `p`, after `n` live marks. Where it is a live mark it is written to `order`, and the flags of its handle and its place are set. Says how many are live.
 fn look(
     held: &[usize],
     p: usize,
@@ -72,7 +72,7 @@ fn look(
     n + 1
 }
 
-// The live marks in the order put, and the handles and the places that are taken. How many are live.
+// The live marks in the order put, and the handles and the places that are taken. Says how many are live.
 pub fn live_marks(
     held: &[usize],
     order: &mut [usize; MOST_PLACES],
@@ -91,7 +91,7 @@ pub fn live_marks(
     n
 }
 
-// The lowest number below `cap` that is not told, `cap` where all are.
+// The lowest number below `cap` whose flag is not set; `cap` where all are set.
 pub fn lowest(flags: &[u8; MOST_PLACES], cap: usize) -> usize
     requires { ⌜ Few cap ⌝ }
     ensures { λ r. ⌜ r ≡ lowestFrom (λ k. told (getD (now (flags .entry)) k 0)) 0 cap ⌝ }
@@ -117,7 +117,7 @@ pub fn set_marks(held: &mut [usize], order: &[usize; MOST_PLACES], n: usize)
     room::clear_counts(held, n, cap);
 }
 
-// Mark `m` is put down as number `k`, unless it has the handle `h`. How many marks there are then.
+// Writes mark `m` as number `k`, unless it has the handle `h`. Says how many marks there are then.
 fn put_other(held: &mut [usize], k: usize, m: usize, h: usize) -> usize
     requires { ⌜ OtherFits (now held) k ⌝ }
     ensures { λ r. ⌜ OtherPut (now (held .entry)) k m h (now (held .exit)) r ⌝ }
@@ -129,7 +129,7 @@ fn put_other(held: &mut [usize], k: usize, m: usize, h: usize) -> usize
     k + 1
 }
 
-// The first `n` of `order` are the marks, but for that of handle `h`, and zeros stand behind them.
+// The first `n` of `order` are the marks, except that of handle `h`, and zeros stand behind them.
 pub fn set_others(held: &mut [usize], order: &[usize; MOST_PLACES], n: usize, h: usize)
     requires { ⌜ MarksFit (now held) (now order) n ⌝ }
     ensures { λ _. ⌜ now (held .exit) ≡ filled 0 (length (now (held .entry))) (without handleOf (take n (now (order .entry))) h) ⌝ }

@@ -154,7 +154,7 @@ heard-unknown p w (v ∷ h) k z =
 pub plain-heard : (p : ℕ) (w : Lists) (h : List Called) → p < 2 → Sized places w → heard p w h ≡ answers (plainTurn share) (plainOf share (partOf share p w)) (own p h)
 plain-heard p w h k z = heard-own p w h k z ∙ asked-plain share few (partOf share p w) (own p h) (part-sized share p w k z)
 
--- ---- THE THEOREM of isolation: two histories, over two contents in which a party has the same live slices, that agree on its own calls; whatever the other party did
+-- ---- THE THEOREM of isolation: two histories, over two contents in which a party has the same live slices, answer the party alike where they agree on its own calls, whatever the other party did
 pub undisturbed : (p : ℕ) (w w′ : Lists) (h h′ : List Called) → Sized places w → Sized places w′
     → plainOf share (partOf share p w) ≡ plainOf share (partOf share p w′) → own p h ≡ own p h′ → heard p w h ≡ heard p w′ h′
 undisturbed p w w′ h h′ z z′ r o =
@@ -198,7 +198,7 @@ own-most (toRelease h) = first-most 9 [] tt
 own-most (toList h a s e) = first-most 9 (roomRows share h a s e) tt
 own-most toCompact = first-most 9 [] tt
 
--- a plain list that is not full is never full
+-- a plain list that is not full never answers 20
 plain-room : (l : List (Kept Slice)) (a : Asked) → length l < share → refusalIn (plainStep share l (callOf a) .answer) ≡ 20 → ⊥
 unfolding plainStep callOf refusalIn
 plain-room l (toPut x) room e =

@@ -1,4 +1,4 @@
--- K9: "Whatever the sequence of calls, it answers as a plain list would", for every content of lists of any number of places, refused calls included; the whole table of
+-- K9: "Whatever the sequence of calls, it answers as a plain list would", for every content of lists of up to 2,047 places, refused calls included; the whole table of
 -- an entry's refusals; and that a refusal leaves every list as it was.
 use Prim.Native.Nat.{ℕ, zero, suc, _*_, _≤_, _<_}
 use mathlib.Core.Bool.{Bool, true, false, not}
@@ -59,7 +59,7 @@ slice-whole x e =
     let b : length (x .number) ≡ 6 * 1 = length-ok 6 (length (x .number)) 1 (ok .1 .0) in
     record { four = omega arith; six = omega arith }
 
--- ---- lists of any number of places: one call, and every history of calls
+-- ---- lists of any number of places that a mark can name, which is 2,047: one call, and every history of calls
 
 module _ (cap : ℕ) (few : cap ≤ 2047) where
   own-sound : (a : Asked) → firstOf (ownRows cap a) ≡ 0 → Sound (callOf a)

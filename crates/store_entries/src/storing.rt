@@ -1,3 +1,4 @@
+// The four entries over the store.
 ghost use mathlib.Core.Path.{_≡_};
 ghost use lib.ListN.{length};
 ghost use Rattle.store.specs.Slice.{sliceOf};
@@ -12,7 +13,7 @@ use crate::faults;
 use basis::answer::CountAnswer;
 use store_party::half;
 
-// A slice of a party is put: the lowest handle that no live slice of the party has.
+// A slice of a party is put. It gets the lowest handle that no live slice of the party has.
 pub fn put(
     held: &mut [usize],
     at: &mut [usize],
@@ -46,7 +47,7 @@ pub fn put(
     answer::handle_from(put)
 }
 
-// The party's slice with a handle is let go.
+// The party's slice with a handle is released.
 pub fn release(
     held: &mut [usize],
     at: &[usize],

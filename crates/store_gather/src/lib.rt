@@ -12,7 +12,7 @@ use store::copies;
 use store::marks;
 use store::marks::MOST_PLACES;
 
-// What they take of codes and of numbers.
+// How many codes and how many numbers the most places have.
 const MOST_CODES: usize = 3584;
 
 const MOST_NUMBERS: usize = 5376;

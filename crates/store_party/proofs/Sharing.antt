@@ -81,7 +81,7 @@ module _ (p a a4 a6 : ℕ) (b : Begins 896 p a) (b4 : Begins 3584 p a4) (b6 : Be
     part-fit : Fit (cuts w)
     part-fit = let m = z .marks in rw (cuts-part w) (record { sized = rw m z; most = omega arith })
 
-    -- a call on the part that is lent, told of the party
+    -- a call on the part that is lent is a call of the party
     module _ (c : Call Slice) (sound : Sound c) where
       step-is : listStep (length (cuts w .held)) (cuts w) c ≡ listStep 896 (partOf 896 p w) c
       step-is = ap (λ (s : Lists). listStep (length (s .held)) s c) (cuts-part w) ∙ ap (λ (n : ℕ). listStep n (partOf 896 p w) c) (z .marks)

@@ -51,7 +51,7 @@ pub fn put(
     )
 }
 
-// The party's slice with a handle is let go: whether there was one.
+// The party's slice with a handle is released. Says whether there was one.
 pub fn release(held: &mut [usize], party: usize, handle: usize) -> bool
     requires { ⌜ PartMarksFit (now held) party ⌝ }
     ensures { λ r. ⌜ PartReleased (now (held .entry)) party handle r (now (held .exit)) ⌝ }
@@ -87,7 +87,7 @@ pub fn compact(
     );
 }
 
-// The party's live slices, in the order put. How many there are.
+// The party's live slices, in the order put. Says how many there are.
 pub fn list(
     held: &[usize],
     at: &[usize],

@@ -9,7 +9,7 @@ use store::copies;
 use store::marks;
 use store::marks::MOST_PLACES;
 
-// What a put comes to.
+// What a put answers.
 pub enum Handle {
     // The slice is kept under this handle.
     Given(usize),
@@ -36,7 +36,7 @@ fn write_slice(
     edition[t] = put_edition;
 }
 
-// A slice is put: the lowest handle that no live slice has, unless the store is full. No other slice is moved or read.
+// A slice is put, unless the store is full. It gets the lowest handle that no live slice has. No other slice is moved or read.
 pub fn put_slice(
     held: &mut [usize],
     at: &mut [usize],
@@ -68,7 +68,7 @@ pub fn put_slice(
     Handle::Given(h)
 }
 
-// The slice with handle `h` is let go: whether there was one. The slices' own lists are neither read nor written.
+// The slice with handle `h` is released. Says whether there was one. The slices' own lists are neither read nor written.
 pub fn release_slice(held: &mut [usize], h: usize) -> bool
     requires { ⌜ ReleaseFits (now held) ⌝ }
     ensures { λ r. ⌜ Released (now (held .entry)) h r (now (held .exit)) ⌝ }
@@ -103,7 +103,7 @@ pub fn compact_slices(held: &mut [usize], at: &mut [usize], shape: &mut [f64], e
     marks::number_marks(held, &order, n);
 }
 
-// The live slices in the order put: handles, codes, numbers and editions, each list with zeros up to its need. How many there are.
+// The live slices in the order put: handles, codes, numbers and editions, each list with zeros up to its need. Says how many there are.
 pub fn list_slices(
     held: &[usize],
     at: &[usize],

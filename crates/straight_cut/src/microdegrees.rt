@@ -11,7 +11,7 @@ ghost use Rattle.straight_cut.specs.Microdegrees.{isWhole, valueOf, read
 use outline::read;
 use straight_entries::range;
 
-// A whole number of a mask as an f64, which holds it.
+// A whole number in the range of a mask as an f64, which holds it exactly.
 fn float_of(z: i64) -> f64
     requires { ⌜ Near 400000000 z ⌝ }
     ensures { λ r. ⌜ r ≡ ofInt binary64 z ⌝ }
@@ -19,7 +19,7 @@ fn float_of(z: i64) -> f64
     z as f64
 }
 
-// Whether x is a whole number of microdegrees, within those of a mask.
+// Whether x is a whole number of microdegrees in the range of a mask.
 pub(crate) fn is_whole(x: f64) -> bool
     ensures { λ r. ⌜ r ≡ isWhole x ⌝ }
 {

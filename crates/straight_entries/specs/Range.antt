@@ -6,7 +6,7 @@ use lib.IntN.{ℤ, pos, negℤ}
 use lib.Signed.{leZ}
 use Rattle.basis.specs.All.{allOf}
 
--- "magnitude at most m": -m ≤ z ≤ m
+-- "magnitude at most" m: -m ≤ z ≤ m
 unfoldable pub inReach : ℕ → ℤ → Bool
 inReach m z = leZ (negℤ (pos m)) z && leZ z (pos m)
 

@@ -1,3 +1,4 @@
+// The entry `mask_straight_area`.
 ghost use mathlib.Core.Path.{_≡_};
 ghost use Rattle.straight_entries.specs.AreaEntry.{areaRefusal, areaAnswer};
 use crate::answer;

@@ -1,3 +1,4 @@
+// The entry `mask_straight_report`.
 ghost use mathlib.Core.Path.{_≡_};
 ghost use Prim.Native.Nat.{_-_};
 ghost use Rattle.straight_report.specs.Report.{lastOf, sizesFault};
@@ -10,7 +11,7 @@ use basis::refuse;
 // The most outlines of a report.
 pub const MOST_LOOPS: usize = 4096;
 
-// end less from, and 0 where that is below 0.
+// end minus from, and 0 where that is below 0.
 fn vertices(end: usize, from: usize) -> usize
     ensures { λ r. ⌜ r ≡ end - from ⌝ }
 {

@@ -47,7 +47,7 @@ fn sum_of(a: ReportAnswer, b: ReportAnswer) -> ReportAnswer
     }
 }
 
-// The report on what two reports are of.
+// The report on the outlines of two reports.
 fn join(a: ReportAnswer, b: ReportAnswer) -> ReportAnswer
     requires { ⌜ Both a b ⌝ }
     ensures { λ r. ⌜ Joined a b r ⌝ }
@@ -69,7 +69,7 @@ pub fn none() -> ReportAnswer
     answer::report_refused(0)
 }
 
-// The report on what `so_far` is of and one outline more.
+// The report on the outlines of `so_far` and on one outline more.
 pub fn next(so_far: ReportAnswer, outline: &[i64], vc: usize) -> ReportAnswer
     requires { ⌜ Reported «so_far» ⌝ }
     ensures { λ r. ⌜ Joined «so_far» (reportAnswer (now (outline .entry)) (vc ∷ []) 1) r ⌝ }

@@ -1,3 +1,4 @@
+// The entry `mask_straight_winding`.
 ghost use mathlib.Core.Path.{_≡_};
 ghost use Rattle.straight_entries.specs.WindingEntry.{windingRefusal, windingAnswer};
 use crate::answer;

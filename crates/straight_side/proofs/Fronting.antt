@@ -108,7 +108,7 @@ module _ (o : List Float) (ha : List ℕ) (h : List Float) (la : List ℕ) (l : 
           size-edition = p .size-edition;
         }
 
--- ---- lists for so many cuts and vertices serve a call that has no more, and lists for the most serve every call
+-- ---- lists for so many cuts and vertices are enough for a call that has no more, and the largest lists for every call
 module _ (g : Given) (other : List Float) (side : Side) (sorted cutAt : List ℕ) (cut : List Float) (wholes : List ℤ) (room : Rooms) where
   pub few-lists : (cuts vertices : ℕ) → KeptFew cuts vertices g other side room → length sorted ≡ cuts → length cutAt ≡ 3 * cuts → length cut ≡ 2 * cuts → length wholes ≡ 2 * vertices
       → KeptWith g other side sorted cutAt cut wholes room

@@ -82,7 +82,7 @@ shape-behind xs n v l =
       «end_point» = record { x = seam xs ys (6 * n) 4 (6 * n + 4) nan l refl t; y = seam xs ys (6 * n) 5 (6 * n + 5) nan l refl t };
     })
 
--- ---- what is kept of the first n goes by the first n alone
+-- ---- what is kept of the first n depends on the first n alone
 kept-same : (c d : Cands) (part : Part) (n : ℕ) → ((k : ℕ) → k < n → getD (d .inside) k 0 ≡ getD (c .inside) k 0) → ((k : ℕ) → k < n → candSlice d part k ≡ candSlice c part k) → keptTo d part n ≡ keptTo c part n
 unfolding keptTo
 kept-same c d part zero f g = refl

@@ -45,7 +45,7 @@ module _ (other : List ℤ) (edition : ℕ) (part : Part) where
           let q : Placed (sliceOf (viewCodes part v) (viewShape v) edition ∷ []) l n (n + 1) l′ = subst (λ (y : slice.Slice). Placed (y ∷ []) l n (n + 1) l′) (λ i. sliceOf (e i) (f i) edition) p in
           rw (is, ← told, eq-eqb k (part .keep) h) q
 
-  -- ---- at most one a place
+  -- ---- at most one at each place
   one-few : {A : Type 0} (b : Bool) (x : A) → length (cond b (x ∷ []) []) ≤ 1
   one-few true x = omega arith
   one-few false x = zero-le

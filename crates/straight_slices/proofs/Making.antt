@@ -28,7 +28,7 @@ second-few g = count-most (alongStraight (secondCuts g))
 
 -- ---- one outline behind the other
 module _ (g : Given) (room : Rooms) (k : SidesRoom g room) where
-  -- the cuts of either outline by what its turn says
+  -- the cuts of each outline, by the numbers of its turn
   abbrev ofFirst : Side → cuts.Given
   ofFirst s = cuts.given (g .outline1) (g .hitAt) (g .hit) (g .lapAt) (g .lap) (s .cuts)
 

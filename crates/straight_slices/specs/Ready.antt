@@ -13,7 +13,7 @@ pub record SidesRoom (g : Given) (room : Rooms) : Type 0 where
   pub second : Both (secondCuts g) (g .outline1) (g .job .vc1)
   pub roomy : Roomy (needAll (g .job)) room
 
--- the overlaps fit too, and the call of `mask_prune` is made out for the most candidates
+-- the overlaps fit too, and the call of `mask_prune` is that with the most candidates
 pub record Accepted (g : Given) (call : Call) (room : Rooms) : Type 0 where
   pub sides : SidesRoom g room
   pub laps : OverlapsFit (overlaps (g .lapAt) (g .lap) (g .lapEdition)) (g .job .laps)

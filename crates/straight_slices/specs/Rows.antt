@@ -28,7 +28,7 @@ moreListRows len vc editions laps = row (lengthFault 3 len vc) 1 ∷ row (length
 abbrev pub listRows : Given → List Row
 listRows g = cuts.listRows (firstCuts g) ++ moreListRows (length (g .outline2)) (g .job .vc2) (length (g .lapEdition)) (g .job .laps)
 
--- 2 and 3
+-- 2: "an outline is too short or too long"; 3: "mode, [..] or yes/no code is unknown"
 abbrev pub codeRows : Job → List ℕ → List Row
 codeRows j lapAt =
     row (sizeFault (j .vc1)) 2
@@ -38,7 +38,7 @@ codeRows j lapAt =
     ∷ row (not (choicesKnown 7 4 lapAt)) 3
     ∷ []
 
--- 4 and 5
+-- 4: a tolerance "is not finite or is out of range"; 5: "a number is not finite or is too large"
 abbrev pub numberRows : Tolerance → List Float → List Float → List Float → List Float → List Row
 numberRows t outline1 outline2 hit lap =
     row (not (tolerable t)) 4
@@ -74,7 +74,7 @@ inputRows g =
     ++ (numberRows (g .job .tolerance) (g .outline1) (g .outline2) (g .hit) (g .lap)
     ++ (straightRows (g .outline1) (g .outline2) (g .hit) (g .lap) ++ indexRows (g .job) (g .hitAt) (g .lapAt))))
 
--- 9
+-- 9: "lent room smaller than the need"
 abbrev pub lentRows : Given → ℕ → ℕ → ℕ → List Row
 lentRows g at slice edition = roomRows (needAll (g .job)) at slice edition
 

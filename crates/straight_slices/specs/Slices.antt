@@ -67,7 +67,7 @@ pruning g =
     prune.given (callOf (j .mode) (j .opposing) (j .vc1) (j .vc2) (sideCount (firstCuts g)) (sideCount (secondCuts g)) (j .laps)) (firstCands g) (secondCands g)
     (overlaps (g .lapAt) (g .lap) (g .lapEdition))
 
--- "Need as `mask_prune`'s with the most candidates that the cuts allow": one a cut, of each outline
+-- the need: that of `mask_prune` with the most candidates that the cuts allow, one a cut, of each outline
 abbrev pub mostCall : Job → Call
 mostCall j = callOf (j .mode) (j .opposing) (j .vc1) (j .vc2) (j .hits + 2 * j .laps) (j .hits + 2 * j .laps) (j .laps)
 

@@ -81,7 +81,7 @@ isPair l = cond (eqb (l .stage) 5) true (eqb (l .stage) 6)
 abbrev pub isEmpty : Line → Bool
 isEmpty l = eqb (l .stage) 0
 
--- a number past the range is one past it, so that it is refused as what it is
+-- a number past the range is read as 400,000,001, so that it is refused as out of range
 abbrev pub cappedOf : ℕ → ℕ
 cappedOf size = cond (ltb 400000000 size) 400000001 size
 

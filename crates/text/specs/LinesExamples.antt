@@ -22,7 +22,7 @@ empty : lineOf (32 ∷ 13 ∷ []) .stage ≡ 0
 unfolding lineFrom step isDigit isBlank blanksMore onBlank onMinus onDigit more stageOf otherRead
 empty = refl
 
--- `400000000 400000001`, and a number far beyond: each keeps on which side of the range it is
+-- `400000000 400000001`: the last number in range, and the first past it
 far : lineOf (52 ∷ 48 ∷ 48 ∷ 48 ∷ 48 ∷ 48 ∷ 48 ∷ 48 ∷ 48 ∷ 32 ∷ 52 ∷ 48 ∷ 48 ∷ 48 ∷ 48 ∷ 48 ∷ 48 ∷ 48 ∷ 49 ∷ []) ≡ pair 5 0 400000000 0 400000001
 unfolding lineFrom step isDigit isBlank blanksMore onBlank onMinus onDigit more stageOf otherRead
 far = refl

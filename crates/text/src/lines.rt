@@ -4,7 +4,7 @@ ghost use mathlib.Core.Path.{_≡_};
 ghost use Prim.Native.Nat.{_≤_};
 ghost use Rattle.text.specs.Lines.{isBlank, isDigit, more, blanksMore, onBlank, onMinus, onDigit, digitOf, digitRead, minusRead, shifted, moved, stageOf, otherRead, step, isPair, isEmpty, coordinateOf, Capped};
 
-// What was read of a line: how far it came, the number that is being read, and the first number once it is read.
+// What was read of a line: how far it came (a stage from 0 to 7, see specs/Lines.antt), the number that is being read, and the first number once it is read.
 pub struct Line {
     pub stage: u32,
     pub negative: u32,

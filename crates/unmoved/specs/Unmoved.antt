@@ -21,7 +21,7 @@ sameVertex a b = sameBits (a .x) (b .x) && (sameBits (a .y) (b .y) && sameBits (
 unfoldable pub sameAt : List Float → ℕ → List Float → ℕ → ViewData → ℕ → Bool
 sameAt o1 vc1 o2 vc2 v k = sameVertex (vertexOf o1 vc1 v k) (vertexOf o2 vc2 v k)
 
--- of n numbers from k on the lowest of which a test fails, and k + n where it passes of each
+-- of the n numbers from k on the lowest for which a test fails, and k + n where it passes for each
 unfoldable pub lowestFrom : (ℕ → Bool) → ℕ → ℕ → ℕ
 lowestFrom q k zero = k
 lowestFrom q k (suc n) = cond (q k) (lowestFrom q (suc k) n) k

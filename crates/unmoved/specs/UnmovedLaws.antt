@@ -22,7 +22,7 @@ use Rattle.view.specs.View.{Fit, forwardAt, turnedAt, invertedAt, vertexOf, ver
 use Rattle.view.specs.ViewTheorems.{outline-passes}
 use Rattle.unmoved.specs.Unmoved.{sameBits, sameVertex, sameAt, lowestFrom, firstMoved, Numbers, Vertices, BothFit}
 
--- ---- the numbers of a view's vertex: a test that does not see signs, and that all numbers handed in pass
+-- ---- the numbers of a view's vertex: where all numbers handed in pass a test that does not look at signs, they pass it too
 module _ (p : Float → Bool) (even : (x : Float) → p (neg x) ≡ p x) (none : p +0 ≡ true) where
   -- three numbers that pass
   pub record Passes (u : Vertex) : Type 0 where
@@ -145,7 +145,7 @@ module _ (o1 : List Float) (vc1 : ℕ) (o2 : List Float) (vc2 : ℕ) (v : ViewDa
       let n = v .«end_index_offset» in
       rw (ne-eqb (n + 1) 0 (λ e. omega arith), le-ltb (n + 1) n (omega arith), ne-eqb (n + 1) n (λ e. omega arith))
 
-  -- one vertex on both is alike
+  -- a vertex that is the same on both outlines has the same bits
   pub alike : (k : ℕ) → vertexOf o1 vc1 v k ≡ vertexOf o2 vc2 v k → sameAt o1 vc1 o2 vc2 v k ≡ true
   unfolding sameAt
   alike k e = same-self _ _ e

@@ -28,11 +28,11 @@ three = ofBits binary64 0x4008_0000_0000_0000
 abbrev ten : Float
 ten = ofBits binary64 0x4024_0000_0000_0000
 
--- A with a first vertex
+-- A, with its first vertex at (x, y)
 abbrev squareFrom : Float → Float → List Float
 squareFrom x y = x ∷ y ∷ +0 ∷ four ∷ +0 ∷ +0 ∷ four ∷ four ∷ +0 ∷ +0 ∷ four ∷ +0 ∷ []
 
--- the union's slice of A, in either direction: from (2,4) by (0,4), (0,0) and (4,0) to (4,2)
+-- the union's slice of A, in either direction: from (2,4) through (0,4), (0,0) and (4,0) to (4,2)
 abbrev slice : ℕ → View
 slice inverted =
     record {
@@ -61,7 +61,7 @@ pub sign-moved : unmovedAnswer (squareFrom +0 +0) 4 (squareFrom (neg +0) +0) 4 (
 unfolding opens
 sign-moved = refl
 
--- Document 01's A with two more corners, (0,0) (4,0) (4,3) (4,4) (3,4) (0,4), and (4,4) moved to (10,10): the union's slice of A does not run by that corner, and nothing of it has moved.
+-- Document 01's A with two more corners, (0,0) (4,0) (4,3) (4,4) (3,4) (0,4), and (4,4) moved to (10,10): the union's slice of A does not go through that corner, and nothing of it has moved.
 abbrev cornerAt : Float → List Float
 cornerAt c = +0 ∷ +0 ∷ +0 ∷ four ∷ +0 ∷ +0 ∷ four ∷ three ∷ +0 ∷ c ∷ c ∷ +0 ∷ three ∷ four ∷ +0 ∷ +0 ∷ four ∷ +0 ∷ []
 
@@ -80,7 +80,7 @@ pub dropped-part-moved : unmovedAnswer (cornerAt four) 6 (cornerAt ten) 6 rest �
 unfolding opens
 dropped-part-moved = refl
 
--- A vertex fewer: its numbers are those of another outline.
+-- Two vertices fewer: the view's start, 4, is not below the new vertex count, 4.
 pub vertex-removed : unmovedAnswer (cornerAt four) 6 (squareFrom +0 +0) 4 rest ≡ unmovedRefused 6
 unfolding opens
 vertex-removed = refl

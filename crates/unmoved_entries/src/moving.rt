@@ -1,3 +1,4 @@
+// The entry `mask_unmoved`.
 ghost use mathlib.Core.Path.{_≡_};
 ghost use Rattle.basis.specs.Refuse.{firstFrom};
 ghost use Rattle.unmoved_entries.specs.UnmovedEntry.{valueRows, indexRows, unmovedRefusal, unmovedAnswer};
@@ -9,7 +10,7 @@ use unmoved::moved;
 use view_entries::input;
 use view_entries::input::View;
 
-// Numbers 1 to 5.
+// Numbers 1, 2, 3 and 5.
 fn value_refusal(outline1: &[f64], vc1: usize, outline2: &[f64], vc2: usize, v: View) -> u32
     ensures { λ r. ⌜ r ≡ firstFrom 0 (valueRows (now (outline1 .entry)) vc1 (now (outline2 .entry)) vc2 v) ⌝ }
 {

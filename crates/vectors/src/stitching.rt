@@ -77,7 +77,7 @@ fn is_stitch_answer(w: &[usize], r: StitchAnswer) -> bool {
     )
 }
 
-// The four lists of numbers of slices, one behind the other at exit.
+// The four lists of whole numbers hold at exit what the case has one behind the other: the loops' ends, the chains, their ends, how they ended.
 fn left_chains(
     w: &[usize],
     l: LentWords,

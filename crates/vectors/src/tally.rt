@@ -2,10 +2,10 @@
 use crate::bits;
 use libc::STDOUT_FILENO;
 
-// Below these places the counts of the entries stand, by their numbers in the record.
+// The count of all cases stands here; below it those of the entries, by their numbers in the record.
 const ALL: usize = 32;
 
-// Those whose answer is the original's, and the refusal table's.
+// The cases whose answer is the original's, and those whose answer is the refusal table's.
 const ORIGINAL: usize = 33;
 
 const TABLE: usize = 34;
@@ -15,7 +15,7 @@ const WORDS: usize = 35;
 
 const ANNOUNCED: usize = 36;
 
-// From here on those that differ, by the numbers of the entries too, and all of them.
+// The cases that differ: from the first place on by the numbers of the entries, and at the second all of them.
 const DIFFER: usize = 40;
 
 const ALL_DIFFER: usize = 72;

@@ -49,7 +49,7 @@ pub(crate) fn behind(w: &[usize], p: usize) -> usize {
     p + 1 + n
 }
 
-// The same where it is no more than n, and n else.
+// The same, and n where that is less.
 fn end(w: &[usize], p: usize, n: usize) -> usize
     ensures { λ r. ⌜ r ≤ n ⌝ }
 {
@@ -132,7 +132,7 @@ pub(crate) fn same(word: usize, x: f64) -> bool {
     (1.0 / x > 0.0) == (word == 0)
 }
 
-// Word i is so much, as a whole number, as a code, as a float.
+// Word i is this whole number, this code, this float.
 pub(crate) fn is(w: &[usize], i: usize, n: usize) -> bool {
     at(w, i) == n
 }

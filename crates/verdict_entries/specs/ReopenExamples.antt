@@ -31,7 +31,7 @@ four = ofBits binary64 0x4010_0000_0000_0000
 abbrev late : List Float
 late = one ∷ one ∷ +0 ∷ four ∷ +0 ∷ +0 ∷ four ∷ four ∷ +0 ∷ +0 ∷ four ∷ +0 ∷ []
 
--- the union's slice of A: from (2,4) by (0,4), (0,0) and (4,0) to (4,2)
+-- the union's slice of A: from (2,4) through (0,4), (0,0) and (4,0) to (4,2)
 abbrev slice : View
 slice =
     record {

@@ -26,7 +26,7 @@ use Rattle.verdict_entries.specs.VerdictAnswers.{verdictRefused, verdict
 unfoldable pub startFault : ℕ → ℕ → Bool
 startFault vc start = leb 2 vc && leb vc start
 
--- what a verdict asks for: of these numbers the entries that give one speak alike
+-- what a verdict asks for: the rows that both entries share, `mask_validate_for_source` and `mask_reopen`
 abbrev pub askRows : List Float → ℕ → View → ℕ → ℕ → List Row
 askRows o vc v startOn endOn =
     row (lengthFault 3 (length o) vc) 1

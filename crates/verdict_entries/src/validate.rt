@@ -1,3 +1,4 @@
+// The entry `mask_validate_for_source`, and the refusals that it shares with `mask_reopen`.
 ghost use mathlib.Core.Path.{_≡_};
 ghost use Rattle.verdict_entries.specs.ValidateEntry.{startFault, askRefusal, validateRefusal, validateAnswer};
 use crate::answer;

@@ -115,7 +115,7 @@ abbrev -0 : Float
 abbrev -half : Float
 -half = fin true 1 (negsuc 0)
 
--- on the triangle with a bulge 1/2: from (1,0) by (2,0) and (0,2) to (0,1), and the same inverted
+-- on the triangle with a bulge 1/2: from (1,0) through (2,0) and (0,2) to (0,1), and the same inverted
 abbrev way : ViewData
 way = viewOf 0 2 (straight one +0) +0 (at +0 one)
 

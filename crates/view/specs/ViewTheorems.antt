@@ -1,4 +1,4 @@
--- Theorems about the definitions of `View` and `Create`, so that a reader can trust them. No code is proved by them.
+-- Theorems about the definitions of `View` and `Create`, so that a reader can trust them. Of the proofs of code only one rests on them, in the crate unmoved: it uses `outline-passes`.
 use Prim.Native.Nat.{ℕ, _+_, _-_, _*_, _≤_, _<_}
 use mathlib.Core.Bool.{Bool, true, false, _&&_}
 use mathlib.Core.Path.{_≡_, refl, sym, ap, ap₂, subst, _∙_}
@@ -286,7 +286,7 @@ module _ (i : ℕ) (first : Vertex) (end : Point) (t : Tolerance) where
     pub single-bulges : OneBulge v
     single-bulges = subst OneBulge single-is (λ z. refl)
 
--- ---- Every number of a view was handed to its constructor: a test that all numbers handed in pass, as `within`, the view's numbers pass.
+-- ---- Every number of a view was handed to its constructor: where all numbers handed in pass a test, such as `within`, the view's numbers pass it.
 module _ (p : Float → Bool) where
   numbers-pass : (u : Vertex) (b : Float) (e : Point) → allOf p (vertexNumbers u) ≡ true → p b ≡ true → allOf p (pointNumbers e) ≡ true
       → allOf p (vertexNumbers u ++ (b ∷ pointNumbers e)) ≡ true

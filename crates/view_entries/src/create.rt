@@ -1,3 +1,4 @@
+// The entry `mask_create`: its refusals and its answer.
 ghost use mathlib.Core.Path.{_≡_};
 ghost use Rattle.basis.specs.Number.{toleranceOf};
 ghost use Rattle.view_entries.specs.Inputs.{walkOf};

@@ -1,3 +1,4 @@
+// The entry `mask_from_entire_pline`: its refusals and its answer.
 ghost use mathlib.Core.Path.{_≡_};
 ghost use Rattle.view_entries.specs.EntireEntry.{entireRefusal, entireAnswer};
 use crate::answer;

@@ -1,3 +1,4 @@
+// The entry `mask_create_on_single_segment`: its refusals and its answer.
 ghost use mathlib.Core.Path.{_≡_};
 ghost use Rattle.basis.specs.Number.{toleranceOf};
 ghost use Rattle.view_entries.specs.SingleEntry.{singleRefusal, singleAnswer};

@@ -1,3 +1,4 @@
+// The entry `mask_view_vertex`, and the refusals that it shares with `mask_view_vertices`.
 ghost use mathlib.Core.Path.{_≡_};
 ghost use Rattle.view_entries.specs.ViewVertex.{viewVertexRefusal, viewVertexAnswer};
 use crate::answer;

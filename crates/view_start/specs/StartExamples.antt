@@ -1,4 +1,4 @@
--- Closed examples of every corner of `from_slice_points` and `from_new_start`, computed, each at its smallest input. The host splits straight segments, as the Rust does.
+-- Closed examples of every corner of `from_slice_points` and `from_new_start`, computed, each on a small input. The host splits straight segments, as the Rust does.
 use Prim.Native.Nat.{ℕ}
 use mathlib.Core.Bool.{Bool, true, false}
 use mathlib.Core.Path.{_≡_, refl}
@@ -90,7 +90,7 @@ fine = alike (fin false 1 (negsuc 9))
 abbrev coarse : Tolerance
 coarse = alike one
 
--- "split_vertex" of a straight segment is the point, and its first part starts where it did
+-- `split_vertex` of a straight segment is the point, and its first part starts where it did
 abbrev straight : Asked → Parts
 straight a = record { part = a .from; vertex = atPoint (a .at) +0 }
 
@@ -140,7 +140,7 @@ pub farther-wraps : (span true 0 three 0 one ≡ spanWith false 0 2) × (slice t
 unfolding made
 farther-wraps = (refl, refl)
 
--- (3,0) and (0,3) are as far from (0,0)
+-- (3,0) and (0,3) are equally far from (0,0)
 abbrev level : Ends
 level = endsOf true 0 (at three) 0 (record { x = +0; y = three })
 

@@ -75,7 +75,7 @@ module _ (o : List Float) (vc : ℕ) (e : Ends) (t : Tolerance) (p : Splits) (v 
         by-maker (λ s q m. single-bulges (s .«start_index») (p .«end_part») (e .«end_point») t v m)
         (λ s q n m. subst OneBulge m (create-bulges o vc (walkOver o vc e s p) t (walk-fits o vc e s p _ (span-fits o vc e t s f q) n refl)))
 
-  -- Its numbers were handed in: a test that all of these pass, as `within`, they pass.
+  -- Its numbers were handed in: where all numbers handed in pass a test, such as `within`, its numbers pass it.
   pub slice-numbers : (q : Float → Bool) → Whole o vc → allOf q o ≡ true → allOf q (vertexNumbers (p .«start_vertex»)) ≡ true → allOf q (vertexNumbers (p .«end_part»)) ≡ true
       → allOf q (pointNumbers (e .«end_point»)) ≡ true → allOf q (viewNumbers v) ≡ true
   unfolding walkOver
@@ -161,7 +161,7 @@ module _ (o : List Float) (vc i : ℕ) (p : Point) (t : Tolerance) (s : Splits) 
   round-last =
       rounded (λ (v : ViewData). vertexOf o vc v (v .«end_index_offset» + 1) ≡ atPoint p +0) (forward-beyond o vc _ _ (omega arith)) (forward-beyond o vc _ _ (omega arith))
 
-  -- So every vertex of the outline but the segment's own stands in it, at as many places on as it is ahead, and at no other between the ends.
+  -- So every vertex of the outline but the segment's own stands in it, at the place that is as many on as the vertex is ahead.
   pub round-has : (j : ℕ) → j < vc → (start ≡ j → ⊥) → vertexOf o vc (roundView o vc i p t s) (ahead vc start j) ≡ vertexAt o j
   unfolding outlineAt
   round-has j h n =
@@ -231,7 +231,7 @@ module _ (o : List Float) (vc : ℕ) (t : Tolerance) (s : Splits) (whole : Whole
     abbrev first : Point
     first = posOf (outlineAt o vc 0)
 
-    -- A closed outline: from every segment whose start comes to be vertex 0. That is segment 0 itself, and the last, whose end it is.
+    -- A closed outline: from every segment whose start comes to be vertex 0. That is segment 0, where the start does not move, and the last, whose end it is.
     pub own-start-closed : (i : ℕ) → Segment o vc i → spanOf o vc (roundEnds i first) t .«start_index» ≡ 0 → newStartView o vc true i first t s ≡ one.View (entireView o vc true)
     unfolding newStartView entireView entireOffset
     own-start-closed i g z =

@@ -22,7 +22,7 @@ pub struct Splits {
     pub end_part: Vertex,
 }
 
-// The vertex that the view runs on from: the outline's own where the start moved onto it, else the one that the start was split off at.
+// The vertex from which the view goes on: the outline's own where the start moved onto it, else the split vertex of the start's split.
 fn running_vertex(outline: &[f64], vc: usize, s: Span, split: Vertex) -> Vertex
     requires { ⌜ Near (now outline) vc (s .«start_index») ⌝ }
     ensures { λ r. ⌜ r ≡ runningVertex (now (outline .entry)) vc s split ⌝ }

@@ -45,7 +45,7 @@ pub back : (spanRefusal line 2 0 (between false 1 0) t ≡ 15) × (spanRefusal l
 unfolding looks
 back = (refl, refl, refl)
 
--- A start index that is too large is 6, though it is above the end index too; and so is an end index.
+-- A start index that is too large is 6, though it is above the end index too; and so is an end index. An unknown code is 3, before both.
 pub six-first : (spanRefusal line 2 0 (between false 2 0) t ≡ 6) × (spanRefusal line 2 0 (between false 0 2) t ≡ 6) × (spanRefusal line 2 2 (between false 1 0) t ≡ 3)
 unfolding looks
 six-first = (refl, refl, refl)

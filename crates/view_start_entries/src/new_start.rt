@@ -1,3 +1,4 @@
+// The entry `mask_from_new_start`.
 ghost use mathlib.Core.Path.{_≡_};
 ghost use Rattle.basis.specs.Number.{toleranceOf};
 ghost use Rattle.view_start_entries.specs.NewStartEntry.{newStartRefusal, newStartAnswer};

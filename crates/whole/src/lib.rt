@@ -1,3 +1,3 @@
-// Exact whole numbers: one signed step a function, told in ℤ, and sums held as two 64-bit words.
+// Exact whole numbers: signed operations, one in each function, with contracts in ℤ; and sums held as two 64-bit words.
 pub mod signed;
 pub mod two;

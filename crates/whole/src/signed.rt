@@ -1,4 +1,4 @@
-// One signed step a function, so that callers speak of ℤ and never of bits.
+// One signed operation in each function, so that callers speak of ℤ and never of bits.
 ghost use mathlib.Core.Path.{_≡_};
 ghost use lib.IntN.{pos, natAbs, _-ℤ_};
 ghost use lib.Signed.{ltZ, leZ};

@@ -46,7 +46,7 @@ pub fn less(a: Two, b: Two) -> bool
     a.low < b.low
 }
 
-// a less b, which is no larger: the low words wrapping, the borrow read from a comparison and taken from the high word.
+// a minus b, which is no larger: the low words wrapping, the borrow read from a comparison and taken from the high word.
 pub fn take(a: Two, b: Two) -> Two
     requires { ⌜ NoMore a b ⌝ }
     ensures { λ r. ⌜ r ≡ two (value a - value b) ⌝ }

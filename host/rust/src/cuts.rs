@@ -232,7 +232,8 @@ pub fn cut_order(
 /// from a segment's last cut to the next segment that has one. `splits` are the host's, one for
 /// each cut of [`cut_order`] with the same lists; [`split_cuts`](crate::split_cuts) asks for them.
 ///
-/// Refusals: those of [`cut_order`].
+/// Refusals: those of [`cut_order`]; `Length` also where there is not one split for each cut, and
+/// `Number` for a number of a split.
 pub fn candidates(
     outline: &Outline,
     source: Source,
@@ -257,6 +258,8 @@ pub fn candidates(
 
 /// The same with the cuts as [`cut_order`] gave them: to check that order takes less time than to
 /// find it again. The cuts are a hint: with any others the answer is that of [`candidates`] too.
+///
+/// Refusals: those of [`candidates`].
 pub fn candidates_along(
     outline: &Outline,
     source: Source,

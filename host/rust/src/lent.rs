@@ -6,7 +6,8 @@
 //! left as it was. Where the room is smaller than the need, the call is refused with
 //! [`Refusal::Room`]; a refused call writes nothing.
 //!
-//! The functions of the same names at the top of this crate lend room of their own.
+//! The functions of the same names at the top of this crate lend room of their own. Those here refuse
+//! as they do, and then with [`Refusal::Room`], which is looked at last.
 
 use crate::ffi;
 use crate::{

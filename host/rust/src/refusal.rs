@@ -19,16 +19,17 @@ use std::fmt;
 #[derive(Debug, Clone, Copy, PartialEq, Eq, Hash)]
 #[non_exhaustive]
 pub enum Refusal {
-    /// 1: a list's length disagrees with its count, or a count is above its most.
+    /// 1: a list's length disagrees with its count, or a count is above its most; of a record: it
+    /// has more than 28 slices.
     Length,
-    /// 2: an outline has fewer than 2 or more than 1,024 vertices.
+    /// 2: an outline has fewer than 2 or more than 1,024 vertices; in a record more than 64.
     Outline,
     /// 3: a mode, selector, source or yes/no code is unknown. The types of this crate leave no
     /// way to write such a code. It can come from bytes, of a record or of a store, and from the
     /// answers of [`lent::prune`](crate::lent::prune), which are numbers.
     Code,
     /// 4: a tolerance, of x or of y, is not finite, not above 0 or above 1; or an area limit is not
-    /// finite or below 0.
+    /// finite or below 0; or two tolerances differ, and a record of version 1 is to be written.
     Tolerance,
     /// 5: a number is not finite or beyond 2^30 in magnitude; of areas: not finite.
     Number,
@@ -44,7 +45,8 @@ pub enum Refusal {
     Mark,
     /// 12: a version of the record of a stitch is unknown.
     Version,
-    /// 13: a record of a stitch has another length than its counts say, or a length above the most.
+    /// 13: a record of a stitch is shorter than its head, longer than the most, or of another length
+    /// than its counts say.
     Size,
     /// 14: a view, or a slice, is of another edition than the outline: the outline was changed after
     /// it was cut.
@@ -55,7 +57,7 @@ pub enum Refusal {
     UnknownSetting,
     /// 17: the record has its 16 settings.
     SettingsFull,
-    /// 18: a coordinate of a straight mask is out of range or not whole, or the mask has a bulge.
+    /// 18: a coordinate of a straight mask is out of range or not whole, or a bulge is not 0.
     /// [`Masks::combine`](crate::Masks::combine) gives such masks to the calls for masks with arcs.
     Range,
     /// 19: a report has more than 4,096 outlines.

@@ -64,7 +64,8 @@ pub fn slice_span(
 
 impl View {
     /// The view from one point of an outline to another. There is none where nothing lies between
-    /// them.
+    /// them: its start agrees with the end point, and the traverse count is 0, or it is 1 and the end
+    /// point agrees with the first vertex of its segment.
     ///
     /// On a closed outline it runs forward, past vertex 0 too. On one segment it stays there where the
     /// start is nearer to the segment's first vertex than the end, and else goes all the way round. On

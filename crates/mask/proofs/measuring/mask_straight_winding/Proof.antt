@@ -6,7 +6,7 @@ use borrow.Author.Needs.{needs}
 use Rattle.mask.proofs.measuring.mask_straight_winding.Statement.{statement}
 use Rattle.mask.proofs.measuring.mask_straight_winding.Tie as tie
 
--- the probe as it is handed on is the probe
+-- the probe that is handed on is the one that was handed in
 returns : tie.Need-returns
 returns c = let s = c .before in c .entry .ensures ∙ (λ i. windingAnswer (now (s .args .outline)) (s .args .vc) (toZ-ofZ (s .fits .x) i) (toZ-ofZ (s .fits .y) i))
 

@@ -20,7 +20,7 @@ Inv-loop l n up₀ down₀ i₀ up down i = (i ≤ n) × Part cross 320000000000
 abbrev μ-loop : tie.MeasureT-loop
 μ-loop l n up₀ down₀ i₀ up down i = n - i
 
--- a word that holds nothing
+-- two words that are 0 have the value 0
 none : (t : Two) → t .high ≡ 0 → t .low ≡ 0 → value t ≡ 0
 none t h k = omega arith
 

@@ -13,7 +13,7 @@ use borrow.Author.Needs.{needs}
 use Rattle.straight_entries.proofs.winding.entry.Statement.{statement}
 use Rattle.straight_entries.proofs.winding.entry.Tie as tie
 
--- the probe as it is handed on is the probe
+-- the probe that is handed on is the one that was handed in
 plain : (s : tie.Start)
     → windingRefusal (now (s .args .outline)) (s .args .vc) (toZ w64 (ofZ w64 (s .args .x))) (toZ w64 (ofZ w64 (s .args .y))) ≡ windingRefusal (now (s .args .outline)) (s .args .vc) (s .args .x) (s .args .y)
 plain s = λ i. windingRefusal (now (s .args .outline)) (s .args .vc) (toZ-ofZ (s .fits .x) i) (toZ-ofZ (s .fits .y) i)
