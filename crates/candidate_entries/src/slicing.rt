@@ -31,10 +31,22 @@ fn later_refusal(
     ensures { λ r. ⌜ r ≡ firstFrom 0 (laterRows (given (now (outline .entry)) (now («hit_at» .entry)) (now (hit .entry)) (now («lap_at» .entry)) (now (lap .entry)) s) (now (splits .entry)) lent) ⌝ }
 {
     let r = candidate_faults::split_length_refusal(s.hits + 2 * s.laps, splits.len());
-    let r = faults::value_refusal(r, outline, hit_at, hit, lap_at, lap, s);
-    let r = candidate_faults::split_refusal(r, splits);
-    let r = faults::index_refusal(r, outline, hit_at, hit, lap_at, lap, s);
-    candidate_faults::room_refusal(r, s.hits + 2 * s.laps, lent)
+    if r != 0 {
+        return r;
+    }
+    let r = faults::value_refusal(outline, hit_at, hit, lap_at, lap, s);
+    if r != 0 {
+        return r;
+    }
+    let r = candidate_faults::split_refusal(splits);
+    if r != 0 {
+        return r;
+    }
+    let r = faults::index_refusal(outline, hit_at, hit, lap_at, lap, s);
+    if r != 0 {
+        return r;
+    }
+    candidate_faults::room_refusal(s.hits + 2 * s.laps, lent)
 }
 
 // The whole table. There is no number 10 (request K12).
@@ -91,7 +103,7 @@ fn found_dated(
     m
 }
 
-// The same along the order that is told, where it is the order.
+// The same along the hint, where that is the order.
 fn told_dated(
     outline: &[f64],
     hit_at: &[usize],
@@ -156,7 +168,7 @@ pub fn entry(
     };
     let s = Case {
         vc,
-        source,
+        source: source as usize,
         hits,
         laps,
         tolerance: t,
@@ -216,7 +228,7 @@ pub fn entry_along(
     };
     let s = Case {
         vc,
-        source,
+        source: source as usize,
         hits,
         laps,
         tolerance: t,

@@ -24,7 +24,7 @@ use Rattle.candidate_lists.specs.ListsLaws.{along-sound}
 
 -- ---- the cuts in lists of their own
 module _ (g : Given) (splits : List Float) (l : Rooms) (sorted cutAt : List ℕ) (cut : List Float) where
-  -- lists for so many cuts serve a call that has no more, and lists for the most serve every call
+  -- lists for so many cuts are enough for a call that has no more, and lists for 768 cuts for every call
   pub few-lists : (most : ℕ) → Few most g splits l → length sorted ≡ most → length cutAt ≡ 3 * most → length cut ≡ 2 * most → FoundRoom g splits l sorted cutAt cut
   few-lists most f c d e = let h = f .few in record { ok = f .ok; sortedLong = omega arith; numberRoom = omega arith; pointRoom = omega arith }
 
@@ -55,7 +55,7 @@ module _ (g : Given) (splits : List Float) (l : Rooms) (cut : List Float) where
 pub front-length : {A : Type 0} (n : ℕ) (l : List A) → n ≤ length l → n ≡ length (take n l)
 front-length n l h = simp length-take (omega arith)
 
--- they stand in front, so the call over the fronts is the call over the cuts in their order
+-- the cuts stand in front of their lists, so the call over the fronts is the call over the cuts in their order
 module _ (o : List Float) (ha : List ℕ) (h : List Float) (la : List ℕ) (l : List Float) (s : Case) (splits : List Float) (a a' : List ℕ) (b b' : List Float)
     (w : order.Written (given o ha h la l s) a b a' b') (lent : Rooms) where
   abbrev g : Given
@@ -80,7 +80,7 @@ module _ (o : List Float) (ha : List ℕ) (h : List Float) (la : List ℕ) (l : 
   pub along-written : (left : Rooms) (r : ℕ) → Written (frontsOf o a' b' splits s) lent r left → Written (alongCuts g splits) lent r left
   along-written left r q = subst (λ (x : slices.Given). Written x lent r left) same q
 
--- ---- what came of the order that is told
+-- ---- what the hint gave
 module _ (g : Given) (splits : List Float) (l left : Rooms) (r : Tried) (t : Tries g splits l r left) where
   pub tried-cut : (m : ℕ) → r ≡ Cut m → Written (alongCuts g splits) l m left
   tried-cut m e = subst (λ (x : Tried). Tries g splits l x left) e t

@@ -55,7 +55,7 @@ pub record Few (most : ℕ) (g : Given) (splits : List Float) (l : Rooms) : Type
   pub ok : Accepted g splits l
   pub few : cutCount g ≤ most
 
--- the order that is told was tried: the candidates were written along it, or nothing was
+-- the hint was tried: the candidates were written along it, or nothing was written
 abbrev pub Tries : Given → List Float → Rooms → Tried → Rooms → Type 0
 Tries g splits l (Cut m) left = Written (alongCuts g splits) l m left
 Tries g splits l Not left = left ≡ l

@@ -1,4 +1,4 @@
-// The candidates of an accepted call along an order that is told, where it is the order.
+// The candidates of an accepted call along a hint, the order as a caller says it, where that is the order.
 ghost use Rattle.cut.specs.Cuts.{given};
 ghost use Rattle.candidate.specs.Ready.{rooms, Written};
 ghost use Rattle.candidate_lists.specs.Lists.{alongCuts, Accepted, ToldRoom, Few, Tries};
@@ -14,7 +14,7 @@ pub enum Tried {
     Not,
 }
 
-// The candidates of an accepted call along the order that is told, where it is the order. The list lent beside the rooms is for the points of the cuts.
+// The candidates of an accepted call along the hint, where that is the order. The list lent beside the rooms is for the points of the cuts.
 fn told_with(
     outline: &[f64],
     hit_at: &[usize],
@@ -204,7 +204,7 @@ fn told_sized(
     )
 }
 
-// The candidates of an accepted call: along the order that is told, or, where that is not the order, along the order that is found.
+// The candidates of an accepted call: along the hint, or, where that is not the order, along the order that is found.
 pub fn sought(
     outline: &[f64],
     hit_at: &[usize],
