@@ -288,6 +288,18 @@ fn our_pruning(input: &Input, rooms: &mut [CutRoom; 2], slices: &mut Slices) {
     done(ours::prune(&input.pair, UNION, rooms, slices));
 }
 
+/// The calls of a host: cut order, splits, candidates and inside answers of both outlines, and the prune.
+fn host_calls(input: &Input, rooms: &mut [CutRoom; 2], slices: &mut Slices) {
+    let (pair, shared) = (&input.pair, &input.shared);
+    for (outline, room) in rooms.iter_mut().enumerate() {
+        ours::cut_order(black_box(pair), outline, room);
+        shared.split_cuts(outline, room);
+        ours::candidates_along(pair, outline, room);
+        shared.answer_inside(outline, room);
+    }
+    done(ours::prune(pair, UNION, rooms, slices));
+}
+
 fn prune(families: &[Family]) {
     for family in families {
         for (size, input) in &family.inputs {
@@ -300,16 +312,7 @@ fn prune(families: &[Family]) {
             let times = measure(&mut [
                 &mut || our_pruning(input, &mut handed, &mut to1),
                 &mut || done(shared.prune_answered(UNION, inside)),
-                &mut || {
-                    for outline in [0, 1] {
-                        let room = &mut whole[outline];
-                        ours::cut_order(black_box(pair), outline, room);
-                        shared.split_cuts(outline, room);
-                        ours::candidates_along(pair, outline, room);
-                        shared.answer_inside(outline, room);
-                    }
-                    done(ours::prune(pair, UNION, &whole, &mut to2));
-                },
+                &mut || host_calls(input, &mut whole, &mut to2),
                 &mut || done(shared.prune(UNION)),
                 &mut || done(ours::prune(black_box(pair), UNION, &sliced, &mut to3)),
             ]);
@@ -779,6 +782,8 @@ fn repeat(stage: &str, input: &str, size: usize, calls: Option<usize>) {
         }
         "rust-straight" => many(&mut || done(shared.prune(UNION))),
         "pruning" => many(&mut || our_pruning(&input, &mut rooms, &mut slices)),
+        "host" => many(&mut || host_calls(&input, &mut rooms, &mut slices)),
+        "rust-host" => many(&mut || done(shared.prune(UNION))),
         "rust-order" => many(&mut || shared.cut_order(&input.order, outline)),
         "rust-slicing" => many(&mut || done(shared.candidates(outline))),
         "rust-pruning" => {

@@ -1,23 +1,20 @@
 -- What acceptance by `mask_candidates` tells.
-use Prim.Native.Nat.{ℕ, _*_, _≤_}
+use Prim.Native.Nat.{_*_, _≤_}
 use mathlib.Core.Bool.{true}
-use mathlib.Core.Path.{_≡_, sym, _∙_}
+use mathlib.Core.Path.{_≡_}
 use mathlib.Core.List.{List, _++_}
-use native.Mathlib.Nat.{le-of-eq}
-use native.Mathlib.Omega.{arith}
 use lib.ListN.{length}
 use lib.Ieee.{Float}
 use borrow.Author.Tests.{ltb-false, not-false}
 use Rattle.basis.specs.Number.{allWithin}
 use Rattle.basis.specs.RefuseLaws.{Clear, clear, clear-left, clear-right, length-ok}
 use Rattle.cut.specs.Cuts.{Given, cutCount}
-use Rattle.cut_order.specs.CutsLaws.{numbers-length, points-length, segment-below, segments-ascend}
-use Rattle.candidate.specs.Ready.{Sound}
 use Rattle.cut_entries.specs.CutRows.{listRows, valueRows, indexRows}
 use Rattle.cut_entries.specs.CutRowsLaws.{CutsPass, cuts-pass, cuts-accepted}
 use Rattle.candidate_faults.specs.declared.Lengths.{Lengths}
-use Rattle.candidate_faults.specs.CandidateRows.{splitLengthRows, splitRows, candRoomRows}
-use Rattle.candidate_entries.specs.Candidates.{alongCuts, Lent, roomsOf, lengths, laterRows, candidatesRows, candidatesRefusal, candNumber, Along, Accepted}
+use Rattle.candidate_faults.specs.CandidateRows.{splitRows, candRoomRows}
+use Rattle.candidate_lists.specs.Lists.{Along, Accepted}
+use Rattle.candidate_entries.specs.Candidates.{Lent, roomsOf, lengths, laterRows, candidatesRows, candidatesRefusal, candNumber}
 
 -- the rows without a fault, one by one
 pub record SplitsPass (g : Given) (splits : List Float) (lent : Lengths) : Type 0 where
@@ -49,20 +46,6 @@ cand-pass g splits lent z =
 
 pub along : (g : Given) (splits : List Float) (lent : Lengths) → SplitsPass g splits lent → Along g splits
 along g splits lent p = record { accepted = cuts-accepted g (p .cuts); nine = p .nine }
-
--- the cuts in their order are sound for the slices
-pub along-sound : (g : Given) (splits : List Float) → Along g splits → Sound (alongCuts g splits)
-along-sound g splits a =
-    let r = a .accepted .ready in
-    record {
-      whole = r .whole;
-      few = omega arith;
-      at = le-of-eq (sym (numbers-length g));
-      points = le-of-eq (sym (points-length g));
-      nine = a .nine;
-      inside = λ p h. segment-below g p h r;
-      ascend = λ p q h k. segments-ascend g p q h k;
-    }
 
 pub cand-accepted : (g : Given) (splits : List Float) (l : Lent) → candNumber g splits l ≡ 0 → Accepted g splits (roomsOf l)
 cand-accepted g splits l z =

@@ -1,2 +1,2 @@
-// The entry over the candidates: what is refused, then one call down. The crate `mask` exports it.
+// The entries over the candidates: what is refused, then one call down. The crate `mask` exports them.
 pub mod slicing;

@@ -18,21 +18,21 @@ pub struct Cut {
 // It is made once, at the entry, and handed on as it is.
 pub struct Case {
     pub vc: usize,
-    pub source: u32,
+    pub source: usize,
     pub hits: usize,
     pub laps: usize,
     pub tolerance: Tolerance,
 }
 
 // Which of two indexes, the one on outline 1 and the one on outline 2, is of the outline that a source names.
-pub fn which_of(source: u32) -> usize
+pub fn which_of(source: usize) -> usize
     ensures { λ r. ⌜ Which source r ⌝ }
 {
     if source == 2 { 1 } else { 0 }
 }
 
 // The cut of a basic intersection.
-fn hit_cut(hit_at: &[usize], hit: &[f64], source: u32, i: usize) -> Cut
+fn hit_cut(hit_at: &[usize], hit: &[f64], source: usize, i: usize) -> Cut
     requires { ⌜ HitFit (now «hit_at») (now hit) i ⌝ }
     ensures { λ r. ⌜ r ≡ hitCut (now («hit_at» .entry)) (now (hit .entry)) source i ⌝ }
 {
@@ -58,7 +58,7 @@ fn moved_index(outline: &[f64], vc: usize, i: usize, p: Point, t: Tolerance) -> 
 }
 
 // Where an overlap carries the mark: 0 is its start, 1 its end.
-fn marked_end(source: u32, opposing: usize) -> usize
+fn marked_end(source: usize, opposing: usize) -> usize
     ensures { λ r. ⌜ r ≡ markedEnd source opposing ⌝ }
 {
     if source == 2 {

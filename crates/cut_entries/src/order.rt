@@ -10,7 +10,6 @@ use crate::faults;
 use basis::answer;
 use basis::answer::CountAnswer;
 use basis::number::Tolerance;
-use basis::refuse;
 use basis::sizes::MOST_CANDIDATES;
 use cut::arrival::Case;
 use cut_order::write;
@@ -27,8 +26,14 @@ fn input_refusal(
     ensures { λ r. ⌜ r ≡ firstFrom 0 (cutInputRows (given (now (outline .entry)) (now («hit_at» .entry)) (now (hit .entry)) (now («lap_at» .entry)) (now (lap .entry)) s)) ⌝ }
 {
     let r = faults::list_refusal(outline, hit_at, hit, lap_at, lap, s);
-    let r = faults::value_refusal(r, outline, hit_at, hit, lap_at, lap, s);
-    faults::index_refusal(r, outline, hit_at, hit, lap_at, lap, s)
+    if r != 0 {
+        return r;
+    }
+    let r = faults::value_refusal(outline, hit_at, hit, lap_at, lap, s);
+    if r != 0 {
+        return r;
+    }
+    faults::index_refusal(outline, hit_at, hit, lap_at, lap, s)
 }
 
 // Number 9, for so many cuts.
@@ -36,8 +41,13 @@ fn room_refusal(count: usize, numbers: usize, points: usize) -> u32
     requires { ⌜ FewCuts count ⌝ }
     ensures { λ r. ⌜ r ≡ firstFrom 0 (orderRoomRows count numbers points) ⌝ }
 {
-    let r = refuse::or_else(0, numbers < 3 * count, 9);
-    refuse::or_else(r, points < 2 * count, 9)
+    if numbers < 3 * count {
+        return 9;
+    }
+    if points < 2 * count {
+        return 9;
+    }
+    0
 }
 
 // All numbers. The cuts are counted only where 1 to 7 found nothing: then there are few.
@@ -253,7 +263,7 @@ pub fn entry(
     };
     let s = Case {
         vc,
-        source,
+        source: source as usize,
         hits,
         laps,
         tolerance: t,

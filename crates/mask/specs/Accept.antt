@@ -25,8 +25,10 @@ use Rattle.candidate_write.specs.CandidateTheorems.{count-most, starts-below, o
 use Rattle.candidate_write.specs.RangeTheorems.{InRange, shapes-in}
 use Rattle.basis.specs.declared.answer.CountAnswer.{CountAnswer}
 use Rattle.basis.specs.Answers.{countRefused}
-use Rattle.candidate_entries.specs.Candidates.{alongCuts, Lent, roomsOf, lengths, candNumber, Sliced, Accepted}
-use Rattle.candidate_entries.specs.CandidatesLaws.{SplitsPass, cand-pass, along-sound, cand-accepted}
+use Rattle.candidate_lists.specs.Lists.{alongCuts, Accepted}
+use Rattle.candidate_lists.specs.ListsLaws.{along-sound}
+use Rattle.candidate_entries.specs.Candidates.{Lent, roomsOf, lengths, candNumber, Sliced}
+use Rattle.candidate_entries.specs.CandidatesLaws.{SplitsPass, cand-pass, cand-accepted}
 use Rattle.select.specs.declared.class.Starts.{Starts}
 use Rattle.slice.specs.Slice.{codeWidth, shapeWidth}
 use Rattle.slice.specs.Ready as slice

@@ -19,8 +19,10 @@ use Rattle.candidate.specs.declared.at_cut.Candidate.the-variants.{Slice}
 use Rattle.candidate.specs.Candidates.{segmentAt, hasCut, traverseOf, pieceOf}
 use Rattle.candidate.specs.Ready.{Sound}
 use Rattle.candidate_write.specs.CandidateTheorems.{Reaches, walk-reaches, piece-view}
-use Rattle.candidate_entries.specs.Candidates.{alongCuts, Lent, lengths, Sliced}
-use Rattle.candidate_entries.specs.CandidatesLaws.{along, along-sound}
+use Rattle.candidate_lists.specs.Lists.{alongCuts}
+use Rattle.candidate_lists.specs.ListsLaws.{along-sound}
+use Rattle.candidate_entries.specs.Candidates.{Lent, lengths, Sliced}
+use Rattle.candidate_entries.specs.CandidatesLaws.{along}
 use Rattle.slice.specs.Editions.{Editions}
 use Rattle.stitch_run.specs.Stitch as stitch
 use Rattle.stitch.specs.Lent.{Lists}

@@ -42,7 +42,7 @@ pub extern "C" fn mask_cut_order(
 }
 
 // The candidates of the outline that the source names: the pieces between neighbouring cuts, and the walks from a segment's last cut to the next segment that has one.
-// Beside each stands the outline's edition. It is `mask_candidates_along` with an empty hint.
+// Beside each stands the outline's edition.
 #[no_mangle]
 pub extern "C" fn mask_candidates(
     outline: &[f64],
@@ -65,7 +65,7 @@ pub extern "C" fn mask_candidates(
 ) -> CountAnswer
     ensures { λ r. ⌜ Sliced (given (now (outline .entry)) (now («hit_at» .entry)) (now (hit .entry)) (now («lap_at» .entry)) (now (lap .entry)) (caseOf vc source hits laps (toleranceOf «tolerance_x» «tolerance_y»))) (now (splits .entry)) edition (lent (now («cand_at» .entry)) (now (cand .entry)) (now (probe .entry)) (now («cand_edition» .entry))) r (lent (now («cand_at» .exit)) (now (cand .exit)) (now (probe .exit)) (now («cand_edition» .exit))) ⌝ }
 {
-    mask_candidates_along(
+    candidate_entries::slicing::entry(
         outline,
         vc,
         edition,
@@ -76,7 +76,6 @@ pub extern "C" fn mask_candidates(
         lap_at,
         lap,
         laps,
-        &hit_at[..0],
         splits,
         tolerance_x,
         tolerance_y,
@@ -112,7 +111,7 @@ pub extern "C" fn mask_candidates_along(
 ) -> CountAnswer
     ensures { λ r. ⌜ Sliced (given (now (outline .entry)) (now («hit_at» .entry)) (now (hit .entry)) (now («lap_at» .entry)) (now (lap .entry)) (caseOf vc source hits laps (toleranceOf «tolerance_x» «tolerance_y»))) (now (splits .entry)) edition (lent (now («cand_at» .entry)) (now (cand .entry)) (now (probe .entry)) (now («cand_edition» .entry))) r (lent (now («cand_at» .exit)) (now (cand .exit)) (now (probe .exit)) (now («cand_edition» .exit))) ⌝ }
 {
-    candidate_entries::slicing::entry(
+    candidate_entries::slicing::entry_along(
         outline,
         vc,
         edition,

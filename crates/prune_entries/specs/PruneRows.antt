@@ -33,16 +33,14 @@ abbrev pub modeFault : ℕ → Bool
 modeFault mode = ltb 3 mode
 
 -- 2 and 3: "mode, selector, source or yes/no code is unknown". An overlap's fifth code is the yes/no of opposing
+abbrev pub callRows : Call → List Row
+callRows c = row (sizeFault (c .vc1)) 2 ∷ row (sizeFault (c .vc2)) 2 ∷ row (modeFault (c .mode)) 3 ∷ row (choiceFault (c .opposing)) 3 ∷ []
+
+abbrev pub answerRows : List ℕ → List ℕ → List ℕ → List Row
+answerRows inside1 inside2 lapAt = row (not (choicesKnown 1 0 inside1)) 3 ∷ row (not (choicesKnown 1 0 inside2)) 3 ∷ row (not (choicesKnown 7 4 lapAt)) 3 ∷ []
+
 abbrev pub codeRows : Call → List ℕ → List ℕ → List ℕ → List Row
-codeRows c inside1 inside2 lapAt =
-    row (sizeFault (c .vc1)) 2
-    ∷ row (sizeFault (c .vc2)) 2
-    ∷ row (modeFault (c .mode)) 3
-    ∷ row (choiceFault (c .opposing)) 3
-    ∷ row (not (choicesKnown 1 0 inside1)) 3
-    ∷ row (not (choicesKnown 1 0 inside2)) 3
-    ∷ row (not (choicesKnown 7 4 lapAt)) 3
-    ∷ []
+codeRows c inside1 inside2 lapAt = callRows c ++ answerRows inside1 inside2 lapAt
 
 -- 5: "a number is not finite or is too large"
 abbrev pub numberRows : List Float → List Float → List Float → List Row
@@ -50,16 +48,17 @@ numberRows cand1 cand2 lap = row (not (allWithin cand1)) 5 ∷ row (not (allWith
 
 -- 6: "a segment or start index is not below its outline's vertex count": a candidate's start; an overlap's start and end index on each outline, and the start of
 -- its view, which is of outline 2
-abbrev pub startRows : Call → List ℕ → List ℕ → List ℕ → List Row
-startRows c candAt1 candAt2 lapAt =
-    row (not (placesBelow 2 0 (c .vc1) candAt1)) 6
-    ∷ row (not (placesBelow 2 0 (c .vc2) candAt2)) 6
-    ∷ row (not (placesBelow 7 0 (c .vc1) lapAt)) 6
+abbrev pub lapStartRows : Call → List ℕ → List Row
+lapStartRows c lapAt =
+    row (not (placesBelow 7 0 (c .vc1) lapAt)) 6
     ∷ row (not (placesBelow 7 1 (c .vc2) lapAt)) 6
     ∷ row (not (placesBelow 7 2 (c .vc1) lapAt)) 6
     ∷ row (not (placesBelow 7 3 (c .vc2) lapAt)) 6
     ∷ row (not (placesBelow 7 5 (c .vc2) lapAt)) 6
     ∷ []
+
+abbrev pub startRows : Call → List ℕ → List ℕ → List ℕ → List Row
+startRows c candAt1 candAt2 lapAt = row (not (placesBelow 2 0 (c .vc1) candAt1)) 6 ∷ row (not (placesBelow 2 0 (c .vc2) candAt2)) 6 ∷ lapStartRows c lapAt
 
 -- 7: "offset above the vertex count"
 abbrev pub reachRows : Call → List ℕ → List ℕ → List ℕ → List Row

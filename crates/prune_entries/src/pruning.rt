@@ -29,26 +29,42 @@ fn input_refusal(
     ensures { λ n. ⌜ n ≡ firstFrom 0 (inputRows (given c (cands (now («cand_at1» .entry)) (now (cand1 .entry)) (now («cand_edition1» .entry)) (now (inside1 .entry))) (cands (now («cand_at2» .entry)) (now (cand2 .entry)) (now («cand_edition2» .entry)) (now (inside2 .entry))) (overlaps (now («lap_at» .entry)) (now (lap .entry)) (now («lap_edition» .entry))))) ⌝ }
 {
     let r = faults::cand_list_refusal(
-        0,
         cand_at1.len(),
         cand1.len(),
         cand_edition1.len(),
         inside1.len(),
         c.count1,
     );
+    if r != 0 {
+        return r;
+    }
     let r = faults::cand_list_refusal(
-        r,
         cand_at2.len(),
         cand2.len(),
         cand_edition2.len(),
         inside2.len(),
         c.count2,
     );
-    let r = faults::lap_list_refusal(r, lap_at.len(), lap.len(), lap_edition.len(), c.laps);
-    let r = faults::code_refusal(r, c, inside1, inside2, lap_at);
-    let r = faults::number_refusal(r, cand1, cand2, lap);
-    let r = faults::start_refusal(r, c, cand_at1, cand_at2, lap_at);
-    faults::reach_refusal(r, c, cand_at1, cand_at2, lap_at)
+    if r != 0 {
+        return r;
+    }
+    let r = faults::lap_list_refusal(lap_at.len(), lap.len(), lap_edition.len(), c.laps);
+    if r != 0 {
+        return r;
+    }
+    let r = faults::code_refusal(c, inside1, inside2, lap_at);
+    if r != 0 {
+        return r;
+    }
+    let r = faults::number_refusal(cand1, cand2, lap);
+    if r != 0 {
+        return r;
+    }
+    let r = faults::start_refusal(c, cand_at1, cand_at2, lap_at);
+    if r != 0 {
+        return r;
+    }
+    faults::reach_refusal(c, cand_at1, cand_at2, lap_at)
 }
 
 // The slices of a mode: the candidates of each outline that stay, then the overlaps for each outline. The need is worked out only where 1 to 7 found nothing.

@@ -1,7 +1,7 @@
 -- Theorems about a replay, over both versions: its contract leaves one answer, its number is the first that applies, 14 is of version 2 alone, and with the program's own lists
 -- it never gives 9.
 use Prim.Native.Nat.{ℕ, zero, suc, _+_, _*_, _≤_, _<_}
-use mathlib.Core.Bool.{true, not, cond}
+use mathlib.Core.Bool.{true, false, not, cond}
 use mathlib.Core.Path.{_≡_, refl, sym, ap, subst, _∙_}
 use mathlib.Core.List.{List, [], _∷_, _++_, append-assoc}
 use native.Mathlib.Omega.{arith}
@@ -301,12 +301,38 @@ module _ (b : List ℕ) (z : formNumber b ≡ 0) where
           by-test (eqb (firstOf (judgedRows b)) 0) (λ t. clear-number (clear (judgedRows b) tt (eqb-true (firstOf (judgedRows b)) 0 t)))
           (λ f. judged-number ∙ first-found (judgedRows b) rooms (eqb-false (firstOf (judgedRows b)) 0 f))
 
--- with the program's lists a replay's number is the reader's, or else one of 1 to 8, or 14, of the stitch that the bytes hold: the stitch's rooms give no 9. The reader's own rooms give
--- none either (`lent-clear`), so its number is 11, 12, 13, 1 or 2
-pub never-9 : (b : List ℕ) (x : Lists) → ProgramLists x → replayNumber b x ≡ answer (λ (n : ℕ). n) (formNumber b) (firstOf (judgedRows b))
+-- with the program's lists a replay's number is the reader's, or else one of 1 to 8, or 14, of the stitch that the bytes hold
+pub program-number : (b : List ℕ) (x : Lists) → ProgramLists x → replayNumber b x ≡ answer (λ (n : ℕ). n) (formNumber b) (firstOf (judgedRows b))
 unfolding replayNumber
-never-9 b x roomy = go (formNumber b) refl
+program-number b x roomy = go (formNumber b) refl
   where
     go : (n : ℕ) → formNumber b ≡ n → answer (λ (k : ℕ). k) n (stitchNumber (heldIn b) (datesIn b) x) ≡ answer (λ (k : ℕ). k) n (firstOf (judgedRows b))
     go zero e = unfold answer in roomy-number b e x roomy
     go (suc n) e = unfold answer in refl
+
+-- the reader gives no 9: where it takes the counts, its lists have room
+module _ (b : List ℕ) (q : formNumber b ≡ 9) where
+  abbrev read : List Row
+  read = framed b ++ counted b
+
+  read-roomy : eqb (firstOf read) 0 ≡ true → ⊥
+  read-roomy e =
+      let c = clear read tt (eqb-true (firstOf read) 0 e) in
+      let n : formNumber b ≡ 0 = read-number b ∙ first-later read (lent b) c ∙ none-clear (lent b) (lent-clear b (clear-right (framed b) (counted b) c)) in
+      absurd (omega (arith, n, q))
+
+  read-refused : eqb (firstOf read) 0 ≡ false → ⊥
+  read-refused e =
+      not-given 9 read (λ z. absurd (omega (arith, z))) tt (sym (first-found read (lent b) (eqb-false (firstOf read) 0 e)) ∙ sym (read-number b) ∙ q)
+
+  reader-never-9 : ⊥
+  reader-never-9 = by-test (eqb (firstOf read) 0) read-roomy read-refused
+
+-- so with the program's lists no bytes give 9
+pub never-9 : (b : List ℕ) (x : Lists) → ProgramLists x → replayNumber b x ≡ 9 → ⊥
+unfolding answer
+never-9 b x roomy q = go (formNumber b) refl (sym (program-number b x roomy) ∙ q)
+  where
+    go : (n : ℕ) → formNumber b ≡ n → answer (λ (k : ℕ). k) n (firstOf (judgedRows b)) ≡ 9 → ⊥
+    go zero e q = not-given 9 (judgedRows b) (λ z. absurd (omega (arith, z))) tt q
+    go (suc n) e q = reader-never-9 b (e ∙ q)

@@ -19,7 +19,8 @@ use Rattle.view_entries.specs.SingleEntry.{singleRefusal, singleAnswer}
 use Rattle.cut.specs.Cuts as cuts
 use Rattle.candidate.specs.Candidates.{candNumbers}
 use Rattle.basis.specs.declared.answer.CountAnswer.{CountAnswer}
-use Rattle.candidate_entries.specs.Candidates.{alongCuts, candidatesRefusal, Lent, Sliced}
+use Rattle.candidate_lists.specs.Lists.{alongCuts}
+use Rattle.candidate_entries.specs.Candidates.{candidatesRefusal, Lent, Sliced}
 use Rattle.select.specs.declared.class.Starts.{Starts}
 use Rattle.prune.specs.declared.counts.Pruned.{Pruned}
 use Rattle.slice.specs.Slice.{codeWidth, shapeWidth}

@@ -38,7 +38,8 @@ use Rattle.candidate.specs.Candidates.{sameNext, firstCut, traverseFrom, traver
 use Rattle.cut_entries.specs.CutRows.{listRows, valueRows, viewStartFault, viewOffsetFault, indexRows}
 use Rattle.basis.specs.declared.answer.CountAnswer.{CountAnswer}
 use Rattle.basis.specs.Answers.{countRefused, counted}
-use Rattle.candidate_entries.specs.Candidates.{alongCuts, laterRows, candidatesRefusal, candNumber}
+use Rattle.candidate_lists.specs.Lists.{alongCuts}
+use Rattle.candidate_entries.specs.Candidates.{laterRows, candidatesRefusal, candNumber}
 use Rattle.select.specs.Select.{classOf, preferenceOf, suitsOf, firstThat, orElse, choose, choicesOf, pickOf, selectOf}
 use Rattle.prune.specs.declared.counts.Pruned.{Pruned}
 use Rattle.prune.specs.Prune as prune

@@ -15,7 +15,7 @@ use Rattle.cut.specs.Order.{cutNumbers, cutPoints}
 use Rattle.cut_order.specs.Write.{WriteRoom}
 use Rattle.cut_order.specs.CutsLaws.{numbers-length, points-length, points-pass, written-lengths}
 use Rattle.candidate.specs.Candidates as slices
-use Rattle.candidate_entries.specs.CandidatesLaws.{along-sound}
+use Rattle.candidate_lists.specs.ListsLaws.{along-sound}
 use Rattle.slice.specs.Slice as slice
 use Rattle.slice.specs.Ready.{Rooms}
 use Rattle.prune.specs.Prune.{keptTo}

@@ -5,7 +5,7 @@ use lib.ListN.{replicate}
 use lib.Ieee.{Float}
 use Rattle.cut.specs.Cuts.{Given}
 use Rattle.candidate.specs.Candidates as slices
-use Rattle.candidate_entries.specs.Candidates.{alongCuts}
+use Rattle.candidate_lists.specs.Lists.{alongCuts}
 use Rattle.prune.specs.Prune.{Cands, cands}
 use Rattle.straight_cut.specs.Microdegrees.{wholesOf}
 use Rattle.straight_cut.specs.Splits.{straightSplits}

@@ -26,7 +26,7 @@ use Rattle.candidate.specs.Candidates.{segmentAt, candidatesOf, numbersOf, shap
 use Rattle.candidate_write.specs.ItemLaws.{flat-length, wide-shapes}
 use Rattle.candidate_write.specs.CandidateTheorems.{starts-below, offsets-most}
 use Rattle.candidate_write.specs.RangeTheorems.{InRange, shapes-in}
-use Rattle.candidate_entries.specs.CandidatesLaws.{along-sound}
+use Rattle.candidate_lists.specs.ListsLaws.{along-sound}
 use Rattle.prune.specs.Sound.{CandsSound}
 use Rattle.prune_write.specs.PruneTheorems.{overlaps-sound}
 use Rattle.prune_entries.specs.PruneEntry.{Sound}

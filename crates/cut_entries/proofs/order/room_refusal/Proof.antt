@@ -1,12 +1,9 @@
-use Rattle.basis.specs.Refuse.{firstFrom}
-use Rattle.basis.specs.RefuseLaws.{rows}
+use Rattle.basis.specs.RefuseLaws.{exits}
 use borrow.Author.Needs.{needs}
 use Rattle.cut_entries.proofs.order.room_refusal.Statement.{statement}
 use Rattle.cut_entries.proofs.order.room_refusal.Tie as tie
 
 pub room-refusal-spec : {M : Type 1} → statement M
-unfolding firstFrom
 room-refusal-spec =
     tie.close
-    (tie.spec (λ c. search needs) (λ c κs. search needs) (λ c. search needs) (λ c κs. search needs)
-    (λ c. search rows depth 24))
+    (tie.spec (λ c. search needs) (λ c. search (needs, exits) depth 30) (λ c. search needs) (λ c. search (needs, exits) depth 30) (λ c. search (needs, exits) depth 30))
