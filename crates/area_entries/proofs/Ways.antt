@@ -1,50 +1,23 @@
 -- What the entry is proved by: acceptance, and the two ways out.
-use Prim.Native.Nat.{ℕ, _*_, _≤_, _<_}
-use mathlib.Core.Bool.{true, false}
+use Prim.Native.Nat.{ℕ, _*_, _≤_}
 use mathlib.Core.Path.{_≡_, refl, sym, ap, _∙_}
 use mathlib.Core.List.{List}
 use native.Mathlib.Omega.{arith}
 use lib.ListN.{length}
 use lib.Ieee.{Float}
-use borrow.Author.Tests.{lt-ltb, le-ltb, ltb-false, not-false}
-use Rattle.basis.specs.All.{allOf}
-use Rattle.basis.specs.Number.{finite, limitOk}
-use Rattle.basis.specs.Refuse.{firstOf, lengthFault}
+use borrow.Author.Tests.{ltb-false, not-false}
+use Rattle.basis.specs.Refuse.{firstFrom}
 use Rattle.basis.specs.Sizes.{mostSlices}
-use Rattle.basis.specs.RefuseLaws.{clear, length-ok, answer-no, answer-yes}
+use Rattle.basis.specs.RefuseLaws.{clear, first-from, length-ok, answer-no, answer-yes}
 use Rattle.basis.specs.declared.answer.CountAnswer.{CountAnswer}
 use Rattle.basis.specs.Answers.{countRefused, counted}
 use Rattle.area.specs.Area.{Roomy, Kept}
 use Rattle.area_entries.specs.AreaEntry.{areaRows, areaRefusal, AreaLeft}
 
--- the rows one by one, for a function that leaves at the first whose fault is there
-module _ (areas : List Float) (loops : ℕ) (limit : Float) (room : ℕ) where
-  pub number-length : lengthFault 1 (length areas) loops ≡ true → 1 ≡ areaRefusal areas loops limit room
-  unfolding areaRefusal firstOf
-  number-length a = rw a
-
-  module _ (a : lengthFault 1 (length areas) loops ≡ false) where
-    pub number-most : mostSlices < loops → 1 ≡ areaRefusal areas loops limit room
-    unfolding areaRefusal firstOf
-    number-most b = rw (a, lt-ltb mostSlices loops b)
-
-    module _ (b : loops ≤ mostSlices) where
-      pub number-limit : limitOk limit ≡ false → 4 ≡ areaRefusal areas loops limit room
-      unfolding areaRefusal firstOf
-      number-limit d = rw (a, le-ltb mostSlices loops b, d)
-
-      module _ (d : limitOk limit ≡ true) where
-        pub number-finite : allOf finite areas ≡ false → 5 ≡ areaRefusal areas loops limit room
-        unfolding areaRefusal firstOf
-        number-finite e = rw (a, le-ltb mostSlices loops b, d, e)
-
-        pub number-room : allOf finite areas ≡ true → room < loops → 9 ≡ areaRefusal areas loops limit room
-        unfolding areaRefusal firstOf
-        number-room e f = rw (a, le-ltb mostSlices loops b, d, e, lt-ltb room loops f)
-
-        pub number-none : allOf finite areas ≡ true → loops ≤ room → 0 ≡ areaRefusal areas loops limit room
-        unfolding areaRefusal firstOf
-        number-none e f = rw (a, le-ltb mostSlices loops b, d, e, le-ltb room loops f)
+-- the rows, each with its own way out, give the number
+pub area-number : (areas : List Float) (loops : ℕ) (limit : Float) (room r : ℕ) → r ≡ firstFrom 0 (areaRows areas loops limit room) → r ≡ areaRefusal areas loops limit room
+unfolding areaRefusal
+area-number areas loops limit room r e = first-from (areaRows areas loops limit room) r tt e
 
 module _ (areas : List Float) (loops : ℕ) (limit : Float) (kept : List ℕ) where
   pub area-accepted : (number : ℕ) → number ≡ areaRefusal areas loops limit (length kept) → number ≡ 0 → Roomy areas limit kept

@@ -138,6 +138,53 @@ fn told_many(
     )
 }
 
+// The same with a list for 64 cuts, or for 768 where there are more.
+fn told_beyond(
+    outline: &[f64],
+    hit_at: &[usize],
+    hit: &[f64],
+    lap_at: &[usize],
+    lap: &[f64],
+    told: &[usize],
+    splits: &[f64],
+    s: Case,
+    cand_at: &mut [usize],
+    cand: &mut [f64],
+    probe: &mut [f64],
+) -> Tried
+    requires { ⌜ Accepted (given (now outline) (now «hit_at») (now hit) (now «lap_at») (now lap) s) (now splits) (rooms (now «cand_at») (now cand) (now probe)) ⌝ }
+    ensures { λ r. ⌜ Tries (given (now (outline .entry)) (now («hit_at» .entry)) (now (hit .entry)) (now («lap_at» .entry)) (now (lap .entry)) s) (now (splits .entry)) (rooms (now («cand_at» .entry)) (now (cand .entry)) (now (probe .entry))) r (rooms (now («cand_at» .exit)) (now (cand .exit)) (now (probe .exit))) ⌝ }
+{
+    if s.hits + 2 * s.laps <= 64 {
+        return told_few(
+            outline,
+            hit_at,
+            hit,
+            lap_at,
+            lap,
+            told,
+            splits,
+            s,
+            cand_at,
+            cand,
+            probe,
+        );
+    }
+    told_many(
+        outline,
+        hit_at,
+        hit,
+        lap_at,
+        lap,
+        told,
+        splits,
+        s,
+        cand_at,
+        cand,
+        probe,
+    )
+}
+
 // The same, by the list that fits.
 fn told_sized(
     outline: &[f64],
@@ -174,22 +221,7 @@ fn told_sized(
             probe,
         );
     }
-    if count <= 64 {
-        return told_few(
-            outline,
-            hit_at,
-            hit,
-            lap_at,
-            lap,
-            told,
-            splits,
-            s,
-            cand_at,
-            cand,
-            probe,
-        );
-    }
-    told_many(
+    told_beyond(
         outline,
         hit_at,
         hit,
