@@ -352,11 +352,8 @@ __attribute__((no_sanitize("address", "undefined"))) static void *painted(void *
     return nothing;
 }
 
-/*
- * Whether a call with the largest inputs takes no more than the header says; where that is
- * much, also that it takes more than half of it, which shows that the paint works.
- */
-static void measure(const char *name, void (*call)(void), size_t most)
+/* Whether a call with the largest inputs takes no more than the header says, and at least so much, which shows that the paint works. */
+static void measure_from(const char *name, void (*call)(void), size_t least, size_t most)
 {
     pthread_t thread;
     pthread_attr_t how;
@@ -370,9 +367,15 @@ static void measure(const char *name, void (*call)(void), size_t most)
     if (!JUDGED)
         check(refusal == MASK_ACCEPTED, "%s: accepted on a stack of its own", name);
     else
-        check(refusal == MASK_ACCEPTED && taken <= most + OWN && (most < 4096 || taken > most / 2),
+        check(refusal == MASK_ACCEPTED && taken <= most + OWN && taken >= least,
               "%s: it and its caller took no more than %zu bytes of stack; said of it alone: %zu",
               name, taken, most);
+}
+
+/* Where the header says much, a call takes more than half of it. */
+static void measure(const char *name, void (*call)(void), size_t most)
+{
+    measure_from(name, call, most < 4096 ? 0 : most / 2, most);
 }
 
 int main(void)
@@ -396,9 +399,10 @@ int main(void)
     measure("mask_stitch", stitch, MASK_STACK_STITCH); /* before the slices are written over */
     measure("mask_record_write", record_write, MASK_STACK_RECORD_WRITE);
     measure("mask_record_replay", record_replay, MASK_STACK_RECORD_REPLAY); /* of what it wrote */
-    measure("mask_candidates_along", candidates_along, MASK_STACK_CANDIDATES_ALONG); /* of the order */
+    /* a right hint takes a list of points alone, 12 KB; a wrong one the lists of the order too */
+    measure_from("mask_candidates_along, a right hint", candidates_along, 12288, MASK_STACK_CUT_ORDER);
     cut_at[2]++;
-    measure("mask_candidates_along", candidates_along, MASK_STACK_CANDIDATES_ALONG); /* of another */
+    measure("mask_candidates_along, a wrong hint", candidates_along, MASK_STACK_CANDIDATES_ALONG);
     measure("mask_candidates", candidates, MASK_STACK_CANDIDATES);
     measure("mask_prune", prune, MASK_STACK_PRUNE);
     measure("mask_area_pass", area_pass, MASK_STACK_AREA_PASS);

@@ -239,6 +239,7 @@ int main(int count, char **words)
     TEST(reopen, MASK_STACK_REOPEN);
     TEST(unmoved, MASK_STACK_UNMOVED);
     TEST(cut_order, MASK_STACK_CUT_ORDER);
+    cut_at[2]++; /* a wrong hint: the order is found, which takes more */
     TEST(candidates_along, MASK_STACK_CANDIDATES_ALONG);
     TEST(candidates, MASK_STACK_CANDIDATES);
     TEST(prune, MASK_STACK_PRUNE);
