@@ -367,7 +367,7 @@ static void measure_from(const char *name, void (*call)(void), size_t least, siz
     if (!JUDGED)
         check(refusal == MASK_ACCEPTED, "%s: accepted on a stack of its own", name);
     else
-        check(refusal == MASK_ACCEPTED && taken <= most + OWN && taken >= least,
+        check(refusal == MASK_ACCEPTED && taken <= most + OWN && taken > least,
               "%s: it and its caller took no more than %zu bytes of stack; said of it alone: %zu",
               name, taken, most);
 }
