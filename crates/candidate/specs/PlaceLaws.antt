@@ -24,7 +24,7 @@ use Rattle.candidate.specs.declared.next.Next.{Next}
 use Rattle.candidate.specs.declared.at_cut.Candidate.{Candidate}
 use Rattle.candidate.specs.declared.at_cut.Candidate.the-variants.{Nothing, Slice}
 use Rattle.candidate.specs.Candidates.{Given, given, segmentAt, sameNext, wholeSplit, sliceOf, pieceOf, walkOf, walked, walkAt}
-use Rattle.candidate.specs.Steps.{Place, LastPlace, LastCut, NextCut, walkBy, WalkParts, WalkReady}
+use Rattle.candidate.specs.Steps.{Place, LastPlace, LastCut, NextCut, walkWith, walkBy, WalkParts, WalkReady}
 use Rattle.candidate.specs.PieceLaws.{piece-once}
 
 -- ---- a piece
@@ -57,15 +57,14 @@ module _ (o : List Float) (cutAt : List ℕ) (cut splits : List Float) (s : Case
 
   -- what the walk reads is there, `create` takes it, and it is the definition's
   module _ (n : Next) (f : NextCut (s .vc) cutAt (s .hits + 2 * s .laps) p n) where
-    pub walk-parts : WalkParts cut splits p n
+    pub walk-parts : WalkParts splits p n
     walk-parts =
         let sound = here .place .sound in
         let h = here .place .here in
         let few = sound .few in
-        let points = sound .points in
         let nine = sound .nine in
         let below = f .below in
-        record { few = omega arith; here = omega arith; point = omega arith; part = omega arith; whole = omega arith }
+        record { few = omega arith; here = omega arith; part = omega arith; whole = omega arith }
 
     module _ (w : Walk) (is : w ≡ walkBy cut splits (segmentAt cutAt p) p n) where
       pub walk-ready : WalkReady o (s .vc) w
@@ -84,8 +83,8 @@ unfolding walked
 walked-of o vc w t view after e f = cc
 
 -- the walk from what was read of it
-pub walk-read : (cut splits : List Float) (segment p : ℕ) (n : Next) (end : Point) (part start : Vertex)
-    → end ≡ pointAt cut (2 * n .cut) → part ≡ vertexAt splits (3 * n .cut) → start ≡ vertexAt splits (3 * p + 2)
+pub walk-read : (splits : List Float) (segment p : ℕ) (n : Next) (end : Point) (part start : Vertex)
+    → part ≡ vertexAt splits (3 * n .cut) → start ≡ vertexAt splits (3 * p + 2)
     → _≡_ {A = Walk}
     (record {
       «start_index» = segment;
@@ -95,8 +94,8 @@ pub walk-read : (cut splits : List Float) (segment p : ℕ) (n : Next) (end : Po
       «traverse_count» = n .traverse;
       «split_bulge» = part .bulge;
     })
-    (walkBy cut splits segment p n)
-walk-read cut splits segment p n end part start a b c = rw (a, b, c)
+    (walkWith end splits segment p n)
+walk-read splits segment p n end part start a b = rw (a, b)
 
 pub ruleset walks = (last-cut, walk-parts, walk-ready, walk-of, walked-of, walk-read)
 

@@ -10,6 +10,7 @@ use lib.Dec.{ltb}
 use Rattle.basis.specs.Number.{+0}
 use Rattle.basis.specs.Room.{cleared}
 use Rattle.basis.specs.Sizes.{mostVertices, mostCandidates}
+use Rattle.outline.specs.declared.point.Point.{Point}
 use Rattle.outline.specs.Outline.{wrap, pointAt}
 use Rattle.view.specs.declared.create.Walk.{Walk}
 use Rattle.view.specs.Create.{WalkFit}
@@ -77,23 +78,26 @@ pub record NextCut (vc : ℕ) (cutAt : List ℕ) (count p : ℕ) (r : Next) : Ty
   pub inside : r .index < vc
   pub below : r .cut < count
 
--- the walk on a segment from place p to there
-abbrev pub walkBy : List Float → List Float → ℕ → ℕ → Next → Walk
-walkBy cut splits segment p next =
+-- the walk on a segment from place p to there, where the point is `end`
+abbrev pub walkWith : Point → List Float → ℕ → ℕ → Next → Walk
+walkWith end splits segment p next =
     record {
       «start_index» = segment;
-      «end_intersect» = pointAt cut (2 * next .cut);
+      «end_intersect» = end;
       «intersect_index» = next .index;
       «updated_start» = wholeSplit splits p;
       «traverse_count» = next .traverse;
       «split_bulge» = startPart splits (next .cut) .bulge;
     }
 
--- the point and the splits that it reads are there
-pub record WalkParts (cut splits : List Float) (p : ℕ) (next : Next) : Type 0 where
+-- the same where the points are a list
+abbrev pub walkBy : List Float → List Float → ℕ → ℕ → Next → Walk
+walkBy cut splits segment p next = walkWith (pointAt cut (2 * next .cut)) splits segment p next
+
+-- the splits that it reads are there
+pub record WalkParts (splits : List Float) (p : ℕ) (next : Next) : Type 0 where
   pub few : next .cut < mostCandidates
   pub here : p < mostCandidates
-  pub point : 2 * next .cut + 1 < length cut
   pub part : 9 * next .cut + 2 < length splits
   pub whole : 9 * p + 8 < length splits
 

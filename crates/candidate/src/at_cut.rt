@@ -1,12 +1,16 @@
 // What the cut at a place of the order gives: nothing, a piece or a walk.
 ghost use mathlib.Core.Path.{_≡_};
-ghost use Rattle.candidate.specs.Candidates.{given, sameNext, pieceOf, walked, walkAt, candidateAt};
-ghost use Rattle.candidate.specs.Steps.{NextFit, walkBy, WalkParts, WalkReady, Place, LastPlace};
+ghost use Rattle.cut.specs.Cuts.{given};
+ghost use Rattle.candidate.specs.Candidates.{sameNext, pieceOf, walked, walkAt, candidateAt};
+ghost use Rattle.candidate.specs.Steps.{NextFit, walkWith, WalkParts, WalkReady};
+ghost use Rattle.candidate.specs.Told.{along, ToldPlace, ToldLast};
 use crate::next;
 use crate::next::Next;
 use basis::number::Tolerance;
+use cut::arrival;
 use cut::arrival::Case;
 use outline::point;
+use outline::point::Point;
 use outline::point::Vertex;
 use outline::read;
 use view::create;
@@ -50,12 +54,11 @@ pub fn walk_candidate(outline: &[f64], vc: usize, w: Walk, t: Tolerance) -> Cand
     Candidate::Slice(view, start, after)
 }
 
-// The walk from the cut at place p, on that segment, to the cut where it ends. The split of that cut goes to `create`.
-fn walk_by(cut: &[f64], splits: &[f64], segment: usize, p: usize, next: Next) -> Walk
-    requires { ⌜ WalkParts (now cut) (now splits) p next ⌝ }
-    ensures { λ r. ⌜ r ≡ walkBy (now (cut .entry)) (now (splits .entry)) segment p next ⌝ }
+// The walk from the cut at place p, on that segment, to the cut where it ends, which has that point. The split of that cut goes to `create`.
+fn walk_by(end: Point, splits: &[f64], segment: usize, p: usize, next: Next) -> Walk
+    requires { ⌜ WalkParts (now splits) p next ⌝ }
+    ensures { λ r. ⌜ r ≡ walkWith end (now (splits .entry)) segment p next ⌝ }
 {
-    let end = read::point_at(cut, 2 * next.cut);
     let part = read::vertex_at(splits, 3 * next.cut);
     let start = read::vertex_at(splits, 3 * p + 2);
     Walk {
@@ -68,34 +71,43 @@ fn walk_by(cut: &[f64], splits: &[f64], segment: usize, p: usize, next: Next) ->
     }
 }
 
-// The walk from the cut at place p, its segment's last, to the first cut of the next segment that has one.
+// The walk from the cut at place p, its segment's last, to the first cut of the next segment that has one. That cut's point is the one of its number of arrival.
 fn walk(
     outline: &[f64],
+    hit_at: &[usize],
+    hit: &[f64],
+    lap_at: &[usize],
+    lap: &[f64],
     cut_at: &[usize],
-    cut: &[f64],
     splits: &[f64],
     s: Case,
     p: usize,
 ) -> Candidate
-    requires { ⌜ LastPlace (given (now outline) (now «cut_at») (now cut) (now splits) s) p ⌝ }
-    ensures { λ r. ⌜ r ≡ walkAt (given (now (outline .entry)) (now («cut_at» .entry)) (now (cut .entry)) (now (splits .entry)) s) p ⌝ }
+    requires { ⌜ ToldLast (given (now outline) (now «hit_at») (now hit) (now «lap_at») (now lap) s) (now «cut_at») (now splits) p ⌝ }
+    ensures { λ r. ⌜ r ≡ walkAt (along (given (now (outline .entry)) (now («hit_at» .entry)) (now (hit .entry)) (now («lap_at» .entry)) (now (lap .entry)) s) (now («cut_at» .entry)) (now (splits .entry))) p ⌝ }
 {
+    let segment = cut_at[3 * p];
     let next = next::next_cut(cut_at, s.vc, s.hits + 2 * s.laps, p);
-    let w = walk_by(cut, splits, cut_at[3 * p], p, next);
+    let n = cut_at[3 * next.cut + 2];
+    let end = arrival::cut_of(outline, hit_at, hit, lap_at, lap, s, n);
+    let w = walk_by(end.point, splits, segment, p, next);
     walk_candidate(outline, s.vc, w, s.tolerance)
 }
 
 // What the cut at place p gives: nothing where it is marked, the piece to its neighbour, or the walk.
 pub fn candidate_at(
     outline: &[f64],
+    hit_at: &[usize],
+    hit: &[f64],
+    lap_at: &[usize],
+    lap: &[f64],
     cut_at: &[usize],
-    cut: &[f64],
     splits: &[f64],
     s: Case,
     p: usize,
 ) -> Candidate
-    requires { ⌜ Place (given (now outline) (now «cut_at») (now cut) (now splits) s) p ⌝ }
-    ensures { λ r. ⌜ r ≡ candidateAt (given (now (outline .entry)) (now («cut_at» .entry)) (now (cut .entry)) (now (splits .entry)) s) p ⌝ }
+    requires { ⌜ ToldPlace (given (now outline) (now «hit_at») (now hit) (now «lap_at») (now lap) s) (now «cut_at») (now splits) p ⌝ }
+    ensures { λ r. ⌜ r ≡ candidateAt (along (given (now (outline .entry)) (now («hit_at» .entry)) (now (hit .entry)) (now («lap_at» .entry)) (now (lap .entry)) s) (now («cut_at» .entry)) (now (splits .entry))) p ⌝ }
 {
     if cut_at[3 * p + 1] == 1 {
         return Candidate::Nothing;
@@ -106,5 +118,5 @@ pub fn candidate_at(
         let b = read::vertex_at(splits, 3 * q + 1);
         return piece(cut_at[3 * p], a, b, s.tolerance);
     }
-    walk(outline, cut_at, cut, splits, s, p)
+    walk(outline, hit_at, hit, lap_at, lap, cut_at, splits, s, p)
 }

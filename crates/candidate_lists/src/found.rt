@@ -26,7 +26,19 @@ fn found_with(
     ensures { λ r. ⌜ Written (alongCuts (given (now (outline .entry)) (now («hit_at» .entry)) (now (hit .entry)) (now («lap_at» .entry)) (now (lap .entry)) s) (now (splits .entry))) (rooms (now («cand_at» .entry)) (now (cand .entry)) (now (probe .entry))) r (rooms (now («cand_at» .exit)) (now (cand .exit)) (now (probe .exit))) ⌝ }
 {
     cut_order::write::write_order(outline, hit_at, hit, lap_at, lap, s, order, cut_at, cut);
-    front::walked(outline, cut_at, cut, splits, s, cand_at, cand, probe)
+    front::walked(
+        outline,
+        hit_at,
+        hit,
+        lap_at,
+        lap,
+        cut_at,
+        splits,
+        s,
+        cand_at,
+        cand,
+        probe,
+    )
 }
 
 // The same with working lists for 8 cuts, which cost little to set up. The next three functions have lists for 64 cuts, for 256, and for 768, which is the most.

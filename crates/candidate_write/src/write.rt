@@ -2,9 +2,10 @@
 ghost use mathlib.Core.Path.{_≡_};
 ghost use lib.ListN.{replicate};
 ghost use Rattle.basis.specs.Room.{roomOf, Stretch};
-ghost use Rattle.candidate.specs.Candidates.{given};
-ghost use Rattle.candidate.specs.Ready.{rooms, Ready, Written};
+ghost use Rattle.cut.specs.Cuts.{given};
+ghost use Rattle.candidate.specs.Ready.{rooms, Written};
 ghost use Rattle.candidate.specs.Steps.{Items, ClearFit, Cleared};
+ghost use Rattle.candidate.specs.Told.{along, ToldReady};
 use crate::put;
 use basis::room;
 use candidate::at_cut;
@@ -14,22 +15,25 @@ use slice::edition as editions;
 // Writes the candidates in order of places, and says how many there are.
 fn write_items(
     outline: &[f64],
+    hit_at: &[usize],
+    hit: &[f64],
+    lap_at: &[usize],
+    lap: &[f64],
     cut_at: &[usize],
-    cut: &[f64],
     splits: &[f64],
     s: Case,
     cand_at: &mut [usize],
     cand: &mut [f64],
     probe: &mut [f64],
 ) -> usize
-    requires { ⌜ Ready (given (now outline) (now «cut_at») (now cut) (now splits) s) (rooms (now «cand_at») (now cand) (now probe)) ⌝ }
-    ensures { λ r. ⌜ Items (given (now (outline .entry)) (now («cut_at» .entry)) (now (cut .entry)) (now (splits .entry)) s) (rooms (now («cand_at» .entry)) (now (cand .entry)) (now (probe .entry))) r (rooms (now («cand_at» .exit)) (now (cand .exit)) (now (probe .exit))) ⌝ }
+    requires { ⌜ ToldReady (given (now outline) (now «hit_at») (now hit) (now «lap_at») (now lap) s) (now «cut_at») (now splits) (rooms (now «cand_at») (now cand) (now probe)) ⌝ }
+    ensures { λ r. ⌜ Items (along (given (now (outline .entry)) (now («hit_at» .entry)) (now (hit .entry)) (now («lap_at» .entry)) (now (lap .entry)) s) (now («cut_at» .entry)) (now (splits .entry))) (rooms (now («cand_at» .entry)) (now (cand .entry)) (now (probe .entry))) r (rooms (now («cand_at» .exit)) (now (cand .exit)) (now (probe .exit))) ⌝ }
 {
     let count = s.hits + 2 * s.laps;
     let mut m = 0;
     let mut p = 0;
     while p < count {
-        let c = at_cut::candidate_at(outline, cut_at, cut, splits, s, p);
+        let c = at_cut::candidate_at(outline, hit_at, hit, lap_at, lap, cut_at, splits, s, p);
         m = put::put_candidate(cand_at, cand, probe, m, c);
         p += 1;
     }
@@ -46,22 +50,38 @@ fn clear_rest(cand_at: &mut [usize], cand: &mut [f64], probe: &mut [f64], m: usi
     room::clear_numbers(probe, 6 * m, 6 * need);
 }
 
-// Writes the candidates over cuts that are in order, then zero up to one candidate per cut, and says how many candidates there are.
+// Writes the candidates along the order that the list tells, then zero up to one candidate per cut, and says how many candidates there are.
 pub fn write_candidates(
     outline: &[f64],
+    hit_at: &[usize],
+    hit: &[f64],
+    lap_at: &[usize],
+    lap: &[f64],
     cut_at: &[usize],
-    cut: &[f64],
     splits: &[f64],
     s: Case,
     cand_at: &mut [usize],
     cand: &mut [f64],
     probe: &mut [f64],
 ) -> usize
-    requires { ⌜ Ready (given (now outline) (now «cut_at») (now cut) (now splits) s) (rooms (now «cand_at») (now cand) (now probe)) ⌝ }
-    ensures { λ r. ⌜ Written (given (now (outline .entry)) (now («cut_at» .entry)) (now (cut .entry)) (now (splits .entry)) s) (rooms (now («cand_at» .entry)) (now (cand .entry)) (now (probe .entry))) r (rooms (now («cand_at» .exit)) (now (cand .exit)) (now (probe .exit))) ⌝ }
+    requires { ⌜ ToldReady (given (now outline) (now «hit_at») (now hit) (now «lap_at») (now lap) s) (now «cut_at») (now splits) (rooms (now «cand_at») (now cand) (now probe)) ⌝ }
+    ensures { λ r. ⌜ Written (along (given (now (outline .entry)) (now («hit_at» .entry)) (now (hit .entry)) (now («lap_at» .entry)) (now (lap .entry)) s) (now («cut_at» .entry)) (now (splits .entry))) (rooms (now («cand_at» .entry)) (now (cand .entry)) (now (probe .entry))) r (rooms (now («cand_at» .exit)) (now (cand .exit)) (now (probe .exit))) ⌝ }
 {
-    let m = write_items(outline, cut_at, cut, splits, s, cand_at, cand, probe);
-    clear_rest(cand_at, cand, probe, m, s.hits + 2 * s.laps);
+    let need = s.hits + 2 * s.laps;
+    let m = write_items(
+        outline,
+        hit_at,
+        hit,
+        lap_at,
+        lap,
+        cut_at,
+        splits,
+        s,
+        cand_at,
+        cand,
+        probe,
+    );
+    clear_rest(cand_at, cand, probe, m, need);
     m
 }
 

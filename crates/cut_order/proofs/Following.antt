@@ -1,33 +1,28 @@
 -- Laws by which the test of a hint is proved: of an order of the cuts that a caller hands in.
-use Prim.Native.Nat.{ℕ, zero, suc, _+_, _-_, _*_, _/_, _%_, _≤_, _<_}
+use Prim.Native.Nat.{ℕ, zero, suc, _+_, _*_, _/_, _%_, _≤_, _<_}
 use mathlib.Core.Bool.{Bool, true, false, not, _&&_, _||_, true≢false}
 use mathlib.Core.Path.{_≡_, refl, sym, ap, _∙_}
-use mathlib.Core.List.{List, [], _∷_, _++_, flatMap, append-nil}
+use mathlib.Core.List.{List, [], _∷_, _++_}
 use native.Mathlib.Nat.{le-of-suc-le-suc}
 use native.Mathlib.Omega.{arith}
-use lib.ListN.{length, getD, drop, replicate, length-append, drop-of-length-le, List·getD-append}
-use lib.Seq.{sets, ext-getD, getD-at}
+use lib.ListN.{length, getD, length-append, List·getD-append}
+use lib.Seq.{ext-getD, getD-at}
 use lib.Arith.{lt-of-le-ne}
 use lib.Dec.{ltb, eqb}
-use lib.Ieee.{Float, nan}
+use lib.Ieee.{Float}
 use mir.Syntax.{w64}
 use mir.Val.{Fits}
 use borrow.Author.Tests.{ltb-true, eqb-true, eqb-false, ne-eqb, not-true}
 use Rattle.basis.specs.Choice.{codeOf, by-test, and-left, and-right}
-use Rattle.basis.specs.Items.{firstItems}
-use Rattle.basis.specs.ItemLaws.{Filling, fill-none, fill-more, fill-end, items-listed}
-use Rattle.basis.specs.Number.{+0}
-use Rattle.basis.specs.Room.{roomOf, RoomFor}
-use Rattle.outline.specs.Points.{pointNumbers}
 use Rattle.outline.specs.Outline.{Triple}
 use Rattle.cut.specs.declared.arrival.Case.{Case}
 use Rattle.cut.specs.declared.arrival.Cut.{Cut}
 use Rattle.cut.specs.Cuts.{Given, given, cutCount, cutOf, Arrival}
-use Rattle.cut.specs.Order.{distance, earlier, orderOf, numbersOf, pointOf, cutNumbers, cutPoints, Written}
+use Rattle.cut.specs.Order.{earlier, orderOf, cutNumbers, Accepted}
 use Rattle.cut_runs.specs.Sooner.{sooner}
 use Rattle.cut_runs.specs.Runs.{Goes, before-it, arrived-first}
 use Rattle.cut_order.specs.declared.along.Key.{Key}
-use Rattle.cut_order.specs.Along.{keyBy, goesBy, goesOn, followsBy, Third, Hinted, Followed}
+use Rattle.cut_order.specs.Along.{keyBy, goesBy, goesOn, followsBy, Third, Followed}
 use Rattle.cut_order.specs.CutsLaws.{order-length, numbers-length, number-at}
 use Rattle.cut_order.specs.OrderTheorems.{order-known}
 use Rattle.cut_order.proofs.Keying.{distance-fit}
@@ -47,12 +42,6 @@ listed-at h (suc n) i k =
     let m = listed-length h n in
     by-test (eqb i n) (λ e. let q = eqb-true i n e in rw q (getD-at (listed h n) (h n) [] 0 n m))
     (λ e. let q = lt-of-le-ne (le-of-suc-le-suc k) (eqb-false i n e) in List·getD-append (listed h n) (h n ∷ []) 0 i (omega arith) ∙ listed-at h n i q)
-
--- the items of two functions that agree
-items-same : {A : Type 0} (f : ℕ → List A) (g : ℕ → List A) (n : ℕ) → ((i : ℕ) → i < n → f i ≡ g i) → firstItems f n ≡ firstItems g n
-unfolding firstItems
-items-same f g zero e = refl
-items-same f g (suc n) e = rw (items-same f g n (λ i h. e i (omega arith)), e n (omega arith))
 
 -- ---- what the test says
 or-cases : (a b : Bool) → (a || b) ≡ true → a ≡ false → b ≡ true
@@ -79,8 +68,8 @@ module _ (g : Given) where
       (λ e. let r : (ltb x y && not (earlier g y x)) ≡ true = or-cases (earlier g x y) _ h e in arrived-first (not-true (earlier g y x) (and-right (ltb x y) (not (earlier g y x)) r)) (ltb-true x y (and-left (ltb x y) (not (earlier g y x)) r)))
 
 -- ---- the first i places of the hint were looked at
-pub record Following (g : Given) (cutAt : List ℕ) (entry cut : List Float) (last : Key) (i : ℕ) : Type 0 where
-  pub hinted : Hinted g entry
+pub record Following (g : Given) (cutAt : List ℕ) (last : Key) (i : ℕ) : Type 0 where
+  pub accepted : Accepted g
   pub exact : length cutAt ≡ 3 * cutCount g
   pub ahead : i ≤ cutCount g
   pub inside : (p : ℕ) → p < i → getD cutAt (3 * p + 2) 0 < cutCount g
@@ -88,9 +77,8 @@ pub record Following (g : Given) (cutAt : List ℕ) (entry cut : List Float) (la
   pub mark : (p : ℕ) → p < i → getD cutAt (3 * p + 1) 0 ≡ codeOf (cutOf g (getD cutAt (3 * p + 2) 0) .mark)
   pub goes : (p : ℕ) → p + 1 < i → Goes (earlier g) (getD cutAt (3 * p + 2) 0) (getD cutAt (3 * (p + 1) + 2) 0)
   pub newest : (p : ℕ) → p + 1 ≡ i → last ≡ keyBy (g .outline) (cutOf g (getD cutAt (3 * p + 2) 0)) (getD cutAt (3 * p + 2) 0)
-  pub points : Filling (λ p. pointOf g (getD cutAt (3 * p + 2) 0)) 2 entry cut i
 
-module _ (o : List Float) (ha : List ℕ) (h : List Float) (la : List ℕ) (l : List Float) (s : Case) (cutAt : List ℕ) (entry : List Float) where
+module _ (o : List Float) (ha : List ℕ) (h : List Float) (la : List ℕ) (l : List Float) (s : Case) (cutAt : List ℕ) where
   abbrev here : Given
   here = given o ha h la l s
 
@@ -98,10 +86,10 @@ module _ (o : List Float) (ha : List ℕ) (h : List Float) (la : List ℕ) (l : 
   abbrev said : ℕ → ℕ
   said p = getD cutAt (3 * p + 2) 0
 
-  pub follow-none : (last : Key) → Hinted here entry → length cutAt ≡ 3 * cutCount here → Following here cutAt entry entry last 0
+  pub follow-none : (last : Key) → Accepted here → length cutAt ≡ 3 * cutCount here → Following here cutAt last 0
   follow-none last k exact =
       record {
-        hinted = k;
+        accepted = k;
         exact = exact;
         ahead = omega arith;
         inside = λ p m. absurd (omega arith);
@@ -109,36 +97,29 @@ module _ (o : List Float) (ha : List ℕ) (h : List Float) (la : List ℕ) (l : 
         mark = λ p m. absurd (omega arith);
         goes = λ p m. absurd (omega arith);
         newest = λ p m. absurd (omega arith);
-        points = fill-none (λ p. pointOf here (said p)) 2 (λ n. refl) entry;
       }
 
-  module _ (cut : List Float) (last : Key) (i : ℕ) (f : Following here cutAt entry cut last i) (m : i < cutCount here) where
+  module _ (last : Key) (i : ℕ) (f : Following here cutAt last i) (m : i < cutCount here) where
     pub follow-arrival : said i < cutCount here → Arrival here (said i)
-    follow-arrival n = record { ready = f .hinted .accepted .ready; arrives = n }
+    follow-arrival n = record { ready = f .accepted .ready; arrives = n }
 
     -- places are machine numbers
     pub follow-fits : (j : ℕ) → j ≤ 3 → Fits w64 (3 * i + j)
-    follow-fits j n = let a = f .hinted .accepted .ready .fewHits in let b = f .hinted .accepted .ready .fewLaps in record { fits = omega arith }
-
-    pub follow-twice : Fits w64 (2 * i)
-    follow-twice = let a = f .hinted .accepted .ready .fewHits in let b = f .hinted .accepted .ready .fewLaps in record { fits = omega arith }
+    follow-fits j n = let a = f .accepted .ready .fewHits in let b = f .accepted .ready .fewLaps in record { fits = omega arith }
 
     pub follow-next : Fits w64 (i + 1)
-    follow-next = let a = f .hinted .accepted .ready .fewHits in let b = f .hinted .accepted .ready .fewLaps in record { fits = omega arith }
+    follow-next = let a = f .accepted .ready .fewHits in let b = f .accepted .ready .fewLaps in record { fits = omega arith }
 
     pub follow-triple : (c : Cut) → said i < cutCount here → c ≡ cutOf here (said i) → Triple o (c .segment)
-    follow-triple c n e = distance-fit o ha h la l s (said i) c (f .hinted .accepted .ready) n e
+    follow-triple c n e = distance-fit o ha h la l s (said i) c (f .accepted .ready) n e
 
     pub follow-third : Third cutAt i
     follow-third = record { inside = omega (arith, f .exact) }
 
-    pub follow-room : RoomFor cut (2 * i) 2
-    follow-room = record { fits = omega (arith, f .points .long, f .hinted .room) }
-
-    pub follow-more : (cut' : List Float) (c : Cut) (key : Key) (x : Bool) → said i < cutCount here → c ≡ cutOf here (said i) → key ≡ keyBy o c (said i)
-        → x ≡ followsBy cutAt i c last key → x ≡ true → cut' ≡ sets cut (2 * i) (pointNumbers (c .point)) → Following here cutAt entry cut' key (i + 1)
+    pub follow-more : (c : Cut) (key : Key) (x : Bool) → said i < cutCount here → c ≡ cutOf here (said i) → key ≡ keyBy o c (said i)
+        → x ≡ followsBy cutAt i c last key → x ≡ true → Following here cutAt key (i + 1)
     unfolding followsBy goesOn
-    follow-more cut' c key x n e d q t w =
+    follow-more c key x n e d q t =
         let sameSegment = eqb (getD cutAt (3 * i) 0) (c .segment) in
         let sameMark = eqb (getD cutAt (3 * i + 1) 0) (codeOf (c .mark)) in
         let goesNext = eqb i 0 || goesBy last key in
@@ -149,7 +130,7 @@ module _ (o : List Float) (ha : List ℕ) (h : List Float) (la : List ℕ) (l : 
         let b = eqb-true (getD cutAt (3 * i + 1) 0) (codeOf (c .mark)) (and-left sameMark goesNext rest) in
         let whole : key ≡ keyBy o (cutOf here (said i)) (said i) = d ∙ ap (λ (v : Cut). keyBy o v (said i)) e in
         record {
-          hinted = f .hinted;
+          accepted = f .accepted;
           exact = f .exact;
           ahead = omega arith;
           inside = λ p u. at p u (f .inside) n;
@@ -164,7 +145,6 @@ module _ (o : List Float) (ha : List ℕ) (h : List Float) (la : List ℕ) (l : 
               rw y (goes-told here (said p) (said i) both))
               (λ z. f .goes p (lower (p + 1) u z));
           newest = λ p u. let y : p ≡ i = omega arith in rw y whole;
-          points = fill-more (λ p. pointOf here (said p)) 2 (λ n. refl) entry cut cut' i (f .points) (omega (arith, f .hinted .room)) (w ∙ rw e);
         }
       where
         lower : (p : ℕ) → p < i + 1 → eqb p i ≡ false → p < i
@@ -173,37 +153,22 @@ module _ (o : List Float) (ha : List ℕ) (h : List Float) (la : List ℕ) (l : 
         at : (p : ℕ) → p < i + 1 → ((q : ℕ) → q < i → said q < cutCount here) → said i < cutCount here → said p < cutCount here
         at p u old new = by-test (eqb p i) (λ z. let y = eqb-true p i z in rw y new) (λ z. old p (lower p u z))
 
-  pub follow-no : (cut : List Float) → Followed here cutAt entry cut false
-  follow-no cut = record { yes = λ e. absurd (true≢false (sym e)); long = λ e. absurd (true≢false (sym e)) }
+  pub follow-no : Followed here cutAt false
+  follow-no = record { yes = λ e. absurd (true≢false (sym e)) }
 
-  pub follow-end : (cut : List Float) (last : Key) (i : ℕ) → Following here cutAt entry cut last i → cutCount here ≤ i → Followed here cutAt entry cut true
-  unfolding cutPoints roomOf
-  follow-end cut last i f m =
+  pub follow-end : (last : Key) (i : ℕ) → Following here cutAt last i → cutCount here ≤ i → Followed here cutAt true
+  follow-end last i f m =
       let n = cutCount here in
-      let e : i ≡ n = omega (arith, f .ahead) in
-      let order : listed said n ≡ orderOf here = order-known here (f .hinted .accepted) (listed said n) (listed-length said n)
+      let order : listed said n ≡ orderOf here = order-known here (f .accepted) (listed said n) (listed-length said n)
       (λ p u. rw (listed-at said n p u) (f .inside p (omega arith))) (λ p u. rw (listed-at said n p (omega arith), listed-at said n (p + 1) u) (f .goes p (omega arith))) in
       let same : (p : ℕ) → p < n → said p ≡ getD (orderOf here) p 0 = λ p u. sym (listed-at said n p u) ∙ ap (λ (z : List ℕ). getD z p 0) order in
-      let points : firstItems (λ p. pointOf here (said p)) n ≡ flatMap (pointOf here) (orderOf here) =
-      items-same (λ p. pointOf here (said p)) (λ p. pointOf here (getD (orderOf here) p 0)) n (λ p u. ap (pointOf here) (same p u)) ∙ items-listed (pointOf here) (orderOf here) 0 n (order-length here) in
-      record {
-        yes = λ t. record {
-          numbers = all (f .exact) (λ p u. same p u) (λ p u. f .segment p (omega arith)) (λ p u. f .mark p (omega arith));
-          points = fill-end (λ p. pointOf here (said p)) 2 (λ q. refl) entry +0 cut i n (f .points) e ∙ rw points;
-        };
-        long = λ t. omega (arith, f .exact);
-      }
+      record { yes = λ t. all (f .exact) (λ p u. same p u) (λ p u. f .segment p (omega arith)) (λ p u. f .mark p (omega arith)) }
     where
       -- the hint is the numbers of the cuts in their order
       all : length cutAt ≡ 3 * cutCount here → ((p : ℕ) → p < cutCount here → said p ≡ getD (orderOf here) p 0) → ((p : ℕ) → p < cutCount here → getD cutAt (3 * p) 0 ≡ cutOf here (said p) .segment)
-          → ((p : ℕ) → p < cutCount here → getD cutAt (3 * p + 1) 0 ≡ codeOf (cutOf here (said p) .mark)) → cutAt ≡ roomOf 0 3 (cutCount here) (cutNumbers here) cutAt
+          → ((p : ℕ) → p < cutCount here → getD cutAt (3 * p + 1) 0 ≡ codeOf (cutOf here (said p) .mark)) → cutAt ≡ cutNumbers here
       all exact same segs marks =
-          let n = cutCount here in
-          let size = numbers-length here in
-          let past : drop (3 * n) cutAt ≡ [] = drop-of-length-le cutAt {i = 3 * n} (omega (arith, exact)) in
-          let gap : 3 * n - length (cutNumbers here) ≡ 0 = omega arith in
-          let words : cutAt ≡ cutNumbers here = ext-getD 0 cutAt (cutNumbers here) (exact ∙ sym size) (λ q u. word q (omega (arith, exact)) (segs (q / 3) (omega (arith, exact))) (marks (q / 3) (omega (arith, exact))) (same (q / 3) (omega (arith, exact)))) in
-          rw (past, gap) (words ∙ sym (append-nil (cutNumbers here)))
+          ext-getD 0 cutAt (cutNumbers here) (exact ∙ sym (numbers-length here)) (λ q u. word q (omega (arith, exact)) (segs (q / 3) (omega (arith, exact))) (marks (q / 3) (omega (arith, exact))) (same (q / 3) (omega (arith, exact))))
         where
           word : (q : ℕ) → q < 3 * cutCount here → getD cutAt (3 * (q / 3)) 0 ≡ cutOf here (said (q / 3)) .segment → getD cutAt (3 * (q / 3) + 1) 0 ≡ codeOf (cutOf here (said (q / 3)) .mark)
               → said (q / 3) ≡ getD (orderOf here) (q / 3) 0 → getD cutAt q 0 ≡ getD (cutNumbers here) q 0
@@ -219,4 +184,4 @@ module _ (o : List Float) (ha : List ℕ) (h : List Float) (la : List ℕ) (l : 
               by-test (eqb (q % 3) 0) (λ z. first (eqb-true (q % 3) 0 z))
               (λ z. by-test (eqb (q % 3) 1) (λ y. second (eqb-true (q % 3) 1 y)) (λ y. let v = eqb-false (q % 3) 0 z in let x = eqb-false (q % 3) 1 y in third (omega arith)))
 
-pub ruleset following = (follow-none, follow-third, follow-arrival, follow-fits, follow-twice, follow-next, follow-triple, follow-room, follow-more, follow-no, follow-end)
+pub ruleset following = (follow-none, follow-third, follow-arrival, follow-fits, follow-next, follow-triple, follow-more, follow-no, follow-end)

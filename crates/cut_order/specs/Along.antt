@@ -8,8 +8,8 @@ use lib.Dec.{ltb, eqb}
 use lib.Ieee.{Float}
 use Rattle.basis.specs.Choice.{codeOf}
 use Rattle.cut.specs.declared.arrival.Cut.{Cut}
-use Rattle.cut.specs.Cuts.{Given, cutCount}
-use Rattle.cut.specs.Order.{distance, Accepted, Written}
+use Rattle.cut.specs.Cuts.{Given}
+use Rattle.cut.specs.Order.{distance, cutNumbers}
 use Rattle.cut_runs.specs.Sooner.{sooner}
 use Rattle.cut_order.specs.declared.along.Key.{Key}
 
@@ -35,12 +35,6 @@ followsBy cutAt i c last key = eqb (getD cutAt (3 * i) 0) (c .segment) && (eqb (
 pub record Third (cutAt : List ℕ) (i : ℕ) : Type 0 where
   pub inside : 3 * i + 3 ≤ length cutAt
 
--- room for the points; the list itself may be any
-pub record Hinted (g : Given) (cut : List Float) : Type 0 where
-  pub accepted : Accepted g
-  pub room : 2 * cutCount g ≤ length cut
-
--- ---- what it tells: where yes, the list is what the order writes, and the points were written
-pub record Followed (g : Given) (cutAt : List ℕ) (cut cutLeft : List Float) (r : Bool) : Type 0 where
-  pub yes : r ≡ true → Written g cutAt cut cutAt cutLeft
-  pub long : r ≡ true → 3 * cutCount g ≤ length cutAt
+-- ---- what it tells: where yes, the list is the numbers of the cuts in their order
+pub record Followed (g : Given) (cutAt : List ℕ) (r : Bool) : Type 0 where
+  pub yes : r ≡ true → cutAt ≡ cutNumbers g

@@ -2,14 +2,14 @@
 ghost use mathlib.Core.Path.{_≡_};
 ghost use Rattle.outline.specs.Outline.{Triple};
 ghost use Rattle.cut.specs.Cuts.{given};
+ghost use Rattle.cut.specs.Order.{Accepted};
 ghost use Rattle.cut_runs.specs.Sooner.{sooner};
-ghost use Rattle.cut_order.specs.Along.{keyBy, goesOn, followsBy, Third, Hinted, Followed};
+ghost use Rattle.cut_order.specs.Along.{keyBy, goesOn, followsBy, Third, Followed};
 use crate::keys;
 use crate::write;
 use cut::arrival;
 use cut::arrival::Case;
 use cut::arrival::Cut;
-use outline::write::put_point;
 
 // What a cut is sorted by: its segment, its distance, its number of arrival.
 pub struct Key {
@@ -67,7 +67,7 @@ fn follows(cut_at: &[usize], i: usize, c: Cut, last: Key, key: Key) -> bool
     segment & (mark & goes_on(i, last, key))
 }
 
-// Whether the list holds the cuts in their order, three numbers each. Where it does, their points stand in front of the room.
+// Whether the list holds the cuts in their order, three numbers each.
 pub fn is_along(
     outline: &[f64],
     hit_at: &[usize],
@@ -76,10 +76,9 @@ pub fn is_along(
     lap: &[f64],
     s: Case,
     cut_at: &[usize],
-    cut: &mut [f64],
 ) -> bool
-    requires { ⌜ Hinted (given (now outline) (now «hit_at») (now hit) (now «lap_at») (now lap) s) (now cut) ⌝ }
-    ensures { λ r. ⌜ Followed (given (now (outline .entry)) (now («hit_at» .entry)) (now (hit .entry)) (now («lap_at» .entry)) (now (lap .entry)) s) (now («cut_at» .entry)) (now (cut .entry)) (now (cut .exit)) r ⌝ }
+    requires { ⌜ Accepted (given (now outline) (now «hit_at») (now hit) (now «lap_at») (now lap) s) ⌝ }
+    ensures { λ r. ⌜ Followed (given (now (outline .entry)) (now («hit_at» .entry)) (now (hit .entry)) (now («lap_at» .entry)) (now (lap .entry)) s) (now («cut_at» .entry)) r ⌝ }
 {
     let count = s.hits + 2 * s.laps;
     if cut_at.len() != 3 * count {
@@ -99,7 +98,6 @@ pub fn is_along(
         let c = arrival::cut_of(outline, hit_at, hit, lap_at, lap, s, n);
         let key = key_of(outline, c, n);
         if follows(cut_at, i, c, last, key) {
-            put_point(cut, 2 * i, c.point);
             last = key;
             i += 1;
             continue;

@@ -6,11 +6,11 @@ use Rattle.candidate_lists.proofs.found.found_with.Tie as tie
 walked-requires : tie.Need-walked-requires
 walked-requires c κs =
     let lent = c .before .before .before .before .before in
-    let ordered = lent .before .before .before .before .before .before in
+    let ordered = lent .before .before .before .before .before in
     let begun = ordered .before .before .before .before in
-    let params = begun .before .before .before .before .before .before .before .before in
-    let start = params .before .before .before .before in
-    in-front _ _ _ _ _ _ _ _ _ _ _ (ordered .write-order .ensures) _ (start .pre .ok) (start .pre .numberRoom) (start .pre .pointRoom)
+    let params = begun .before .before .before .before .before .before in
+    let start = params .before .before .before .before .before .before in
+    in-front _ _ _ _ _ _ _ (ordered .write-order .ensures) (start .pre .ok) (start .pre .numberRoom) (start .pre .pointRoom)
 
 pub found-with-spec : {M : Type 1} → statement M
 found-with-spec =

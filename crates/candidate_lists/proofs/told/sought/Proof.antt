@@ -1,19 +1,24 @@
-use Rattle.candidate_lists.proofs.Finding.{tried-not, trying}
+use Rattle.candidate_lists.proofs.Finding.{told-ready, told-written}
 use borrow.Author.Needs.{needs}
 use Rattle.candidate_lists.proofs.told.sought.Statement.{statement}
 use Rattle.candidate_lists.proofs.told.sought.Tie as tie
 
-found-requires : tie.Need-found-requires
-found-requires c κs =
-    let left = c .before .before .before in
-    let told = left .before .before .before .before .before .before .before .before in
-    let begun = told .before .before .before .before .before .before .before in
-    let start = begun .before .before .before .before .before .before .before in
-    tried-not _ _ _ _ _ (told .told-sized .ensures) (left .enum-told .given .1) (start .pre)
+write-candidates-requires : tie.Need-write-candidates-requires
+write-candidates-requires c κs =
+    let yes = c .before .before .before in
+    let lists = yes .before .before .before .before .before .before in
+    let start = lists .before .before .before .before .before .before in
+    told-ready _ _ _ _ (yes .before .is-along .ensures .yes (yes .if1 .taken)) (start .pre)
+
+returns : tie.Need-returns
+returns c =
+    let wrote = c .before .before .before .before .before .before in
+    let yes = wrote .before .before .before .before in
+    told-written _ _ _ _ (yes .before .is-along .ensures .yes (yes .if1 .taken)) _ _ (wrote .write-candidates .ensures)
 
 pub sought-spec : {M : Type 1} → statement M
 sought-spec =
     tie.close
-    (tie.spec (λ c κs. search needs) (λ c. search needs) (λ c. search needs) (λ c. search needs) (λ c. search needs)
-    (λ c. search (needs, trying)) (λ c. search needs) found-requires (λ c. search needs) (λ c. search needs)
-    (λ c. search needs) (λ c. search (needs, trying)))
+    (tie.spec (λ c κs. search needs) write-candidates-requires (λ c. search needs) (λ c. search needs)
+    (λ c. search needs) returns (λ c κs. search needs) (λ c. search needs) (λ c. search needs) (λ c. search needs)
+    (λ c. search needs))
