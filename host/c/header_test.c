@@ -399,8 +399,8 @@ int main(void)
     measure("mask_stitch", stitch, MASK_STACK_STITCH); /* before the slices are written over */
     measure("mask_record_write", record_write, MASK_STACK_RECORD_WRITE);
     measure("mask_record_replay", record_replay, MASK_STACK_RECORD_REPLAY); /* of what it wrote */
-    /* a right hint takes a list of points alone, 12 KB; a wrong one the lists of the order too */
-    measure_from("mask_candidates_along, a right hint", candidates_along, 12288, MASK_STACK_CUT_ORDER);
+    /* a right hint takes no list; a wrong one the lists of the order */
+    measure_from("mask_candidates_along, a right hint", candidates_along, 0, MASK_STACK_PRUNE);
     cut_at[2]++;
     measure("mask_candidates_along, a wrong hint", candidates_along, MASK_STACK_CANDIDATES_ALONG);
     measure("mask_candidates", candidates, MASK_STACK_CANDIDATES);
