@@ -91,7 +91,7 @@ impl Input {
     /// Room for the slices of a prune, exactly as long as the need.
     fn slice_room(&self, rooms: &[CutRoom; 2]) -> Slices {
         let candidates = rooms[0].count + rooms[1].count;
-        Slices::room(candidates + 2 * self.pair.laps())
+        Slices::room(candidates + 2 * self.pair.laps)
     }
 
     /// Room for one outline, with cuts, splits, candidates and inside answers in it.

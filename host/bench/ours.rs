@@ -6,9 +6,13 @@ use archive::{PruneAnswer, StitchAnswer, Vertex, View};
 /// The editions of the two outlines.
 pub const EDITIONS: [u32; 2] = [1, 2];
 
-/// Two outlines and what they share, as flat lists. The crossings and overlaps are the original's own.
+/// Two outlines and what they share, as flat lists, with the counts beside them: a host has both at
+/// hand. The crossings and overlaps are the original's own.
 pub struct Pair {
     pub outlines: [Vec<f64>; 2],
+    pub vertex_counts: [usize; 2],
+    pub hits: usize,
+    pub laps: usize,
     pub hit_at: Vec<usize>,
     pub hit: Vec<f64>,
     pub lap_at: Vec<usize>,
@@ -19,20 +23,8 @@ pub struct Pair {
 }
 
 impl Pair {
-    fn hits(&self) -> usize {
-        self.hit_at.len() / 2
-    }
-
-    pub fn laps(&self) -> usize {
-        self.lap_at.len() / 7
-    }
-
     pub fn cuts(&self) -> usize {
-        self.hits() + 2 * self.laps()
-    }
-
-    pub fn vertex_count(&self, outline: usize) -> usize {
-        self.outlines[outline].len() / 3
+        self.hits + 2 * self.laps
     }
 }
 
@@ -69,14 +61,14 @@ impl CutRoom {
 pub fn cut_order(pair: &Pair, outline: usize, room: &mut CutRoom) {
     let answer = archive::cut_order(
         &pair.outlines[outline],
-        pair.vertex_count(outline),
+        pair.vertex_counts[outline],
         outline as u32 + 1,
         &pair.hit_at,
         &pair.hit,
-        pair.hits(),
+        pair.hits,
         &pair.lap_at,
         &pair.lap,
-        pair.laps(),
+        pair.laps,
         pair.tolerance,
         pair.tolerance,
         &mut room.cut_at,
@@ -89,15 +81,15 @@ pub fn cut_order(pair: &Pair, outline: usize, room: &mut CutRoom) {
 pub fn candidates(pair: &Pair, outline: usize, room: &mut CutRoom) {
     let answer = archive::candidates(
         &pair.outlines[outline],
-        pair.vertex_count(outline),
+        pair.vertex_counts[outline],
         EDITIONS[outline],
         outline as u32 + 1,
         &pair.hit_at,
         &pair.hit,
-        pair.hits(),
+        pair.hits,
         &pair.lap_at,
         &pair.lap,
-        pair.laps(),
+        pair.laps,
         &room.splits,
         pair.tolerance,
         pair.tolerance,
@@ -114,15 +106,15 @@ pub fn candidates(pair: &Pair, outline: usize, room: &mut CutRoom) {
 pub fn candidates_along(pair: &Pair, outline: usize, room: &mut CutRoom) {
     let answer = archive::candidates_along(
         &pair.outlines[outline],
-        pair.vertex_count(outline),
+        pair.vertex_counts[outline],
         EDITIONS[outline],
         outline as u32 + 1,
         &pair.hit_at,
         &pair.hit,
-        pair.hits(),
+        pair.hits,
         &pair.lap_at,
         &pair.lap,
-        pair.laps(),
+        pair.laps,
         &room.cut_at,
         &room.splits,
         pair.tolerance,
@@ -180,8 +172,8 @@ pub fn prune(pair: &Pair, mode: u32, rooms: &[CutRoom; 2], slices: &mut Slices) 
     let answer = archive::prune(
         mode,
         u32::from(pair.opposing),
-        pair.vertex_count(0),
-        pair.vertex_count(1),
+        pair.vertex_counts[0],
+        pair.vertex_counts[1],
         &one.cand_at[..2 * one.count],
         &one.cand[..6 * one.count],
         &one.cand_edition[..one.count],
@@ -195,7 +187,7 @@ pub fn prune(pair: &Pair, mode: u32, rooms: &[CutRoom; 2], slices: &mut Slices) 
         &pair.lap_at,
         &pair.lap,
         &pair.lap_edition,
-        pair.laps(),
+        pair.laps,
         &mut slices.slice_at,
         &mut slices.slice,
         &mut slices.slice_edition,
@@ -206,7 +198,7 @@ pub fn prune(pair: &Pair, mode: u32, rooms: &[CutRoom; 2], slices: &mut Slices) 
 
 /// Room for the slices of the one call, exactly as long as its need.
 pub fn straight_room(pair: &Pair) -> Slices {
-    Slices::room(2 * pair.cuts() + 2 * pair.laps())
+    Slices::room(2 * pair.cuts() + 2 * pair.laps)
 }
 
 pub fn straight_slices(pair: &Pair, mode: u32, slices: &mut Slices) -> PruneAnswer {
@@ -215,18 +207,18 @@ pub fn straight_slices(pair: &Pair, mode: u32, slices: &mut Slices) -> PruneAnsw
         mode,
         u32::from(pair.opposing),
         one,
-        pair.vertex_count(0),
+        pair.vertex_counts[0],
         EDITIONS[0],
         two,
-        pair.vertex_count(1),
+        pair.vertex_counts[1],
         EDITIONS[1],
         &pair.hit_at,
         &pair.hit,
-        pair.hits(),
+        pair.hits,
         &pair.lap_at,
         &pair.lap,
         &pair.lap_edition,
-        pair.laps(),
+        pair.laps,
         pair.tolerance,
         pair.tolerance,
         &mut slices.slice_at,

@@ -59,6 +59,9 @@ impl Shared {
     pub fn pair(&self, outlines: &[Vec<f64>; 2]) -> Pair {
         let mut pair = Pair {
             outlines: outlines.clone(),
+            vertex_counts: outlines.each_ref().map(|outline| outline.len() / 3),
+            hits: self.info.intersects.len(),
+            laps: self.info.overlapping_slices.len(),
             hit_at: Vec::new(),
             hit: Vec::new(),
             lap_at: Vec::new(),
