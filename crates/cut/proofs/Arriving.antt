@@ -7,13 +7,14 @@ use native.Mathlib.Omega.{arith}
 use lib.ListN.{getD}
 use lib.Dec.{eqb}
 use lib.Ieee.{Float}
-use borrow.Author.Tests.{ne-eqb}
+use borrow.Author.Tests.{lt-ltb, ne-eqb}
+use Rattle.basis.specs.Choice.{cond-yes}
 use Rattle.outline.specs.Outline.{pointAt, Segment}
 use Rattle.basis.specs.declared.number.Tolerance.{Tolerance}
 use Rattle.outline.specs.declared.point.Point.{Point}
 use Rattle.cut.specs.declared.arrival.Case.{Case}
 use Rattle.cut.specs.declared.arrival.Cut.{Cut}
-use Rattle.cut.specs.Cuts.{given, whichOf, hitCut, moved, markedEnd, lapCut, Which, Arrival, LapFit}
+use Rattle.cut.specs.Cuts.{given, whichOf, hitCut, moved, markedEnd, lapCut, cutOf, Which, Arrival, LapFit}
 
 pub which-yes : (source : ℕ) → source ≡ 2 → Which source 1
 unfolding whichOf
@@ -37,6 +38,12 @@ module _ (o : List Float) (vc source : ℕ) (la : List ℕ) (l : List Float) (t 
   -- the index read is the overlap's on this outline
   pub lap-inside : (j end w : ℕ) → Which source w → LapFit o vc source la l j end → Segment o vc (getD la (7 * j + 2 * end + w) 0)
   lap-inside j end w d f = record { whole = f .whole; inside = rw (d .is) (f .inside) }
+
+-- without overlaps every arrival is an intersection's
+pub hits-alone : (o : List Float) (ha : List ℕ) (h : List Float) (la : List ℕ) (l : List Float) (s : Case) (n : ℕ) (r : Cut) → Arrival (given o ha h la l s) n → s .laps ≡ 0
+    → r ≡ hitCut ha h (s .source) n → r ≡ cutOf (given o ha h la l s) n
+unfolding cutOf
+hits-alone o ha h la l s n r a z e = cond-yes _ _ _ r (lt-ltb n (s .hits) (omega (arith, a .arrives))) e
 
 -- past the intersections stands an overlap
 pub lap-fit : (o : List Float) (ha : List ℕ) (h : List Float) (la : List ℕ) (l : List Float) (s : Case) (n : ℕ) → Arrival (given o ha h la l s) n → s .hits ≤ n

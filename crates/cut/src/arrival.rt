@@ -84,7 +84,8 @@ fn lap_cut(outline: &[f64], lap_at: &[usize], lap: &[f64], s: Case, j: usize, en
     }
 }
 
-// The cut of an arrival number: intersections first, then start and end of each overlap in turn.
+// The cut of an arrival number: intersections first, then start and end of each overlap in turn. Without overlaps every arrival is an intersection's. That is asked first, by
+// itself: then the compiler makes of each loop over cuts a second one for that case, which asks nothing of an arrival.
 pub fn cut_of(
     outline: &[f64],
     hit_at: &[usize],
@@ -97,6 +98,9 @@ pub fn cut_of(
     requires { ⌜ Arrival (given (now outline) (now «hit_at») (now hit) (now «lap_at») (now lap) s) n ⌝ }
     ensures { λ r. ⌜ r ≡ cutOf (given (now (outline .entry)) (now («hit_at» .entry)) (now (hit .entry)) (now («lap_at» .entry)) (now (lap .entry)) s) n ⌝ }
 {
+    if s.laps == 0 {
+        return hit_cut(hit_at, hit, s.source, n);
+    }
     if n < s.hits {
         return hit_cut(hit_at, hit, s.source, n);
     }
