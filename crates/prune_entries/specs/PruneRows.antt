@@ -65,6 +65,14 @@ abbrev pub reachRows : Call → List ℕ → List ℕ → List ℕ → List Row
 reachRows c candAt1 candAt2 lapAt =
     row (not (placesAtMost 2 1 (c .vc1) candAt1)) 7 ∷ row (not (placesAtMost 2 1 (c .vc2) candAt2)) 7 ∷ row (not (placesAtMost 7 6 (c .vc2) lapAt)) 7 ∷ []
 
+-- 6 and 7
+abbrev pub indexRows : Call → List ℕ → List ℕ → List ℕ → List Row
+indexRows c candAt1 candAt2 lapAt = startRows c candAt1 candAt2 lapAt ++ reachRows c candAt1 candAt2 lapAt
+
+-- 5 to 7
+abbrev pub numberIndexRows : Call → List ℕ → List Float → List ℕ → List Float → List ℕ → List Float → List Row
+numberIndexRows c candAt1 cand1 candAt2 cand2 lapAt lap = numberRows cand1 cand2 lap ++ indexRows c candAt1 candAt2 lapAt
+
 -- 9: a lent list has no room for so many slices
 abbrev pub roomRows : ℕ → ℕ → ℕ → ℕ → List Row
 roomRows need at slice edition = slices.roomRows need at slice ++ editionRoomRows need edition

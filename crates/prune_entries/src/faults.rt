@@ -1,7 +1,8 @@
 // The refusals of `mask_prune`, part by part of their table. Each row has a way out of its own: an accepted call then keeps no number on the way.
 ghost use mathlib.Core.Path.{_≡_};
+ghost use mathlib.Core.List.{_++_};
 ghost use Rattle.basis.specs.Refuse.{firstFrom};
-ghost use Rattle.prune_entries.specs.PruneRows.{candListRows, lapListRows, callRows, answerRows, codeRows, numberRows, lapStartRows, startRows, reachRows, roomRows};
+ghost use Rattle.prune_entries.specs.PruneRows.{candListRows, lapListRows, callRows, answerRows, codeRows, numberRows, lapStartRows, startRows, reachRows, indexRows, numberIndexRows, roomRows};
 ghost use Rattle.slice.specs.Ready.{Countable};
 use basis::items;
 use basis::number;
@@ -97,7 +98,7 @@ fn answer_refusal(inside1: &[u8], inside2: &[u8], lap_at: &[usize]) -> u32
 }
 
 // Numbers 2 and 3.
-pub(crate) fn code_refusal(c: Call, inside1: &[u8], inside2: &[u8], lap_at: &[usize]) -> u32
+fn code_refusal(c: Call, inside1: &[u8], inside2: &[u8], lap_at: &[usize]) -> u32
     ensures { λ n. ⌜ n ≡ firstFrom 0 (codeRows c (now (inside1 .entry)) (now (inside2 .entry)) (now («lap_at» .entry))) ⌝ }
 {
     let r = call_refusal(c);
@@ -108,7 +109,7 @@ pub(crate) fn code_refusal(c: Call, inside1: &[u8], inside2: &[u8], lap_at: &[us
 }
 
 // Number 5.
-pub(crate) fn number_refusal(cand1: &[f64], cand2: &[f64], lap: &[f64]) -> u32
+fn number_refusal(cand1: &[f64], cand2: &[f64], lap: &[f64]) -> u32
     ensures { λ n. ⌜ n ≡ firstFrom 0 (numberRows (now (cand1 .entry)) (now (cand2 .entry)) (now (lap .entry))) ⌝ }
 {
     if !number::all_in_range(cand1) {
@@ -146,12 +147,7 @@ fn lap_start_refusal(c: Call, lap_at: &[usize]) -> u32
 }
 
 // Number 6: each index against its own outline. The view of an overlap is of outline 2.
-pub(crate) fn start_refusal(
-    c: Call,
-    cand_at1: &[usize],
-    cand_at2: &[usize],
-    lap_at: &[usize],
-) -> u32
+fn start_refusal(c: Call, cand_at1: &[usize], cand_at2: &[usize], lap_at: &[usize]) -> u32
     ensures { λ n. ⌜ n ≡ firstFrom 0 (startRows c (now («cand_at1» .entry)) (now («cand_at2» .entry)) (now («lap_at» .entry))) ⌝ }
 {
     if !items::all_below(cand_at1, 2, 0, c.vc1) {
@@ -164,12 +160,7 @@ pub(crate) fn start_refusal(
 }
 
 // Number 7: each offset against its own outline.
-pub(crate) fn reach_refusal(
-    c: Call,
-    cand_at1: &[usize],
-    cand_at2: &[usize],
-    lap_at: &[usize],
-) -> u32
+fn reach_refusal(c: Call, cand_at1: &[usize], cand_at2: &[usize], lap_at: &[usize]) -> u32
     ensures { λ n. ⌜ n ≡ firstFrom 0 (reachRows c (now («cand_at1» .entry)) (now («cand_at2» .entry)) (now («lap_at» .entry))) ⌝ }
 {
     if !items::all_at_most(cand_at1, 2, 1, c.vc1) {
@@ -182,6 +173,57 @@ pub(crate) fn reach_refusal(
         return 7;
     }
     0
+}
+
+// Numbers 6 and 7.
+fn index_refusal(c: Call, cand_at1: &[usize], cand_at2: &[usize], lap_at: &[usize]) -> u32
+    ensures { λ n. ⌜ n ≡ firstFrom 0 (indexRows c (now («cand_at1» .entry)) (now («cand_at2» .entry)) (now («lap_at» .entry))) ⌝ }
+{
+    let r = start_refusal(c, cand_at1, cand_at2, lap_at);
+    if r != 0 {
+        return r;
+    }
+    reach_refusal(c, cand_at1, cand_at2, lap_at)
+}
+
+// Numbers 5 to 7.
+fn number_index_refusal(
+    c: Call,
+    cand_at1: &[usize],
+    cand1: &[f64],
+    cand_at2: &[usize],
+    cand2: &[f64],
+    lap_at: &[usize],
+    lap: &[f64],
+) -> u32
+    ensures { λ n. ⌜ n ≡ firstFrom 0 (numberIndexRows c (now («cand_at1» .entry)) (now (cand1 .entry)) (now («cand_at2» .entry)) (now (cand2 .entry)) (now («lap_at» .entry)) (now (lap .entry))) ⌝ }
+{
+    let r = number_refusal(cand1, cand2, lap);
+    if r != 0 {
+        return r;
+    }
+    index_refusal(c, cand_at1, cand_at2, lap_at)
+}
+
+// Numbers 2 to 7. What is looked at last stands in the innermost function: the compiler takes a call behind many ways out for rare, and leaves it a call.
+pub(crate) fn content_refusal(
+    c: Call,
+    cand_at1: &[usize],
+    cand1: &[f64],
+    inside1: &[u8],
+    cand_at2: &[usize],
+    cand2: &[f64],
+    inside2: &[u8],
+    lap_at: &[usize],
+    lap: &[f64],
+) -> u32
+    ensures { λ n. ⌜ n ≡ firstFrom 0 (codeRows c (now (inside1 .entry)) (now (inside2 .entry)) (now («lap_at» .entry)) ++ numberIndexRows c (now («cand_at1» .entry)) (now (cand1 .entry)) (now («cand_at2» .entry)) (now (cand2 .entry)) (now («lap_at» .entry)) (now (lap .entry))) ⌝ }
+{
+    let r = code_refusal(c, inside1, inside2, lap_at);
+    if r != 0 {
+        return r;
+    }
+    number_index_refusal(c, cand_at1, cand1, cand_at2, cand2, lap_at, lap)
 }
 
 // Number 9: the three lists are too short for so many slices.

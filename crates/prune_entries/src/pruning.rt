@@ -52,19 +52,17 @@ fn input_refusal(
     if r != 0 {
         return r;
     }
-    let r = faults::code_refusal(c, inside1, inside2, lap_at);
-    if r != 0 {
-        return r;
-    }
-    let r = faults::number_refusal(cand1, cand2, lap);
-    if r != 0 {
-        return r;
-    }
-    let r = faults::start_refusal(c, cand_at1, cand_at2, lap_at);
-    if r != 0 {
-        return r;
-    }
-    faults::reach_refusal(c, cand_at1, cand_at2, lap_at)
+    faults::content_refusal(
+        c,
+        cand_at1,
+        cand1,
+        inside1,
+        cand_at2,
+        cand2,
+        inside2,
+        lap_at,
+        lap,
+    )
 }
 
 // The slices of a mode: the candidates of each outline that stay, then the overlaps for each outline. The need is worked out only where 1 to 7 found nothing.

@@ -8,4 +8,6 @@ pub input-refusal-spec : {M : Type 1} → statement M
 unfolding inputRows
 input-refusal-spec =
     tie.close
-    (tie.spec (λ c κs. search needs) (λ c. search (needs, part-exits) depth 30) (λ c κs. search needs) (λ c. search (needs, part-exits) depth 30) (λ c κs. search needs) (λ c. search (needs, part-exits) depth 30) (λ c κs. search needs) (λ c. search (needs, part-exits) depth 30) (λ c κs. search needs) (λ c. search (needs, part-exits) depth 30) (λ c κs. search needs) (λ c. search (needs, part-exits) depth 30) (λ c κs. search needs) (λ c. search (needs, part-exits) depth 30))
+    (tie.spec (λ c κs. search needs) (λ c. search (needs, part-exits) depth 30) (λ c κs. search needs)
+    (λ c. search (needs, part-exits) depth 30) (λ c κs. search needs) (λ c. search (needs, part-exits) depth 30)
+    (λ c κs. search needs) (λ c. search (needs, part-exits) depth 30))
