@@ -111,7 +111,7 @@ pub extern "C" fn mask_candidates_along(
 ) -> CountAnswer
     ensures { λ r. ⌜ Sliced (given (now (outline .entry)) (now («hit_at» .entry)) (now (hit .entry)) (now («lap_at» .entry)) (now (lap .entry)) (caseOf vc source hits laps (toleranceOf «tolerance_x» «tolerance_y»))) (now (splits .entry)) edition (lent (now («cand_at» .entry)) (now (cand .entry)) (now (probe .entry)) (now («cand_edition» .entry))) r (lent (now («cand_at» .exit)) (now (cand .exit)) (now (probe .exit)) (now («cand_edition» .exit))) ⌝ }
 {
-    candidate_entries::slicing::entry_along(
+    candidate_entries::along::entry(
         outline,
         vc,
         edition,

@@ -1,7 +1,7 @@
 use Rattle.candidate_entries.proofs.Finding.{editions-ready}
 use borrow.Author.Needs.{needs}
-use Rattle.candidate_entries.proofs.slicing.told_dated.Statement.{statement}
-use Rattle.candidate_entries.proofs.slicing.told_dated.Tie as tie
+use Rattle.candidate_entries.proofs.along.told_dated.Statement.{statement}
+use Rattle.candidate_entries.proofs.along.told_dated.Tie as tie
 
 write-editions-requires : tie.Need-write-editions-requires
 write-editions-requires c κs =
