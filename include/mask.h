@@ -56,10 +56,10 @@ extern "C" {
 #endif
 
 /* This library's version. */
-#define MASK_VERSION "0.7.3"
+#define MASK_VERSION "0.7.4"
 #define MASK_VERSION_MAJOR 0
 #define MASK_VERSION_MINOR 7
-#define MASK_VERSION_PATCH 3
+#define MASK_VERSION_PATCH 4
 
 /* Widths: how many elements an item of a list has. */
 #define MASK_WIDTH_OUTLINE 3  /* a vertex: x, y, bulge; also in `vertices` and `room` */
