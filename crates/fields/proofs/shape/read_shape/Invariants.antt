@@ -1,0 +1,12 @@
+use borrow.Author.Rules.{rules}
+use native.Mathlib.Omega.{arith}
+use Prim.Native.Nat.{◌-◌}
+use lib.ListN.{length}
+use Rattle.fields.proofs.Shaping.{Reading, reading-none, reading-field, reading-more, reading-end}
+use Rattle.fields.proofs.shape.read_shape.Given as goal
+
+abbrev pub invariant-loop-i : goal.invariant-loop-i
+invariant-loop-i l = Reading l.bytes l.at l.widths l.initial.values l.to l.values l.p l.i
+
+abbrev pub decreases-loop-i : goal.decreases-loop-i
+decreases-loop-i l = length l.widths - l.i

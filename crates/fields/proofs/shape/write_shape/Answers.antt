@@ -1,0 +1,21 @@
+use borrow.Author.Rules.{rules}
+use native.Mathlib.Omega.{arith}
+use Prim.Native.Nat.{◌-◌}
+use lib.ListN.{length}
+use Rattle.fields.proofs.Shaping.{Writing, writing-none, writing-inside, writing_more, writing-end}
+use Rattle.fields.proofs.shape.write_shape.Goals as goal
+
+pub loop-i-init : goal.loop-i-init
+loop-i-init c = search (rules, writing-none)
+
+pub put-requires : goal.put-requires
+put-requires c = search (rules, writing-inside)
+
+pub overflow_add-p : goal.overflow_add-p
+overflow_add-p c = let g = c.loop-i.invariant in omega (arith, writing-inside g c.loop-i-test.true, g.long)
+
+pub loop-i-preserved : goal.loop-i-preserved
+loop-i-preserved c = search (rules, writing_more)
+
+pub returns : goal.returns
+returns c = search (rules, writing-end)
