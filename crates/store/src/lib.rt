@@ -1,3 +1,4 @@
+#![tactic(auto)]
 // Slices kept between runs, document 02, K9: what a store is, and its marks.
 //
 // The store is four lists that the host lends: of each place a mark, four codes, six numbers and an edition. Every content of the lists is

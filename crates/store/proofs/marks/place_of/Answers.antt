@@ -2,12 +2,8 @@ use mathlib.Core.Path.{refl}
 use native.Mathlib.Nat.{div-add-mod}
 use native.Mathlib.Omega.{arith}
 use Rattle.store.specs.Marks.{place_of}
-use Rattle.store.proofs.marks.place_of.Statement.{statement}
-use Rattle.store.proofs.marks.place_of.Tie as tie
+use Rattle.store.proofs.marks.place_of.Goals as goal
 
-returns : tie.Need-returns
+pub returns : goal.returns
 unfolding place_of
 returns c = record { is = refl; small = omega (arith, div-add-mod c.args.m 2048) }
-
-pub place-of-spec : {M : Type 1} → statement M
-place-of-spec = tie.close (tie.spec returns)

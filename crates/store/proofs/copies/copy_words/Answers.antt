@@ -1,0 +1,13 @@
+use borrow.Author.Rules.{rules}
+use Prim.Native.Nat.{◌-◌}
+use Rattle.store.proofs.Copying.{Copying, copying}
+use Rattle.store.proofs.copies.copy_words.Goals as goal
+
+pub loop-i-init : goal.loop-i-init
+loop-i-init c = search (rules, copying)
+
+pub loop-i-preserved : goal.loop-i-preserved
+loop-i-preserved c = search (rules, copying)
+
+pub returns : goal.returns
+returns c = search (rules, copying)
