@@ -1,3 +1,4 @@
+#![tactic(auto)]
 // Request K7: settings by edition. Up to 16 settings, each with both tolerances and the area limit, in one record that is extended and never overwritten.
 //
 // The record is two lists that the host lends and keeps: how many settings there are, one number, and 48 numbers, three a setting. Every content of the two
