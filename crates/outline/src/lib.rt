@@ -1,3 +1,4 @@
+#![tactic(auto)]
 // Points and vertices by value, outlines of flat triples, read and written.
 pub mod point;
 pub mod read;
