@@ -1,3 +1,4 @@
+#![tactic(auto)]
 // Document 01, the area pass: one area per loop; the loops that stay, listed by number.
 ghost use Rattle.std.specs.Prelude.{◌≡◌};
 ghost use Rattle.basis.specs.Choice.{code_of};
