@@ -1,3 +1,4 @@
+#![tactic(auto)]
 // The refusals that are the candidates' own: 1 and 5 of the splits, 9 of the four lent lists. Each row has a way out of its own.
 ghost use Rattle.std.specs.Prelude.{◌≡◌};
 ghost use Rattle.basis.specs.Refuse.{first_from};
