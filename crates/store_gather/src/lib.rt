@@ -1,3 +1,4 @@
+#![tactic(auto)]
 // Slices gathered from their places: laid out anew within a list, or shown in lent room. Codes are four words to a place, numbers six, editions one.
 ghost use Rattle.std.specs.Prelude.{◌≡◌, ◌++◌, map, ◌*◌, length, take, drop};
 ghost use Rattle.basis.specs.Number.{+0};

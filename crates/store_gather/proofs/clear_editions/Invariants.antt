@@ -1,0 +1,10 @@
+use Prim.Native.Nat.{◌-◌}
+use Rattle.basis.specs.RoomLaws.{Clearing, clearing}
+use borrow.Author.Rules.{rules}
+use Rattle.store_gather.proofs.clear_editions.Given as goal
+
+abbrev pub invariant-loop-i : goal.invariant-loop-i
+invariant-loop-i l = Clearing 0 l.initial.room l.from l.to l.room l.i
+
+abbrev pub decreases-loop-i : goal.decreases-loop-i
+decreases-loop-i l = l.to - l.i

@@ -1,0 +1,16 @@
+use Prim.Native.Nat.{◌-◌}
+use Rattle.store_gather.proofs.Gathering.{Mapping, mapping-none, edition_at, editions-below, editions-more, editions-end}
+use borrow.Author.Rules.{rules}
+use Rattle.store_gather.proofs.gather_editions.Goals as goal
+
+pub loop-k-init : goal.loop-k-init
+loop-k-init c = mapping-none _ _ _ _
+
+pub bounds-src-t : goal.bounds-src-t
+bounds-src-t c = search (rules, editions-below)
+
+pub loop-k-preserved : goal.loop-k-preserved
+loop-k-preserved c = search (rules, editions-more)
+
+pub returns : goal.returns
+returns c = search (rules, editions-end)

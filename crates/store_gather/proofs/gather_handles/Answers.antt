@@ -1,0 +1,14 @@
+use Prim.Native.Nat.{◌-◌}
+use Rattle.store.specs.Marks.{handle_of}
+use Rattle.store_gather.proofs.Gathering.{Mapping, mapping-none, handles-more, handles-end}
+use borrow.Author.Rules.{rules}
+use Rattle.store_gather.proofs.gather_handles.Goals as goal
+
+pub loop-k-init : goal.loop-k-init
+loop-k-init c = mapping-none _ _ _ _
+
+pub loop-k-preserved : goal.loop-k-preserved
+loop-k-preserved c = search (rules, handles-more)
+
+pub returns : goal.returns
+returns c = search (rules, handles-end)

@@ -1,0 +1,12 @@
+use Prim.Native.Nat.{◌-◌}
+use lib.ListN.{take}
+use Rattle.store_gather.specs.Gather.{blocks_at}
+use Rattle.store_gather.proofs.Gathering.{Gathering, gather_none, gather-fits, gather-more, gather-end}
+use borrow.Author.Rules.{rules}
+use Rattle.store_gather.proofs.gather_numbers.Given as goal
+
+abbrev pub invariant-loop-k : goal.invariant-loop-k
+invariant-loop-k l = Gathering (blocks_at 6 l.src (take l.k l.order)) 6 l.n l.initial.dst l.dst l.k
+
+abbrev pub decreases-loop-k : goal.decreases-loop-k
+decreases-loop-k l = l.n - l.k
