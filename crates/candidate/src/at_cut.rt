@@ -17,7 +17,7 @@ use view::create::{OneSegment, Walk};
 use view::data::ViewData;
 
 // What a cut gives: nothing, or a candidate, which is its view and the two vertices whose midpoint the host tests.
-#[derive(Drop)]
+#[derive(Clone, Copy)]
 pub enum Candidate {
     Nothing,
     Slice(ViewData, Vertex, Vertex),

@@ -5,7 +5,7 @@ ghost use Rattle.candidate.specs.Steps.{Among, NextPlace, segments_on, Segments,
 use outline::read;
 
 // Where a walk ends: its traverse count, the segment there, and that segment's first cut.
-#[derive(Drop)]
+#[derive(Clone, Copy)]
 pub struct Next {
     pub traverse: usize,
     pub index: usize,

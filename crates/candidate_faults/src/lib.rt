@@ -7,7 +7,7 @@ ghost use Rattle.candidate_faults.specs.CandidateRows.{split_length_rows, split_
 use basis::{number, refuse};
 
 // How long the four lent lists are.
-#[derive(Drop)]
+#[derive(Clone, Copy)]
 pub struct Lengths {
     pub at: usize,
     pub cand: usize,

@@ -9,7 +9,7 @@ use outline::read;
 use view::create;
 
 // A cut: the segment that it is on, whether it carries the overlap mark, its point.
-#[derive(Drop)]
+#[derive(Clone, Copy)]
 pub struct Cut {
     pub segment: usize,
     pub mark: bool,
@@ -18,7 +18,7 @@ pub struct Cut {
 
 // What a call has beside its lists: the outline's vertex count, which outline it is (source 1 or 2), the counts of intersections and overlaps, the tolerance.
 // It is made once, at the entry, and handed on as it is.
-#[derive(Drop)]
+#[derive(Clone, Copy)]
 pub struct Case {
     pub vc: usize,
     pub source: usize,

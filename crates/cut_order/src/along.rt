@@ -11,7 +11,7 @@ use cut::arrival;
 use cut::arrival::{Case, Cut};
 
 // What a cut is sorted by: its segment, its distance, its number of arrival.
-#[derive(Drop)]
+#[derive(Clone, Copy)]
 pub struct Key {
     pub segment: usize,
     pub distance: f64,

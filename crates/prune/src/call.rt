@@ -4,7 +4,7 @@ ghost use Rattle.prune.specs.Prune.{need_of};
 ghost use Rattle.prune.specs.Ready.{Few};
 
 // The mode and the yes/no code of opposing directions, the outlines' vertex counts, how many candidates each has, how many overlaps there are.
-#[derive(Drop)]
+#[derive(Clone, Copy)]
 pub struct Call {
     pub mode: u32,
     pub opposing: u32,

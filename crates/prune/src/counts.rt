@@ -4,14 +4,14 @@ ghost use Rattle.prune.specs.Prune.{pruned_at};
 
 use select::class::Starts;
 
-#[derive(Drop)]
+#[derive(Clone, Copy)]
 pub struct Pruned {
     pub slices: usize,
     pub starts: Starts,
 }
 
 // Where two parts of the list end, one behind the other.
-#[derive(Drop)]
+#[derive(Clone, Copy)]
 pub struct Ends {
     pub first: usize,
     pub second: usize,

@@ -8,7 +8,7 @@ const OUTSIDE: u8 = 0;
 const INSIDE: u8 = 1;
 
 // A row of the table: which candidates of each outline stay, and whether opposing directions are wanted.
-#[derive(Drop)]
+#[derive(Clone, Copy)]
 pub struct Wanted {
     pub keep1: u8,
     pub keep2: u8,
@@ -16,7 +16,7 @@ pub struct Wanted {
 }
 
 // How the candidates of one outline become slices: their source, whether they are inverted, and the answer of those that stay.
-#[derive(Drop)]
+#[derive(Clone, Copy)]
 pub struct Part {
     pub source: usize,
     pub inverted: usize,
@@ -24,7 +24,7 @@ pub struct Part {
 }
 
 // Both outlines' parts.
-#[derive(Drop)]
+#[derive(Clone, Copy)]
 pub struct Parts {
     pub first: Part,
     pub second: Part,

@@ -6,7 +6,7 @@ use prune::counts::Pruned;
 use select::class::Starts;
 
 #[repr(C)]
-#[derive(Drop)]
+#[derive(Clone, Copy)]
 pub struct PruneAnswer {
     pub refusal: u32,
     pub slices: usize,

@@ -16,7 +16,7 @@ use select::class::Starts;
 use stitch_run::plan::Plan;
 
 // What a head says: the plan of the stitch, and the outlines' editions.
-#[derive(Drop)]
+#[derive(Clone, Copy)]
 pub struct Head {
     pub plan: Plan,
     pub edition1: u32,
@@ -24,7 +24,7 @@ pub struct Head {
 }
 
 // What a reader answers: number 0, the version and the head, or its number and nothing.
-#[derive(Drop)]
+#[derive(Clone, Copy)]
 pub struct Seen {
     pub refusal: u32,
     pub version: usize,
@@ -32,7 +32,7 @@ pub struct Seen {
 }
 
 // How long the lists are that a record is read to.
-#[derive(Drop)]
+#[derive(Clone, Copy)]
 pub struct Lengths {
     pub outline1: usize,
     pub outline2: usize,

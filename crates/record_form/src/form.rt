@@ -7,7 +7,7 @@ ghost use Rattle.record_form.specs.Ready.{FormOk};
 use slice::data::{CODE_WIDTH, SHAPE_WIDTH};
 
 // A version: its number, the bytes of the second tolerance and of an edition (0 where it has none), and the bytes that a record has at most.
-#[derive(Drop)]
+#[derive(Clone, Copy)]
 pub struct Version {
     pub number: usize,
     pub second: usize,

@@ -15,7 +15,7 @@ use stitch_entries::stitching;
 
 // What a replay answers: the version of its record and the counts of its stitch, or its number and nothing.
 #[repr(C)]
-#[derive(Drop)]
+#[derive(Clone, Copy)]
 pub struct ReplayAnswer {
     pub refusal: u32,
     pub version: u32,

@@ -8,7 +8,7 @@ use record_form::form;
 const BYTES: usize = form::RECORD2_MOST + 1;
 
 // How many bytes were read, and whether a read failed.
-#[derive(Drop)]
+#[derive(Clone, Copy)]
 struct Input {
     count: usize,
     failed: bool,

@@ -67,7 +67,7 @@ fn slices(chain: &[usize; SLICES], from: usize, to: usize) {
 }
 
 // Where the printing stands: slices, returned vertices and loops so far.
-#[derive(Drop)]
+#[derive(Clone, Copy)]
 struct Shown {
     slices: usize,
     vertices: usize,

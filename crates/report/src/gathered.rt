@@ -5,7 +5,7 @@ use crate::print;
 use straight_entries::answer::ReportAnswer;
 use text::lines::Line;
 
-#[derive(Drop)]
+#[derive(Clone, Copy)]
 pub(crate) struct State {
     pub(crate) line: Line,
     pub(crate) number: u64,

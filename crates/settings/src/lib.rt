@@ -11,7 +11,7 @@ ghost use Rattle.settings.specs.Settings.{held, lengths_fault, count_of, full, k
 pub const MOST_SETTINGS: usize = 16;
 
 // Both tolerances and the area limit.
-#[derive(Drop)]
+#[derive(Clone, Copy)]
 pub struct Setting {
     pub tolerance_x: f64,
     pub tolerance_y: f64,

@@ -5,14 +5,14 @@ ghost use Rattle.settings_entries.specs.Answers.{edition_refused, edition_given,
 use settings::Setting;
 
 #[repr(C)]
-#[derive(Drop)]
+#[derive(Clone, Copy)]
 pub struct EditionAnswer {
     pub refusal: u32,
     pub edition: usize,
 }
 
 #[repr(C)]
-#[derive(Drop)]
+#[derive(Clone, Copy)]
 pub struct SettingAnswer {
     pub refusal: u32,
     pub tolerance_x: f64,

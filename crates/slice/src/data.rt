@@ -7,7 +7,7 @@ pub const CODE_WIDTH: usize = 4;
 // Updated start x, y, bulge, end bulge, end x, y.
 pub const SHAPE_WIDTH: usize = 6;
 
-#[derive(Drop)]
+#[derive(Clone, Copy)]
 pub struct Codes {
     pub source: usize,
     pub inverted: usize,
@@ -15,7 +15,7 @@ pub struct Codes {
     pub offset: usize,
 }
 
-#[derive(Drop)]
+#[derive(Clone, Copy)]
 pub struct Shape {
     pub updated_start: Vertex,
     pub end_bulge: f64,

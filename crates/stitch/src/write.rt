@@ -6,7 +6,7 @@ ghost use Rattle.stitch.specs.Lent.{NeedFit};
 use slice::data::CODE_WIDTH;
 
 // What is reported: the rounds taken, the loops returned, the chains walked.
-#[derive(Drop)]
+#[derive(Clone, Copy)]
 pub struct Stitched {
     pub rounds: usize,
     pub loops: usize,

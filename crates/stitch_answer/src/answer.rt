@@ -11,7 +11,7 @@ use stitch_links::look;
 use stitch_run::plan::Plan;
 
 // The selector is asked where there is a candidate.
-#[derive(Drop)]
+#[derive(Clone, Copy)]
 pub enum Answer {
     NoCandidate,
     Asked(Selected),

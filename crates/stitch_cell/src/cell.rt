@@ -3,7 +3,7 @@ ghost use Rattle.std.specs.Prelude.{◌≡◌};
 ghost use Rattle.stitch_cell.specs.Cell.{kept_off, cell_of, Steady};
 
 // How far an axis is moved, and the least that a moved coordinate may be. Any numbers above 0, `far` finite: they decide how fast a search is, never its answer.
-#[derive(Drop)]
+#[derive(Clone, Copy)]
 pub struct Plane {
     pub far: f64,
     pub near: f64,

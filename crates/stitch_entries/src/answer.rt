@@ -5,7 +5,7 @@ ghost use Rattle.stitch_entries.specs.Answers.{stitch_refused, stitch_given};
 use stitch::write::Stitched;
 
 #[repr(C)]
-#[derive(Drop)]
+#[derive(Clone, Copy)]
 pub struct StitchAnswer {
     pub refusal: u32,
     pub rounds: usize,

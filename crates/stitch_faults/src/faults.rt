@@ -12,7 +12,7 @@ use stitch::write;
 use stitch_run::plan::Plan;
 
 // How long the lent lists are.
-#[derive(Drop)]
+#[derive(Clone, Copy)]
 pub struct Lengths {
     pub room: usize,
     pub ends: usize,

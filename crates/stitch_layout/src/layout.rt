@@ -8,7 +8,7 @@ use stitch_cell::cell;
 use stitch_cell::cell::Plane;
 
 // How slices are put on lists: how many there are, how many lists, how far each axis is moved, and where outline 2's slices and the overlaps begin.
-#[derive(Drop)]
+#[derive(Clone, Copy)]
 pub struct Layout {
     pub count: usize,
     pub lists: usize,
@@ -19,7 +19,7 @@ pub struct Layout {
 }
 
 // What is looked for: starts in a box, slices of a group, unvisited or the chain's first.
-#[derive(Drop)]
+#[derive(Clone, Copy)]
 pub struct Query {
     pub left: f64,
     pub right: f64,

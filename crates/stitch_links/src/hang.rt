@@ -11,7 +11,7 @@ use stitch_layout::layout::Layout;
 use stitch_run::plan::Plan;
 
 // How far each axis is moved.
-#[derive(Drop)]
+#[derive(Clone, Copy)]
 struct Far {
     x: f64,
     y: f64,
@@ -29,7 +29,7 @@ fn smaller(a: f64, b: f64) -> f64 {
 const ONE_WIDE: f64 = 4503599627370496.0;
 
 // How wide a cell is on each axis, in tolerances: at most so wide, and more than half of it.
-#[derive(Drop)]
+#[derive(Clone, Copy)]
 struct Width {
     x: f64,
     y: f64,

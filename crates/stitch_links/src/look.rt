@@ -15,7 +15,7 @@ use stitch_layout::layout;
 use stitch_layout::layout::{Layout, Query};
 
 // The cells of a box's sides.
-#[derive(Drop)]
+#[derive(Clone, Copy)]
 pub struct Cells {
     pub x0: usize,
     pub x1: usize,

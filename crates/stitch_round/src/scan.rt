@@ -20,7 +20,7 @@ use stitch_links::look;
 use stitch_run::plan::Plan;
 
 // What a scan has met: whether any candidate, and of each choice the first that suits.
-#[derive(Drop)]
+#[derive(Clone, Copy)]
 struct Seen {
     any: bool,
     best: Best,

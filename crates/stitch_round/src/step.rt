@@ -15,7 +15,7 @@ use stitch_run::plan::Plan;
 use stitch_tally::tally::{CLOSED, NO_CANDIDATE, NO_SELECTION, TOO_SMALL};
 
 // The outcome of a round: another slice is joined, or the chain ends.
-#[derive(Drop)]
+#[derive(Clone, Copy)]
 pub enum Step {
     Onto(usize),
     Ends(usize),

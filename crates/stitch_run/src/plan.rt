@@ -3,7 +3,7 @@ use basis::number::Tolerance;
 use select::class::Starts;
 
 // The outlines' vertex counts, the count of slices, where their classes begin, the selector, the tolerance.
-#[derive(Drop)]
+#[derive(Clone, Copy)]
 pub struct Plan {
     pub vc1: usize,
     pub vc2: usize,

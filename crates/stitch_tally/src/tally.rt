@@ -11,7 +11,7 @@ pub const NO_CANDIDATE: usize = 2;
 pub const NO_SELECTION: usize = 3;
 
 // A chain at its end: how many vertices it has, how many rounds were taken up to now, how it ended.
-#[derive(Drop)]
+#[derive(Clone, Copy)]
 pub struct ChainEnd {
     pub verts: usize,
     pub rounds: usize,
@@ -19,7 +19,7 @@ pub struct ChainEnd {
 }
 
 // What is finished: vertices of the loops, loops, chains, rounds.
-#[derive(Drop)]
+#[derive(Clone, Copy)]
 pub struct Tally {
     pub done: usize,
     pub loops: usize,

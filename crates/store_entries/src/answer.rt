@@ -5,14 +5,14 @@ ghost use Rattle.store_entries.specs.Answers.{handle_refused, handle_from, done_
 use store_write::keep::Handle;
 
 #[repr(C)]
-#[derive(Drop)]
+#[derive(Clone, Copy)]
 pub struct HandleAnswer {
     pub refusal: u32,
     pub handle: usize,
 }
 
 #[repr(C)]
-#[derive(Drop)]
+#[derive(Clone, Copy)]
 pub struct DoneAnswer {
     pub refusal: u32,
 }

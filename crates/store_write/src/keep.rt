@@ -9,7 +9,7 @@ use store::marks::MOST_PLACES;
 use store::{copies, marks};
 
 // What a put answers.
-#[derive(Drop)]
+#[derive(Clone, Copy)]
 pub enum Handle {
     // The slice is kept under this handle.
     Given(usize),

@@ -52,7 +52,7 @@ pub fn winding_of(l: &[i64], n: usize, x: i64, y: i64) -> i64
 }
 
 // A doubled area: its sign, and its size in two words.
-#[derive(Drop)]
+#[derive(Clone, Copy)]
 pub struct Area {
     pub negative: u32,
     pub high: u64,

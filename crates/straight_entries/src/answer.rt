@@ -6,14 +6,14 @@ use straight::sum::Area;
 use straight_report::Report;
 
 #[repr(C)]
-#[derive(Drop)]
+#[derive(Clone, Copy)]
 pub struct WindingAnswer {
     pub refusal: u32,
     pub winding: i64,
 }
 
 #[repr(C)]
-#[derive(Drop)]
+#[derive(Clone, Copy)]
 pub struct AreaAnswer {
     pub refusal: u32,
     pub negative: u32,
@@ -22,7 +22,7 @@ pub struct AreaAnswer {
 }
 
 #[repr(C)]
-#[derive(Drop)]
+#[derive(Clone, Copy)]
 pub struct ReportAnswer {
     pub refusal: u32,
     pub count: usize,

@@ -10,7 +10,7 @@ use straight::sum::Area;
 use whole::two;
 use whole::two::Two;
 
-#[derive(Drop)]
+#[derive(Clone, Copy)]
 pub struct Report {
     pub zero: usize,
     pub high: u64,

@@ -9,7 +9,7 @@ use straight_along::along;
 use straight_cut::microdegrees;
 
 // The numbers of one outline's turn: its cuts, the other outline's vertex count, its edition, how its candidates become slices, and from which slice number on.
-#[derive(Drop)]
+#[derive(Clone, Copy)]
 pub struct Side {
     pub cuts: Case,
     pub other_vc: usize,

@@ -2,7 +2,7 @@
 use basis::number::Tolerance;
 
 // The mode and the yes/no code of opposing directions, the outlines' vertex counts and editions, the counts of intersections and overlaps, the tolerance.
-#[derive(Drop)]
+#[derive(Clone, Copy)]
 pub struct Job {
     pub mode: u32,
     pub opposing: u32,

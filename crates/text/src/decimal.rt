@@ -6,7 +6,7 @@ ghost use Rattle.text.specs.Decimal.{tenths_of, glyph_of, digits_of, Digit, Begi
 use whole::two::Two;
 
 // A tenth of a number, and the digit that is left.
-#[derive(Drop)]
+#[derive(Clone, Copy)]
 pub struct Tenth {
     pub high: u64,
     pub low: u64,

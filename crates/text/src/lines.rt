@@ -5,7 +5,7 @@ ghost use Rattle.text.specs.Lines.{is_blank, is_digit, more, blanks_more, on_bla
 use whole::signed;
 
 // What was read of a line: how far it came (a stage from 0 to 7, see specs/Lines.antt), the number that is being read, and the first number once it is read.
-#[derive(Drop)]
+#[derive(Clone, Copy)]
 pub struct Line {
     pub stage: u32,
     pub negative: u32,

@@ -3,7 +3,7 @@ ghost use Rattle.std.specs.Prelude.{◌≡◌};
 ghost use Rattle.unmoved_entries.specs.UnmovedEntry.{unmoved_refused, unmoved_given};
 
 #[repr(C)]
-#[derive(Drop)]
+#[derive(Clone, Copy)]
 pub struct UnmovedAnswer {
     pub refusal: u32,
     pub unmoved: u32,

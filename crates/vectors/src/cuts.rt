@@ -3,7 +3,7 @@ use crate::{lists, words};
 use basis::answer::CountAnswer;
 
 // How many vertices, hits and laps there are, the source, and the places of the lists.
-#[derive(Drop)]
+#[derive(Clone, Copy)]
 struct CutWords {
     vc: usize,
     source: u32,

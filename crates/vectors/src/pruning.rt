@@ -3,7 +3,7 @@ use crate::words;
 use prune_entries::answer::PruneAnswer;
 
 // How many candidates an outline has, and the places of their lists.
-#[derive(Drop)]
+#[derive(Clone, Copy)]
 struct SideWords {
     count: usize,
     at: usize,
@@ -26,7 +26,7 @@ fn side(w: &[usize], at: usize) -> SideWords {
 }
 
 // How many overlaps there are, and the places of their lists.
-#[derive(Drop)]
+#[derive(Clone, Copy)]
 struct LapWords {
     count: usize,
     at: usize,

@@ -3,7 +3,7 @@ use crate::{lists, words};
 use stitch_entries::answer::StitchAnswer;
 
 // How many vertices and slices there are, where the classes start, the selector, the place of the tolerance, and the places of the lists.
-#[derive(Drop)]
+#[derive(Clone, Copy)]
 struct SliceWords {
     vc1: usize,
     vc2: usize,
@@ -44,7 +44,7 @@ fn slices(w: &[usize]) -> SliceWords {
 }
 
 // The places of the lists lent, and of the answer behind them.
-#[derive(Drop)]
+#[derive(Clone, Copy)]
 struct LentWords {
     room: usize,
     ends: usize,

@@ -16,7 +16,7 @@ const VALIDATION_EPS: f64 = 1e-5;
 const VALIDATION_POINT_ON_SEG_EPS: f64 = 1e-3;
 
 // The Rust's enum, case by case.
-#[derive(Drop)]
+#[derive(Clone, Copy)]
 pub enum ViewDataValidation {
     SourceHasNoSegments,
     OffsetOutOfRange {

@@ -7,7 +7,7 @@ use verdict::validate::ViewDataValidation;
 use view_entries::answer::{NO_POINT, NO_VERTEX};
 
 #[repr(C)]
-#[derive(Drop)]
+#[derive(Clone, Copy)]
 pub struct VerdictAnswer {
     pub refusal: u32,
     pub verdict: u32,
@@ -21,7 +21,7 @@ pub struct VerdictAnswer {
 
 // A verdict, and the edition that the slice has from now on.
 #[repr(C)]
-#[derive(Drop)]
+#[derive(Clone, Copy)]
 pub struct ReopenAnswer {
     pub refusal: u32,
     pub verdict: u32,

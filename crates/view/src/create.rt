@@ -9,7 +9,7 @@ use outline::point::{Point, Vertex};
 use outline::{point, read};
 
 // What `create` is given beside the outline. Of the host's split of the segment at the intersect index, at the end point, it has the bulge of the first part.
-#[derive(Drop)]
+#[derive(Clone, Copy)]
 pub struct Walk {
     pub start_index: usize,
     pub end_intersect: Point,
@@ -20,7 +20,7 @@ pub struct Walk {
 }
 
 // A view, or none where both ends agree.
-#[derive(Drop)]
+#[derive(Clone, Copy)]
 pub enum OneSegment {
     View(ViewData),
     Collapsed,

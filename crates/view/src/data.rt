@@ -1,7 +1,7 @@
 use outline::point::{Point, Vertex};
 
 // The Rust's PlineViewData, by value. The outline stands beside it.
-#[derive(Drop)]
+#[derive(Clone, Copy)]
 pub struct ViewData {
     pub start_index: usize,
     pub end_index_offset: usize,

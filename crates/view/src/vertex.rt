@@ -9,7 +9,7 @@ use outline::point::Vertex;
 use outline::{point, read};
 
 // The answer at an index: a vertex, or none there.
-#[derive(Drop)]
+#[derive(Clone, Copy)]
 pub enum Found {
     At(Vertex),
     NoVertex,

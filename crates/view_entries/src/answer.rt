@@ -10,7 +10,7 @@ use view::data::ViewData;
 use view::vertex::Found;
 
 #[repr(C)]
-#[derive(Drop)]
+#[derive(Clone, Copy)]
 pub struct VertexAnswer {
     pub refusal: u32,
     pub found: u32,
@@ -18,7 +18,7 @@ pub struct VertexAnswer {
 }
 
 #[repr(C)]
-#[derive(Drop)]
+#[derive(Clone, Copy)]
 pub struct ViewAnswer {
     pub refusal: u32,
     pub found: u32,

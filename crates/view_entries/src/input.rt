@@ -11,7 +11,7 @@ use view::create::Walk;
 use view::data::ViewData;
 
 #[repr(C)]
-#[derive(Drop)]
+#[derive(Clone, Copy)]
 pub struct View {
     pub start_index: usize,
     pub end_index_offset: usize,
@@ -23,7 +23,7 @@ pub struct View {
 
 // The host's split of a segment at a point: its first part, and the vertex at the point.
 #[repr(C)]
-#[derive(Drop)]
+#[derive(Clone, Copy)]
 pub struct Split {
     pub updated_start: Vertex,
     pub split_vertex: Vertex,

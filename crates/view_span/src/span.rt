@@ -8,7 +8,7 @@ use outline::{point, read};
 use view::create;
 
 // Two points of an outline, each with the segment that it is on, and whether the outline is closed.
-#[derive(Drop)]
+#[derive(Clone, Copy)]
 pub struct Ends {
     pub closed: bool,
     pub start_index: usize,
@@ -18,7 +18,7 @@ pub struct Ends {
 }
 
 // Whether the start moved to the next segment, the segment that it is on then, and how many segments further on the end is.
-#[derive(Drop)]
+#[derive(Clone, Copy)]
 pub struct Span {
     pub moved: bool,
     pub start_index: usize,

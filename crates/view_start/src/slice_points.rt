@@ -14,7 +14,7 @@ use view_span::span;
 use view_span::span::{Ends, Span};
 
 // Of the host's two splits what is used: of the start's the first part's bulge and the split vertex, of the end's the first part.
-#[derive(Drop)]
+#[derive(Clone, Copy)]
 pub struct Splits {
     pub start_bulge: f64,
     pub start_vertex: Vertex,

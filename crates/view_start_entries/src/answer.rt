@@ -6,7 +6,7 @@ use view_entries::answer;
 use view_span::span::Span;
 
 #[repr(C)]
-#[derive(Drop)]
+#[derive(Clone, Copy)]
 pub struct SpanAnswer {
     pub refusal: u32,
     pub moved: u32,

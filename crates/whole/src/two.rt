@@ -2,7 +2,7 @@
 ghost use Rattle.std.specs.Prelude.{◌≡◌, ◌+◌, ◌-◌, nat_lt};
 ghost use Rattle.whole.specs.Two.{value, two, carry_of, Roomy, NoMore};
 
-#[derive(Drop)]
+#[derive(Clone, Copy)]
 pub struct Two {
     pub high: u64,
     pub low: u64,
