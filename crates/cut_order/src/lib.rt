@@ -1,3 +1,4 @@
+#![tactic(auto)]
 // The cuts in their order, written into lent room.
 pub mod along;
 mod keys;
