@@ -1,0 +1,26 @@
+use mathlib.Core.Path.{◌∙◌}
+use Rattle.whole.specs.FitLaws.{got}
+use Rattle.text.proofs.LinesLaws.{coordinate-minus, coordinate-plus, minus-fits}
+use borrow.Author.Rules.{rules}
+use Rattle.text.proofs.lines.coordinate.Goals as goal
+
+pub minus-requires : goal.minus-requires
+minus-requires c =
+    let s = c.args in
+    let k = c.capped in
+    let w = c.signed-n in
+    minus-fits s.negative s.size k.result _ k.ensures (got w.result w.type_inv ∙ w.ensures)
+
+pub returns-then-negative-eq1 : goal.returns-then-negative-eq1
+returns-then-negative-eq1 c =
+    let s = c.args in
+    let k = c.capped in
+    let w = c.signed-n in
+    coordinate-minus s.negative s.size k.result _ k.ensures (got w.result w.type_inv ∙ w.ensures) _ c.if-negative-eq1.true (got c.minus.result c.minus.type_inv ∙ c.minus.ensures)
+
+pub returns : goal.returns
+returns c =
+    let s = c.args in
+    let k = c.capped in
+    let w = c.signed-n in
+    coordinate-plus s.negative s.size k.result _ k.ensures (got w.result w.type_inv ∙ w.ensures) c.if-negative-eq1.false
