@@ -1,5 +1,4 @@
 -- K3: what a reopened slice is in a stitch. "Only "valid" gives the slice the new edition": from then on it is a slice of the new outline, and it causes neither 6 nor 7 nor 14.
-use denote.Slice.{shr_slice_at}
 use Rattle.std.specs.Prelude.{ℕ, ◌*◌, ◌≤◌, ◌<◌, true, ◌≡◌, List, eqb, length, get_or, Float}
 use Rattle.std.proofs.Math.Bool.{not}
 use Rattle.std.proofs.Common.{sym, ap, subst, ◌∙◌, arith}
@@ -86,13 +85,13 @@ module _ (g : Given) (e : Editions) (i : ℕ) (re : Reopened g e i) where
     unfolding named_stitch_refusal
     never-6 others n =
         not-given 6 (named_stitch_rows h setting g e l) (λ z. omega arith)
-        (ap not (shr_slice_at g.slice_at g.slices whole (start_inside g.vc1 g.vc2) (with-others StartIn reopened-start others)), tt) n
+        (ap not (at-slice g.slice_at g.slices whole (start_inside g.vc1 g.vc2) (with-others StartIn reopened-start others)), tt) n
 
     pub never-7 : Others OffsetIn → named_stitch_refusal h setting g e l ≡ 7 → ⊥
     unfolding named_stitch_refusal
     never-7 others n =
         not-given 7 (named_stitch_rows h setting g e l) (λ z. omega arith)
-        (ap not (shr_slice_at g.slice_at g.slices whole (offset_inside g.vc1 g.vc2) (with-others OffsetIn reopened-offset others)), tt) n
+        (ap not (at-slice g.slice_at g.slices whole (offset_inside g.vc1 g.vc2) (with-others OffsetIn reopened-offset others)), tt) n
 
     pub never-14 : Others Dated → named_stitch_refusal h setting g e l ≡ 14 → ⊥
     unfolding named_stitch_refusal

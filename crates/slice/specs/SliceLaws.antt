@@ -1,5 +1,4 @@
 -- What the tests of a list of slices say of each slice, and the other way.
-use denote.Slice.{shr_slice_at}
 use Rattle.std.specs.Prelude.{ℕ, ◌+◌, ◌*◌, ◌/◌, ◌≤◌, ◌<◌, Bool, true, ◌≡◌, List, length, get_or}
 use Rattle.std.proofs.Common.{sym, ap, subst, ◌∙◌, arith}
 use Rattle.std.proofs.Math.Nat.{mul-div_right}
@@ -25,9 +24,9 @@ module _ (at : List ℕ) (n : ℕ) (whole : length at ≡ code_width * n) where
   unfolding each_slice
   slice_at q e i h = each_at (λ j. q (codes_at at j)) (length at / code_width) i e (subst (λ (k : ℕ). i < k) (sym items) h)
 
-  pub shr_slice_at : (q : Codes → Bool) → ((i : ℕ) → i < n → q (codes_at at i) ≡ true) → each_slice q at ≡ true
+  pub at-slice : (q : Codes → Bool) → ((i : ℕ) → i < n → q (codes_at at i) ≡ true) → each_slice q at ≡ true
   unfolding each_slice
-  shr_slice_at q f = at_each (λ j. q (codes_at at j)) (length at / code_width) (λ i h. f i (subst (λ (k : ℕ). i < k) items h))
+  at-slice q f = at_each (λ j. q (codes_at at j)) (length at / code_width) (λ i h. f i (subst (λ (k : ℕ). i < k) items h))
 
   -- the yes/no of inverted
   pub turned-at : choices_known code_width 1 at ≡ true → (i : ℕ) → i < n → (codes_at at i).inverted ≤ 1
@@ -45,7 +44,7 @@ module _ (at : List ℕ) (n : ℕ) (whole : length at ≡ code_width * n) where
 
     pub at-start : ((i : ℕ) → i < n → (codes_at at i).start < count_for vc1 vc2 (codes_at at i).source) → starts_inside vc1 vc2 at ≡ true
     unfolding start_inside
-    at-start f = shr_slice_at (start_inside vc1 vc2) (λ i h. lt-ltb _ _ (f i h))
+    at-start f = at-slice (start_inside vc1 vc2) (λ i h. lt-ltb _ _ (f i h))
 
     pub offset_at : offsets_inside vc1 vc2 at ≡ true → (i : ℕ) → i < n → (codes_at at i).offset ≤ count_for vc1 vc2 (codes_at at i).source
     unfolding offset_inside
@@ -53,4 +52,4 @@ module _ (at : List ℕ) (n : ℕ) (whole : length at ≡ code_width * n) where
 
     pub at_offset : ((i : ℕ) → i < n → (codes_at at i).offset ≤ count_for vc1 vc2 (codes_at at i).source) → offsets_inside vc1 vc2 at ≡ true
     unfolding offset_inside
-    at_offset f = shr_slice_at (offset_inside vc1 vc2) (λ i h. le-leb _ _ (f i h))
+    at_offset f = at-slice (offset_inside vc1 vc2) (λ i h. le-leb _ _ (f i h))

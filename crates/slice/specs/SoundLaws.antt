@@ -1,5 +1,4 @@
 -- The lists of slices that are sound are accepted.
-use denote.Slice.{shr_slice_at}
 use Rattle.std.specs.Prelude.{ℕ, zero, suc, ◌+◌, ◌*◌, ◌≤◌, ◌<◌, Bool, true, false, ◌≡◌, length, get_or, Float}
 use Rattle.std.proofs.Math.Path.{refl}
 use Rattle.std.proofs.Common.{sym, ap, ◌∙◌, zero-add, add-zero, not-suc-le-zero, le_of_suc-le-suc, arith, get_or-append-add}
@@ -67,10 +66,10 @@ module _ (vc1 vc2 : ℕ) (l : List Slice) (sound : All (SliceSound vc1 vc2) l) w
       record {
         codes = long;
         shapes = shapes-length l;
-        sources = shr_slice_at (flat_map codes_of l) (length l) long source_known (passes source_known (λ s h. h.source));
+        sources = at-slice (flat_map codes_of l) (length l) long source_known (passes source_known (λ s h. h.source));
         turned = at-turned (flat_map codes_of l) (length l) long turned;
-        starts = shr_slice_at (flat_map codes_of l) (length l) long (start_inside vc1 vc2) (passes (start_inside vc1 vc2) (λ s h. h.starts));
-        reaches = shr_slice_at (flat_map codes_of l) (length l) long (offset_inside vc1 vc2) (passes (offset_inside vc1 vc2) (λ s h. h.reaches));
+        starts = at-slice (flat_map codes_of l) (length l) long (start_inside vc1 vc2) (passes (start_inside vc1 vc2) (λ s h. h.starts));
+        reaches = at-slice (flat_map codes_of l) (length l) long (offset_inside vc1 vc2) (passes (offset_inside vc1 vc2) (λ s h. h.reaches));
         numbers = all-numbers vc1 vc2 l sound;
       }
 

@@ -1,5 +1,4 @@
 -- Nothing of 1 to 8 applies to the stitches by which the need is tight, up to 1,792 slices.
-use denote.Slice.{shr_slice_at}
 use Rattle.std.specs.Prelude.{ℕ, zero, suc, ◌*◌, ◌≤◌, true, ◌≡◌, List, length, Float}
 use Rattle.std.proofs.Math.Bool.{not}
 use Rattle.std.proofs.Math.Path.{refl, ap}
@@ -59,7 +58,7 @@ module _ (n : ℕ) (few : n ≤ most_slices) where
                     (
                       refl,
                       (
-                        ap not (shr_slice_at (copies codes n) n codes-whole source_known (λ i h. rw (codes_at_lem n i h))),
+                        ap not (at-slice (copies codes n) n codes-whole source_known (λ i h. rw (codes_at_lem n i h))),
                         (
                           ap not (at-turned (copies codes n) n codes-whole (λ i h. rw (codes_at_lem n i h) (omega arith))),
                           (

@@ -1,7 +1,7 @@
 -- Laws by which a chain grows in its room.
 use Prim.Native.Nat.{ℕ, zero, suc, ◌+◌, ◌-◌, ◌*◌, ◌≤◌, ◌<◌}
 use mathlib.Core.Bool.{Bool, true, false, false≢true}
-use mathlib.Core.Path.{◌≡◌, refl, ◌∙◌}
+use mathlib.Core.Path.{◌≡◌, refl, ◌∙◌, subst, sym}
 use mathlib.Core.List.{List, [], ◌∷◌}
 use native.Mathlib.Numerals.{add-one}
 use native.Mathlib.Omega.{arith}
@@ -92,13 +92,15 @@ unfolding chain_of repeats add_vertex vertex_at
 chain-bulge t room zero v h e = absurd (false≢true e)
 chain-bulge t room (suc n) v h e =
     let p : 3 * suc n - 1 ≡ 3 * n + 2 = omega arith in
-    rw (e, p)
+    let P : ℕ → Type 0 = λ m. chain_of (set room m v.bulge) (suc n) ≡ add_vertex t (chain_of room (suc n)) v in
+    subst P (sym p)
+    (rw e
     (simp (
       get_or-set_same room (3 * n + 2) v.bulge nan (omega arith),
       get_or-set_other room (3 * n + 2) (3 * n) v.bulge nan (λ q. omega arith),
       get_or-set_other room (3 * n + 2) (3 * n + 1) v.bulge nan (λ q. omega arith),
       chain-set room n (3 * n + 2) v.bulge (omega arith),
-    ))
+    )))
 
 chain-new : (t : Tolerance) (vs : List Vertex) (v : Vertex) → repeats t vs v ≡ false → v ∷ vs ≡ add_vertex t vs v
 unfolding repeats add_vertex

@@ -1,3 +1,4 @@
+#![tactic(auto)]
 // Five entries over views: what is refused, then one call down. The crate `mask` exports them.
 pub mod answer;
 pub mod create;

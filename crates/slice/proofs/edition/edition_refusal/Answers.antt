@@ -1,0 +1,16 @@
+use Rattle.basis.specs.Refuse.{first_from}
+use Rattle.basis.specs.RefuseLaws.{rows}
+use borrow.Author.Rules.{rules}
+use Rattle.slice.proofs.edition.edition_refusal.Goals as goal
+
+pub editions_differ-differ-requires : goal.editions_differ-differ-requires
+unfolding first_from
+editions_differ-differ-requires c = search rules
+
+pub or_else-requires : goal.or_else-requires
+unfolding first_from
+or_else-requires c = search rules
+
+pub returns : goal.returns
+unfolding first_from
+returns c = search rows depth 24

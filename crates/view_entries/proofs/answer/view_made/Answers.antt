@@ -1,0 +1,7 @@
+use Rattle.view_entries.specs.Answers.{view_made}
+use borrow.Author.Rules.{rules}
+use Rattle.view_entries.proofs.answer.view_made.Goals as goal
+
+pub returns : goal.returns
+unfolding view_made
+returns c = rw c.flat_view.ensures

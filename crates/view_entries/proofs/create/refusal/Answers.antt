@@ -1,0 +1,65 @@
+use Rattle.basis.specs.Refuse.{first_from}
+use Rattle.basis.specs.RefuseLaws.{rows}
+use Rattle.view_entries.specs.CreateEntry.{create_refusal}
+use borrow.Author.Rules.{rules}
+use Rattle.view_entries.proofs.create.refusal.Goals as goal
+
+pub bad_length-requires : goal.bad_length-requires
+unfolding create_refusal first_from
+bad_length-requires c = search rules
+
+pub or_else-r-requires : goal.or_else-r-requires
+unfolding create_refusal first_from
+or_else-r-requires c = search rules
+
+pub bad_size-requires : goal.bad_size-requires
+unfolding create_refusal first_from
+bad_size-requires c = search rules
+
+pub or_else-r-requires-2 : goal.or_else-r-requires-2
+unfolding create_refusal first_from
+or_else-r-requires-2 c = search rules
+
+pub in_tolerance-requires : goal.in_tolerance-requires
+unfolding create_refusal first_from
+in_tolerance-requires c = search rules
+
+pub or_else-r-requires-3 : goal.or_else-r-requires-3
+unfolding create_refusal first_from
+or_else-r-requires-3 c = search rules
+
+pub all_in_range-requires : goal.all_in_range-requires
+unfolding create_refusal first_from
+all_in_range-requires c = search rules
+
+pub or_else-r-requires-4 : goal.or_else-r-requires-4
+unfolding create_refusal first_from
+or_else-r-requires-4 c = search rules
+
+pub bad_walk_numbers-requires : goal.bad_walk_numbers-requires
+unfolding create_refusal first_from
+bad_walk_numbers-requires c = search rules
+
+pub or_else-r-requires-5 : goal.or_else-r-requires-5
+unfolding create_refusal first_from
+or_else-r-requires-5 c = search rules
+
+pub or_else-r-requires-6 : goal.or_else-r-requires-6
+unfolding create_refusal first_from
+or_else-r-requires-6 c = search rules
+
+pub or_else-r-requires-7 : goal.or_else-r-requires-7
+unfolding create_refusal first_from
+or_else-r-requires-7 c = search rules
+
+pub bad_traverse-requires : goal.bad_traverse-requires
+unfolding create_refusal first_from
+bad_traverse-requires c = search rules
+
+pub or_else-requires : goal.or_else-requires
+unfolding create_refusal first_from
+or_else-requires c = search rules
+
+pub returns : goal.returns
+unfolding create_refusal first_from
+returns c = search rows depth 26
