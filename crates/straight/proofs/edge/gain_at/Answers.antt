@@ -1,0 +1,25 @@
+use mathlib.Core.Path.{◌∙◌, sym, ap}
+use lib.IntN.{ℤ}
+use mir.Syntax.{w64}
+use mir.Val.{to_z, of_z}
+use Rattle.whole.specs.FitLaws.{got}
+use Rattle.straight.specs.Ready.{above}
+use Rattle.straight.proofs.EdgeLaws.{above-yes, above-no}
+use borrow.Author.Rules.{rules}
+use Rattle.straight.proofs.edge.gain_at.Goals as goal
+
+abbrev seen : ℤ → ℤ
+seen z = to_z w64 (of_z w64 z)
+
+pub unsigned-requires : goal.unsigned-requires
+unsigned-requires c = (above-yes (seen c.cross_at-z.result) (sym c.below.ensures ∙ c.if-below.true)).0
+
+pub returns-then-below : goal.returns-then-below
+returns-then-below c =
+    let z = c.cross_at-z in
+    c.unsigned.ensures ∙ (above-yes (seen z.result) (sym c.below.ensures ∙ c.if-below.true)).1 ∙ ap above (got z.result z.type_inv ∙ z.ensures)
+
+pub returns-else-below : goal.returns-else-below
+returns-else-below c =
+    let z = c.cross_at-z in
+    above-no (seen z.result) (sym c.below.ensures ∙ c.if-below.false) ∙ ap above (got z.result z.type_inv ∙ z.ensures)
