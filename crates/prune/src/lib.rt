@@ -1,3 +1,4 @@
+#![tactic(auto)]
 // Which candidates stay as slices, in which order and direction, with the overlaps behind them.
 pub mod call;
 pub mod codes;
