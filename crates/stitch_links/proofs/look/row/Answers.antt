@@ -1,0 +1,30 @@
+use native.Mathlib.Omega.{arith}
+use Prim.Native.Nat.{◌+◌, ◌-◌}
+use Rattle.stitch_links.proofs.RowLaws.{Swept, swept-row, swept-list, swept-up, row-end}
+use borrow.Author.Rules.{rules}
+use Rattle.stitch_links.proofs.look.row.Goals as goal
+
+pub loop-cy-init : goal.loop-cy-init
+loop-cy-init c = swept-row _ _ _ _ _ _ _ _ c.requires
+
+pub list_of-h-requires : goal.list_of-h-requires
+list_of-h-requires c = c.loop-cy.invariant.ready.fit.lists
+
+pub first_on-r-requires : goal.first_on-r-requires
+first_on-r-requires c = swept-list _ _ _ _ _ _ _ _ _ _ _ c.loop-cy.invariant _ _ _ c.list_of-h.ensures
+
+pub overflow_add-cy : goal.overflow_add-cy
+overflow_add-cy c =
+    omega (arith, c.requires.low, c.loop-cy-test.true)
+
+pub loop-cy-smaller : goal.loop-cy-smaller
+loop-cy-smaller c = omega (arith, c.loop-cy-test.true)
+
+pub loop-cy-preserved : goal.loop-cy-preserved
+loop-cy-preserved c = swept-up _ _ _ _ _ _ _ _ _ _ _ _ _ _ c.loop-cy.invariant c.list_of-h.ensures c.first_on-r.ensures c.link-1.given c.lesser-best.ensures
+
+pub shape_of-link : goal.shape_of-link
+shape_of-link c = c.loop-cy.invariant.same
+
+pub returns : goal.returns
+returns c = row-end _ _ _ _ _ _ _ _ _ _ _ c.loop-cy.invariant c.loop-cy-test.false
