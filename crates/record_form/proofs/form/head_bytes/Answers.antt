@@ -1,0 +1,20 @@
+use borrow.Author.Rules.{rules}
+use native.Mathlib.Omega.{arith}
+use Rattle.fields.specs.Fields.{size}
+use Rattle.record_form.proofs.form.head_bytes.Goals as goal
+
+pub overflow_add-result : goal.overflow_add-result
+unfolding size
+overflow_add-result c = search rules
+
+pub overflow_mul-result : goal.overflow_mul-result
+unfolding size
+overflow_mul-result c = search rules
+
+pub overflow_add-result-2 : goal.overflow_add-result-2
+unfolding size
+overflow_add-result-2 c = search rules
+
+pub returns : goal.returns
+unfolding size
+returns c = omega arith
