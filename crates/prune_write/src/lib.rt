@@ -1,2 +1,3 @@
+#![tactic(auto)]
 // The slices of a mode, written into lent room.
 pub mod write;
