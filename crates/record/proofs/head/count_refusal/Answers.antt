@@ -1,0 +1,6 @@
+use borrow.Author.Rules.{rules}
+use Rattle.record.proofs.Heading.{counted}
+use Rattle.record.proofs.head.count_refusal.Goals as goal
+
+pub returns : goal.returns
+returns c = search (counted)
