@@ -1,2 +1,3 @@
+#![tactic(auto)]
 // A chain: round after round, from its first slice to its end.
 pub mod rounds;

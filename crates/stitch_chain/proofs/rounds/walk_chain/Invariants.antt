@@ -1,0 +1,11 @@
+use borrow.Author.Rules.{rules}
+use Prim.Native.Nat.{◌-◌}
+use Rattle.stitch_run.specs.Stitch.{given}
+use Rattle.stitch_chain.proofs.Walking.{Walking, walk-look, walk-place, walk_end, walk-whole, walking}
+use Rattle.stitch_chain.proofs.rounds.walk_chain.Given as goal
+
+abbrev pub invariant-loop-j : goal.invariant-loop-j
+invariant-loop-j l = Walking (given l.outline1 l.outline2 l.slice_at l.slice l.p) l.first l.points l.layout l.initial.link l.initial.room l.initial.chain l.visited l.link l.room l.chain l.n l.current l.rounds
+
+abbrev pub decreases-loop-j : goal.decreases-loop-j
+decreases-loop-j l = l.p.slices - l.rounds
