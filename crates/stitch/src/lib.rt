@@ -1,3 +1,4 @@
+#![tactic(auto)]
 // The stitch: each slice's turn, the loops, and the room that a stitch needs.
 pub mod turn;
 pub mod write;
