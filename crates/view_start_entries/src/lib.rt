@@ -1,3 +1,4 @@
+#![tactic(auto)]
 // The entries for starting anywhere: what to split, the view between two points, the view from a new start.
 pub mod answer;
 pub mod faults;
