@@ -1,9 +1,0 @@
-use Rattle.basis.specs.Refuse.{first_from}
-use Rattle.basis.specs.RefuseLaws.{rows}
-use borrow.Author.Rules.{rules}
-use Rattle.store_entries.proofs.faults.party_refusal.Statement.{statement}
-use Rattle.store_entries.proofs.faults.party_refusal.Tie as tie
-
-pub party-refusal-spec : {M : Type 1} → statement M
-unfolding first_from
-party-refusal-spec = tie.close (tie.spec (λ c κs. search rules) (λ c. search rows depth 24))

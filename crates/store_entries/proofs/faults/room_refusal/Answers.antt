@@ -1,0 +1,24 @@
+use Rattle.basis.specs.Refuse.{first_from}
+use Rattle.basis.specs.RefuseLaws.{rows}
+use borrow.Author.Rules.{rules}
+use Rattle.store_entries.proofs.faults.room_refusal.Goals as goal
+
+pub or_else-r-requires : goal.or_else-r-requires
+unfolding first_from
+or_else-r-requires c = search rules
+
+pub or_else-r-requires-2 : goal.or_else-r-requires-2
+unfolding first_from
+or_else-r-requires-2 c = search rules
+
+pub or_else-r-requires-3 : goal.or_else-r-requires-3
+unfolding first_from
+or_else-r-requires-3 c = search rules
+
+pub or_else-requires : goal.or_else-requires
+unfolding first_from
+or_else-requires c = search rules
+
+pub returns : goal.returns
+unfolding first_from
+returns c = search rows depth 24
