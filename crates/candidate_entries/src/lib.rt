@@ -1,3 +1,4 @@
+#![tactic(auto)]
 // The entries over the candidates: what is refused, then one call down. The crate `mask` exports them.
 pub mod along;
 pub mod slicing;
