@@ -1,3 +1,4 @@
+#![tactic(auto)]
 // The writer of the record `PBR`.
 pub mod pack;
 pub mod write;

@@ -1,0 +1,26 @@
+use borrow.Author.Rules.{rules}
+use native.Mathlib.Omega.{arith}
+use Rattle.record_write.proofs.Keeping.{keep-fault, kept-sized, room-fault, no-fault, kept-all, write-refused, write-given}
+use Rattle.record_write.proofs.write.write_form.Goals as goal
+
+pub returns-then-r-ne0 : goal.returns-then-r-ne0
+returns-then-r-ne0 c =
+    write-refused _ _ _ _ _ _ _ (keep-fault _ _ _ _ _ c.held_refusal-r.ensures c.if-r-ne0.true) c.if-r-ne0.true c.count_refused.ensures
+
+pub length_of-n-requires : goal.length_of-n-requires
+length_of-n-requires c =
+    kept-sized _ _ _ _ 0 c.held_refusal-r.ensures c.if-r-ne0.false c.requires
+
+pub returns-then-bytes-n : goal.returns-then-bytes-n
+returns-then-bytes-n c =
+    write-refused _ _ _ _ _ 9 _ (room-fault _ _ _ _ _ c.held_refusal-r.ensures c.if-r-ne0.false c.length_of-n.ensures c.if-bytes-n.true) (λ z. omega arith) c.count_refused-then-bytes-n.ensures
+
+pub write_kept-requires : goal.write_kept-requires
+write_kept-requires c =
+    kept-all _ _ _ _ _ c.held_refusal-r.ensures c.if-r-ne0.false c.length_of-n.ensures c.requires c.if-bytes-n.false
+
+pub returns : goal.returns
+returns c =
+    let none = no-fault _ _ _ _ _ c.held_refusal-r.ensures c.if-r-ne0.false c.length_of-n.ensures c.if-bytes-n.false in
+    let keeps = kept-all _ _ _ _ _ c.held_refusal-r.ensures c.if-r-ne0.false c.length_of-n.ensures c.requires c.if-bytes-n.false in
+    write-given _ _ _ _ _ _ _ _ none keeps c.length_of-n.ensures c.write_kept.ensures c.counted_as.ensures
