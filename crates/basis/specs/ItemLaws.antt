@@ -1,9 +1,9 @@
 -- A loop that writes item after item into lent room, each of w elements.
-use Prim.Native.Nat.{ℕ, zero, suc, ◌+◌, ◌*◌, ◌≤◌, ◌<◌}
+use Prim.Native.Nat.{ℕ, zero, suc, ◌+◌, ◌*◌, ◌≤◌}
 use Rattle.std.specs.Prelude.{◌≡◌, refl, get_or}
 use Rattle.std.proofs.Math.Path.{sym, ap}
 use Rattle.std.proofs.Common.{◌∙◌, mul-suc, mul-zero, arith, take-suc, take_all}
-use mathlib.Core.List.{List, [], ◌++◌, flat_map}
+use mathlib.Core.List.{List, ◌++◌, flat_map}
 use Rattle.std.proofs.Math.Nat.{sub_self}
 use Rattle.std.proofs.Math.Numerals.{add-one}
 use Rattle.std.proofs.Math.ListN.{length, take, drop, length-append}

@@ -1,7 +1,7 @@
 -- The order in which refusals are looked at. Document 01: "The lowest number that applies is given, and none otherwise." The requests of document 02 put their numbers
 -- between document 01's: 11, 12 and 13 "before all others"; 16 and 17 "where number 4 stands, before it"; 18 and 19 "where number 5 stands, 18 first"; 15 "after 6";
 -- 14 "after 8 and before 9"; 22 "before 20 and 21". 10 is not among them: K12, "The number isn't used again."
-use Rattle.std.specs.Prelude.{ℕ, suc, ◌≤◌, ◌<◌, Bool, true, cond, ◌&&◌, ◌≡◌, ◌⊎◌, List, [], ◌∷◌, length, eqb, ltb, leb}
+use Rattle.std.specs.Prelude.{ℕ, suc, ◌≤◌, Bool, true, cond, ◌&&◌, ◌≡◌, ◌⊎◌, List, [], ◌∷◌, length, eqb, ltb, leb}
 use Rattle.basis.specs.Refuse.{Row, row}
 
 -- all numbers, first to last

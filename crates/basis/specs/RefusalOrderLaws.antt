@@ -1,6 +1,6 @@
 -- A table whose rows stand in the order of the numbers gives the first number that applies. For document 01's own numbers that is the lowest.
-use Rattle.std.specs.Prelude.{ℕ, zero, suc, ◌≤◌, ◌<◌, Bool, true, false, not, ◌&&◌, ◌||◌, ◌≡◌, refl, List, [], ◌∷◌, ◌⊎◌, length, T, ltb, leb, eqb}
-use Rattle.std.proofs.Common.{true≢false, sym, ap, ◌∙◌, inl, inr, arith, le_of_eq, leb-true, ltb-true, ltb-false, lt-ltb}
+use Rattle.std.specs.Prelude.{ℕ, ◌≤◌, ◌<◌, Bool, true, false, not, ◌&&◌, ◌||◌, ◌≡◌, refl, List, [], ◌∷◌, length, T, ltb, leb}
+use Rattle.std.proofs.Common.{true≢false, sym, ap, inl, inr, arith, le_of_eq, leb-true, ltb-true, ltb-false, lt-ltb}
 use Rattle.basis.specs.Choice.{by-test, T-left, T-right, true_of}
 use Rattle.basis.specs.Each.{each_to}
 use Rattle.basis.specs.EachLaws.{each_at}

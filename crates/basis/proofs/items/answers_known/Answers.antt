@@ -1,10 +1,10 @@
 use borrow.Author.Rules.{rules}
-use Prim.Native.Nat.{ℕ, ◌+◌, ◌*◌, ◌-◌, ◌≤◌}
-use mathlib.Core.Path.{◌≡◌, refl, ap}
+use Prim.Native.Nat.{ℕ}
+use mathlib.Core.Path.{ap}
 use native.Mathlib.Omega.{arith}
-use lib.ListN.{length, get_or}
+use lib.ListN.{get_or}
 use lib.Dec.{leb}
-use Rattle.basis.specs.Each.{each_to, places_at_most}
+use Rattle.basis.specs.Each.{places_at_most}
 use Rattle.basis.specs.EachLaws.{each, each_more, each-end}
 use Rattle.basis.proofs.items.answers_known.Goals as goal
 

@@ -1,11 +1,8 @@
-use borrow.Author.Rules.{rules}
-use Prim.Native.Nat.{ℕ, ◌+◌, ◌*◌, ◌-◌, ◌≤◌}
-use mathlib.Core.Path.{◌≡◌, refl, ap}
-use native.Mathlib.Omega.{arith}
+use Prim.Native.Nat.{◌+◌, ◌*◌, ◌-◌, ◌≤◌}
+use mathlib.Core.Path.{◌≡◌}
 use lib.ListN.{length, get_or}
 use lib.Dec.{leb}
-use Rattle.basis.specs.Each.{each_to, places_at_most}
-use Rattle.basis.specs.EachLaws.{each, each_more, each-end}
+use Rattle.basis.specs.Each.{each_to}
 use Rattle.basis.proofs.items.answers_known.Given as goal
 
 abbrev pub invariant-loop-i : goal.invariant-loop-i

@@ -1,9 +1,7 @@
-use borrow.Author.Rules.{rules}
 use mathlib.Core.Path.{ap, ◌∙◌}
 use lib.Ieee.{Float, lt}
 use Rattle.basis.specs.Number.{agree}
 use Rattle.basis.specs.NumberLaws.{abs-lt}
-use borrow.Author.Rules.{rules}
 use Rattle.basis.proofs.number.agrees.Goals as goal
 
 pub returns : goal.returns

@@ -1,9 +1,5 @@
 use borrow.Author.Rules.{rules}
-use Prim.Native.Nat.{◌≤◌, ◌-◌}
-use mathlib.Core.Path.{◌≡◌}
-use lib.ListN.{length, take}
 use Rattle.basis.specs.All.{scan}
-use Rattle.basis.specs.Number.{all_within}
 use Rattle.basis.proofs.number.all_in_range.Goals as goal
 
 pub loop-i-init : goal.loop-i-init

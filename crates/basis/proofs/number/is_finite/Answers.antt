@@ -2,7 +2,6 @@ use mathlib.Core.Path.{ap, ◌∙◌}
 use lib.Ieee.{Float, le}
 use Rattle.basis.specs.NumberLaws.{abs-le}
 use Rattle.basis.specs.Number.{largest, finite}
-use borrow.Author.Rules.{rules}
 use Rattle.basis.proofs.number.is_finite.Goals as goal
 
 pub returns : goal.returns

@@ -1,6 +1,5 @@
-use borrow.Author.Rules.{rules}
 use Prim.Native.Nat.{◌-◌}
-use Rattle.basis.specs.RoomLaws.{Clearing, clearing}
+use Rattle.basis.specs.RoomLaws.{Clearing}
 use Rattle.basis.proofs.room.clear_counts.Given as goal
 
 abbrev pub invariant-loop-i : goal.invariant-loop-i

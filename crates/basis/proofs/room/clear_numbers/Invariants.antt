@@ -1,7 +1,6 @@
-use borrow.Author.Rules.{rules}
 use Prim.Native.Nat.{◌-◌}
 use Rattle.basis.specs.Number.{+0}
-use Rattle.basis.specs.RoomLaws.{Clearing, clearing}
+use Rattle.basis.specs.RoomLaws.{Clearing}
 use Rattle.basis.proofs.room.clear_numbers.Given as goal
 
 abbrev pub invariant-loop-i : goal.invariant-loop-i
