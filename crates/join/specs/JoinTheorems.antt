@@ -21,7 +21,7 @@ use Rattle.join.specs.WholeLaws.{scaled_exact}
 use Rattle.join.specs.BoxLaws.{InRange, smaller, box-near}
 use Rattle.join.specs.AxisLaws.{box-axes, Tolerances}
 use Rattle.join.specs.OfferLaws.{Taken, ClosedJoins, joins-imp, run-joins}
-use Rattle.join.specs.RangeLaws.{VertexIn, StitchIn, slice_in_lem, drop-in, add-slice-in}
+use Rattle.join.specs.RangeLaws.{VertexIn, StitchIn, slice_in, drop-in, add-slice-in}
 
 -- ---- the scale
 
@@ -48,7 +48,7 @@ module _ (n : ℕ) (few : n ≤ 30) (g : Given) (a : Ranged n g) where
   unfolding rules_of offers_to start_point_of
   offered-near [] j t = clash false t.offer refl
   offered-near (last ∷ vs) j t =
-      let p = slice_in_lem (InRange n) g a.numbers j 0 t.slice in
+      let p = slice_in (InRange n) g a.numbers j 0 t.slice in
       let e = t.kept.0 in
       let b = box-axes g.tolerance (pos_of last) (pos_of (slice_vertex g j 0)) t.offer in
       record { x = box-near n _ _ _ few a.tolerances.x e.x p.x b.0; y = box-near n _ _ _ few a.tolerances.y e.y p.y b.1 }

@@ -1,0 +1,13 @@
+use borrow.Author.Rules.{rules}
+use native.Mathlib.Omega.{arith}
+use mathlib.Core.Path.{refl}
+use Rattle.record_read.proofs.Reading.{lists-fit, lists_filled}
+use Rattle.record_read.proofs.body.read_body.Goals as goal
+
+pub fill_lists-requires : goal.fill_lists-requires
+fill_lists-requires c =
+    lists-fit c.requires _ _ _ refl c.list_values.ensures (λ i. omega (arith, c.shared_slice_known-1.given i))
+
+pub returns : goal.returns
+returns c =
+    lists_filled c.requires _ _ _ refl c.list_values.ensures c.fill_lists.ensures
