@@ -1,3 +1,4 @@
+#![tactic(auto)]
 // The report on many outlines: how many have area zero, and the total of the absolute doubled areas.
 ghost use Rattle.std.specs.Prelude.{◌≡◌, ◌+◌, ◌*◌, ◌^◌, eqb};
 ghost use Rattle.basis.specs.Choice.{code_of};
