@@ -1,0 +1,15 @@
+use Prim.Native.Nat.{◌≤◌, ◌-◌}
+use mathlib.Core.Path.{◌≡◌, refl}
+use lib.IntN.{pos}
+use lib.ListN.{length, get_or, take}
+use Rattle.basis.specs.All.{all_of, all_more, scan}
+use Rattle.straight_entries.specs.Range.{in_reach, all_in_reach}
+use Rattle.straight_entries.specs.RangeLaws.{reach-got}
+use borrow.Author.Rules.{rules}
+use Rattle.straight_entries.proofs.range.all_near.Given as goal
+
+abbrev pub invariant-loop-i : goal.invariant-loop-i
+invariant-loop-i l = (l.i ≤ length l.l) × (l.ok ≡ all_in_reach (take l.i l.l))
+
+abbrev pub decreases-loop-i : goal.decreases-loop-i
+decreases-loop-i l = length l.l - l.i

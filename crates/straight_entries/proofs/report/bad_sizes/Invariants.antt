@@ -1,0 +1,12 @@
+use Prim.Native.Nat.{◌≤◌, ◌-◌}
+use mathlib.Core.Path.{refl}
+use lib.ListN.{length}
+use Rattle.straight_report.specs.ReportLaws.{SizesFrom, sizing}
+use borrow.Author.Rules.{rules}
+use Rattle.straight_entries.proofs.report.bad_sizes.Given as goal
+
+abbrev pub invariant-loop-k : goal.invariant-loop-k
+invariant-loop-k l = (l.k ≤ length l.ends) × SizesFrom l.ends l.k l.from
+
+abbrev pub decreases-loop-k : goal.decreases-loop-k
+decreases-loop-k l = length l.ends - l.k
