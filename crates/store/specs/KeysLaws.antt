@@ -8,7 +8,7 @@ use mathlib.Core.List.{List, [], ◌∷◌, ◌++◌, map}
 use native.Mathlib.Omega.{arith}
 use Rattle.std.proofs.Math.ListN.{length}
 use borrow.Author.Tests.{eqb-true, eqb-false, ne_eqb, ltb-true, ltb-false}
-use Rattle.basis.specs.Choice.{by-test, clash, or_left, or_right}
+use Rattle.basis.specs.Choice.{by-test, or_left, or_right}
 use Rattle.store.specs.Keys.{keyed, without, lowest_from}
 
 -- ---- the lowest number that is not used

@@ -1,6 +1,6 @@
 -- Each call does to the plain list, which the lists mean, what document 02 says.
-use Prim.Native.Nat.{ℕ, zero, suc, ◌+◌, ◌-◌, ◌*◌, ◌≤◌, ◌<◌}
-use Rattle.std.specs.Prelude.{true, false, ◌≡◌, eqb}
+use Prim.Native.Nat.{ℕ, suc, ◌+◌, ◌-◌, ◌*◌, ◌≤◌, ◌<◌}
+use Rattle.std.specs.Prelude.{false, ◌≡◌, eqb}
 use Rattle.std.proofs.Math.Path.{refl, ap}
 use Rattle.std.proofs.Common.{sym, ◌∙◌, length-append}
 use mathlib.Core.List.{List, [], ◌∷◌, ◌++◌, map, map-append, flat_map}
@@ -8,7 +8,7 @@ use native.Mathlib.Omega.{arith}
 use Rattle.std.proofs.Math.ListN.{length, get_or, replicate, length-map, length-set, get_or-map, get_or-append}
 use Rattle.std.proofs.Math.Seq.{get_or-set_same, get_or-set_other}
 use borrow.Author.Tests.{eqb-false, ne_eqb}
-use Rattle.basis.specs.Choice.{by-test, or_left, or_right}
+use Rattle.basis.specs.Choice.{or_left, or_right}
 use Rattle.basis.specs.All.{All}
 use Rattle.basis.specs.Number.{+0}
 use Rattle.store.specs.Keys.{keyed, without}
@@ -16,9 +16,9 @@ use Rattle.store.specs.KeysLaws.{keyed-map, without-map, without-most, lowest-sa
 use Rattle.store.specs.Slice.{Slice, Whole}
 use Rattle.store.specs.Plain.{Kept, kept, handle_in, has, free_handle}
 use Rattle.store.specs.BlocksLaws.{length-block, block-paste-at, block-paste-other, length-paste-place, block-flat, length-flat}
-use Rattle.store.specs.Marks.{mark_of, handle_of, place_of, named, lives_of, filled}
+use Rattle.store.specs.Marks.{mark_of, handle_of, place_of, filled}
 use Rattle.store.specs.MarksLaws.{mark-handle, mark-place, mark-named, named-handle, named-place, fresh-yes, Proper, proper-snoc, proper-without, lives-proper, lives-most, lives-filled, lives-none, length-filled}
-use Rattle.store.specs.Lists.{Lists, lists, Sized, slice_at, kept_at, lives_in, plain_of, free_place, free_mark, written_at, put_in, released_in, marks_from, laid, compacted_in}
+use Rattle.store.specs.Lists.{Lists, Sized, slice_at, kept_at, lives_in, plain_of, free_place, free_mark, written_at, put_in, released_in, marks_from, laid, compacted_in}
 
 -- ---- the plain list and the marks
 

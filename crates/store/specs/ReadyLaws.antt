@@ -1,6 +1,6 @@
 -- Laws of what the functions over marks require and ensure, for the crates above too: flags, and items put down in front.
 use Rattle.std.specs.Prelude.{ℕ, suc, ◌+◌, ◌-◌, ◌≤◌, ◌<◌, true, false, ◌≡◌, refl, get_or, set, replicate}
-use Rattle.std.proofs.Common.{sym, ◌∙◌, zero-add, add-one, length-append, take_at, drop-cons, ne_eqb}
+use Rattle.std.proofs.Common.{sym, ◌∙◌, add-one, length-append, take_at, drop-cons, ne_eqb}
 use mathlib.Core.List.{List, [], ◌∷◌, ◌++◌, append-nil, append_assoc}
 use native.Mathlib.Omega.{arith}
 use Rattle.std.proofs.Math.ListN.{length, take, drop, drop_of_length-le}

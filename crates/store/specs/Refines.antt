@@ -1,15 +1,15 @@
 -- K9: "Whatever the sequence of calls, it answers as a plain list would", for every content of lists of up to 2,047 places: a mark names no more.
-use Rattle.std.specs.Prelude.{ℕ, ◌≤◌, ◌<◌, ◌≡◌, refl, List, [], ◌∷◌, ◌++◌, get_or}
+use Rattle.std.specs.Prelude.{ℕ, ◌≤◌, ◌<◌, ◌≡◌, refl}
 use Rattle.std.proofs.Math.Bool.{true, false}
-use Rattle.std.proofs.Common.{sym, ap, ◌∙◌, arith}
+use Rattle.std.proofs.Common.{◌∙◌, arith}
 use Rattle.std.proofs.Math.ListN.{length}
 use Rattle.std.proofs.Math.Dec.{eqb}
 use borrow.Author.Tests.{eqb-false}
 use Rattle.basis.specs.Choice.{by-test}
 use Rattle.store.specs.Keys.{keyed}
-use Rattle.basis.specs.Machine.{answers, after, Alike, all_alike, all-mean}
+use Rattle.basis.specs.Machine.{Alike}
 use Rattle.store.specs.Slice.{Slice, Whole}
-use Rattle.store.specs.Plain.{Kept, has, Call, put, release, list, compact, plain_step}
+use Rattle.store.specs.Plain.{has, Call, put, release, list, compact, plain_step}
 use Rattle.store.specs.Marks.{handle_of}
 use Rattle.store.specs.MarksLaws.{lives-most}
 use Rattle.store.specs.Lists.{Lists, Sized, lives_in, plain_of, list_step}

@@ -1,6 +1,4 @@
-use borrow.Author.Rules.{rules}
-use Rattle.fields.proofs.Copying.{Copying, copying-none, copying-more, copied}
-use Prim.Native.Nat.{ℕ, ◌-◌}
+use Rattle.fields.proofs.Copying.{copying-none, copying-more, copied}
 use mathlib.Core.Path.{refl}
 use Rattle.fields.proofs.copy.copy.Goals as goal
 

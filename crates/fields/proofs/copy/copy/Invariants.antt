@@ -1,7 +1,5 @@
-use borrow.Author.Rules.{rules}
-use Rattle.fields.proofs.Copying.{Copying, copying-none, copying-more, copied}
+use Rattle.fields.proofs.Copying.{Copying}
 use Prim.Native.Nat.{ℕ, ◌-◌}
-use mathlib.Core.Path.{refl}
 use Rattle.fields.proofs.copy.copy.Given as goal
 
 abbrev pub invariant-loop-j : goal.invariant-loop-j

@@ -1,9 +1,6 @@
 use borrow.Author.Rules.{rules}
-use Rattle.fields.proofs.Copying.{Copying, copying-none, copying-more, copying-end}
-use Prim.Native.Nat.{◌-◌}
+use Rattle.fields.proofs.Copying.{copying-none, copying-more, copying-end}
 use lib.Ieee.{nan}
-use Rattle.fields.specs.Fields.{bits_of}
-use Rattle.fields.specs.Ready.{NoNan}
 use Rattle.fields.proofs.copy.copy_bits.Goals as goal
 
 pub loop-j-init : goal.loop-j-init

@@ -1,7 +1,5 @@
-use borrow.Author.Rules.{rules}
-use Rattle.fields.proofs.Copying.{Copying, copying-none, copying-more, copying-end}
+use Rattle.fields.proofs.Copying.{Copying}
 use Prim.Native.Nat.{◌-◌}
-use lib.Ieee.{nan}
 use Rattle.fields.specs.Fields.{bits_of}
 use Rattle.fields.specs.Ready.{NoNan}
 use Rattle.fields.proofs.copy.copy_bits.Given as goal

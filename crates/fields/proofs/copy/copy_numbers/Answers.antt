@@ -1,7 +1,4 @@
-use borrow.Author.Rules.{rules}
-use Rattle.fields.proofs.Copying.{Copying, copying-none, copying-more, copying-end}
-use Prim.Native.Nat.{◌-◌}
-use Rattle.fields.specs.Fields.{num_of}
+use Rattle.fields.proofs.Copying.{copying-none, copying-more, copying-end}
 use Rattle.fields.proofs.copy.copy_numbers.Goals as goal
 
 pub loop-j-init : goal.loop-j-init

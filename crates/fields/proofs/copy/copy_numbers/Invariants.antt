@@ -1,5 +1,4 @@
-use borrow.Author.Rules.{rules}
-use Rattle.fields.proofs.Copying.{Copying, copying-none, copying-more, copying-end}
+use Rattle.fields.proofs.Copying.{Copying}
 use Prim.Native.Nat.{◌-◌}
 use Rattle.fields.specs.Fields.{num_of}
 use Rattle.fields.proofs.copy.copy_numbers.Given as goal

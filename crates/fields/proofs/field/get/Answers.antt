@@ -1,6 +1,5 @@
-use borrow.Author.Rules.{rules}
 use native.Mathlib.Omega.{arith}
-use Rattle.fields.proofs.Getting.{Getting, getting-none, getting-fits, getting-at, getting-end}
+use Rattle.fields.proofs.Getting.{getting-none, getting-fits, getting-at, getting-end}
 use Rattle.fields.proofs.field.get.Goals as goal
 
 pub loop-i-init : goal.loop-i-init

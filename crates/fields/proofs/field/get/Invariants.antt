@@ -1,6 +1,4 @@
-use borrow.Author.Rules.{rules}
-use native.Mathlib.Omega.{arith}
-use Rattle.fields.proofs.Getting.{Getting, getting-none, getting-fits, getting-at, getting-end}
+use Rattle.fields.proofs.Getting.{Getting}
 use Rattle.fields.proofs.field.get.Given as goal
 
 abbrev pub invariant-loop-i : goal.invariant-loop-i

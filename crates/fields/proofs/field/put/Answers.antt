@@ -1,5 +1,4 @@
-use borrow.Author.Rules.{rules}
-use Rattle.fields.proofs.Putting.{Putting, putting-none, putting-more, putting-end}
+use Rattle.fields.proofs.Putting.{putting-none, putting-more, putting-end}
 use Rattle.fields.proofs.field.put.Goals as goal
 
 pub loop-left-init : goal.loop-left-init

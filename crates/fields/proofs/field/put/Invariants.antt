@@ -1,5 +1,4 @@
-use borrow.Author.Rules.{rules}
-use Rattle.fields.proofs.Putting.{Putting, putting-none, putting-more, putting-end}
+use Rattle.fields.proofs.Putting.{Putting}
 use Rattle.fields.proofs.field.put.Given as goal
 
 abbrev pub invariant-loop-left : goal.invariant-loop-left

@@ -1,6 +1,6 @@
 use borrow.Author.Rules.{rules}
 use native.Mathlib.Omega.{arith}
-use Rattle.fields.proofs.Rowing.{ReadingRows, reading-rows-none, reading-row, reading-shape, reading-rows-more, reading-rows-end}
+use Rattle.fields.proofs.Rowing.{reading-rows-none, reading-row, reading-shape, reading-rows-more, reading-rows-end}
 use Rattle.fields.proofs.shape.read_rows.Goals as goal
 
 pub loop-left-init : goal.loop-left-init

@@ -1,6 +1,4 @@
-use borrow.Author.Rules.{rules}
-use native.Mathlib.Omega.{arith}
-use Rattle.fields.proofs.Rowing.{ReadingRows, reading-rows-none, reading-row, reading-shape, reading-rows-more, reading-rows-end}
+use Rattle.fields.proofs.Rowing.{ReadingRows}
 use Rattle.fields.proofs.shape.read_rows.Given as goal
 
 abbrev pub invariant-loop-left : goal.invariant-loop-left

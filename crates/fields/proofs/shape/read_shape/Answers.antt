@@ -1,8 +1,6 @@
 use borrow.Author.Rules.{rules}
 use native.Mathlib.Omega.{arith}
-use Prim.Native.Nat.{◌-◌}
-use lib.ListN.{length}
-use Rattle.fields.proofs.Shaping.{Reading, reading-none, reading-field, reading-more, reading-end}
+use Rattle.fields.proofs.Shaping.{reading-none, reading-field, reading-more, reading-end}
 use Rattle.fields.proofs.shape.read_shape.Goals as goal
 
 pub loop-i-init : goal.loop-i-init

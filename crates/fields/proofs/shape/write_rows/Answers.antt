@@ -1,6 +1,6 @@
 use borrow.Author.Rules.{rules}
 use native.Mathlib.Omega.{arith}
-use Rattle.fields.proofs.Rowing.{WritingRows, writing-rows-none, writing-row, writing-shape, writing-rows-more, writing-rows-end}
+use Rattle.fields.proofs.Rowing.{writing-rows-none, writing-row, writing-shape, writing-rows-more, writing-rows-end}
 use Rattle.fields.proofs.shape.write_rows.Goals as goal
 
 pub loop-left-init : goal.loop-left-init

@@ -1,6 +1,4 @@
-use borrow.Author.Rules.{rules}
-use native.Mathlib.Omega.{arith}
-use Rattle.fields.proofs.Rowing.{WritingRows, writing-rows-none, writing-row, writing-shape, writing-rows-more, writing-rows-end}
+use Rattle.fields.proofs.Rowing.{WritingRows}
 use Rattle.fields.proofs.shape.write_rows.Given as goal
 
 abbrev pub invariant-loop-left : goal.invariant-loop-left

@@ -1,8 +1,6 @@
 use borrow.Author.Rules.{rules}
 use native.Mathlib.Omega.{arith}
-use Prim.Native.Nat.{◌-◌}
-use lib.ListN.{length}
-use Rattle.fields.proofs.Shaping.{Writing, writing-none, writing-inside, writing_more, writing-end}
+use Rattle.fields.proofs.Shaping.{writing-none, writing-inside, writing_more, writing-end}
 use Rattle.fields.proofs.shape.write_shape.Goals as goal
 
 pub loop-i-init : goal.loop-i-init

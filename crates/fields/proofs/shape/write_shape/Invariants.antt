@@ -1,8 +1,6 @@
-use borrow.Author.Rules.{rules}
-use native.Mathlib.Omega.{arith}
 use Prim.Native.Nat.{◌-◌}
 use lib.ListN.{length}
-use Rattle.fields.proofs.Shaping.{Writing, writing-none, writing-inside, writing_more, writing-end}
+use Rattle.fields.proofs.Shaping.{Writing}
 use Rattle.fields.proofs.shape.write_shape.Given as goal
 
 abbrev pub invariant-loop-i : goal.invariant-loop-i

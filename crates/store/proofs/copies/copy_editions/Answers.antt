@@ -1,6 +1,5 @@
 use borrow.Author.Rules.{rules}
-use Prim.Native.Nat.{◌-◌}
-use Rattle.store.proofs.Copying.{Copying, copying}
+use Rattle.store.proofs.Copying.{copying}
 use Rattle.store.proofs.copies.copy_editions.Goals as goal
 
 pub loop-i-init : goal.loop-i-init

@@ -1,6 +1,5 @@
-use borrow.Author.Rules.{rules}
 use Prim.Native.Nat.{◌-◌}
-use Rattle.store.proofs.Copying.{Copying, copying}
+use Rattle.store.proofs.Copying.{Copying}
 use Rattle.store.proofs.copies.copy_editions.Given as goal
 
 abbrev pub invariant-loop-i : goal.invariant-loop-i

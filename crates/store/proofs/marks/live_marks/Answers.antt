@@ -1,6 +1,3 @@
-use Prim.Native.Nat.{◌-◌, ◌≤◌}
-use lib.ListN.{length}
-use Rattle.store.specs.Ready.{Looked}
 use Rattle.store.proofs.Looking.{looked-none, looked-end}
 use borrow.Author.Rules.{rules}
 use Rattle.store.proofs.marks.live_marks.Goals as goal

@@ -1,8 +1,6 @@
 use Prim.Native.Nat.{◌-◌, ◌≤◌}
 use lib.ListN.{length}
 use Rattle.store.specs.Ready.{Looked}
-use Rattle.store.proofs.Looking.{looked-none, looked-end}
-use borrow.Author.Rules.{rules}
 use Rattle.store.proofs.marks.live_marks.Given as goal
 
 abbrev pub invariant-loop-p : goal.invariant-loop-p

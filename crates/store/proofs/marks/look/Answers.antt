@@ -1,5 +1,4 @@
 use Rattle.store.proofs.Looking.{looked-unnamed, handle-low, place-low, looked-handle, looked-place, looked-more}
-use borrow.Author.Rules.{rules}
 use Rattle.store.proofs.marks.look.Goals as goal
 
 pub returns-then-not-names : goal.returns-then-not-names

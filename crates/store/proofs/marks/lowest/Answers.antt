@@ -1,7 +1,4 @@
-use Prim.Native.Nat.{◌≤◌}
-use lib.ListN.{get_or}
-use Rattle.store.specs.Ready.{told}
-use Rattle.store.proofs.Looking.{Lowest, lowest_start, lowest-more, lowest-here, lowest-end}
+use Rattle.store.proofs.Looking.{lowest_start, lowest-more, lowest-here, lowest-end}
 use Rattle.store.specs.ReadyLaws.{told_none, told-some}
 use borrow.Author.Rules.{rules}
 use Rattle.store.proofs.marks.lowest.Goals as goal

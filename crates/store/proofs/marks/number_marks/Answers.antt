@@ -1,5 +1,4 @@
-use Prim.Native.Nat.{◌-◌}
-use Rattle.store.proofs.Looking.{handle-low-enough, Numbering, numbering-none, numbering-more, numbering-end}
+use Rattle.store.proofs.Looking.{handle-low-enough, numbering-none, numbering-more, numbering-end}
 use borrow.Author.Rules.{rules}
 use Rattle.store.proofs.marks.number_marks.Goals as goal
 

@@ -1,6 +1,5 @@
 use Prim.Native.Nat.{◌-◌}
-use Rattle.store.proofs.Looking.{handle-low-enough, Numbering, numbering-none, numbering-more, numbering-end}
-use borrow.Author.Rules.{rules}
+use Rattle.store.proofs.Looking.{Numbering}
 use Rattle.store.proofs.marks.number_marks.Given as goal
 
 abbrev pub invariant-loop-k : goal.invariant-loop-k

@@ -1,5 +1,4 @@
-use Prim.Native.Nat.{◌-◌}
-use Rattle.store.proofs.Looking.{Others, others-none, others-fit, others-more, others-end}
+use Rattle.store.proofs.Looking.{others-none, others-fit, others-more, others-end}
 use borrow.Author.Rules.{rules}
 use Rattle.store.proofs.marks.set_others.Goals as goal
 

@@ -1,6 +1,5 @@
 use Prim.Native.Nat.{◌-◌}
-use Rattle.store.proofs.Looking.{Others, others-none, others-fit, others-more, others-end}
-use borrow.Author.Rules.{rules}
+use Rattle.store.proofs.Looking.{Others}
 use Rattle.store.proofs.marks.set_others.Given as goal
 
 abbrev pub invariant-loop-i : goal.invariant-loop-i

@@ -1,4 +1,4 @@
-use Rattle.std.proofs.Common.{w64, rules}
+use Rattle.std.proofs.Common.{w64}
 use mir.Facts.{to_z_pos}
 use Rattle.whole.proofs.signed.signed.Goals as goal
 

@@ -1,5 +1,4 @@
 use Rattle.whole.specs.FitLaws.{cast_ok}
-use Rattle.std.proofs.Common.{rules}
 use Rattle.whole.proofs.signed.unsigned.Goals as goal
 
 pub overflow_cast-result : goal.overflow_cast-result
