@@ -2,7 +2,6 @@ use Prim.Native.Nat.{ℕ}
 use mathlib.Core.Path.{ap}
 use lib.Dec.{eqb}
 use Rattle.settings.specs.Settings.{full}
-use borrow.Author.Rules.{rules}
 use Rattle.settings.proofs.is_full.Goals as goal
 
 pub returns : goal.returns

@@ -1,7 +1,6 @@
 use lib.ListN.{length-set}
 use native.Mathlib.Omega.{arith}
 use Rattle.settings.proofs.Reading.{three-put}
-use borrow.Author.Rules.{rules}
 use Rattle.settings.proofs.put.Goals as goal
 
 pub bounds-settings-k-2 : goal.bounds-settings-k-2
