@@ -1,6 +1,6 @@
 -- Laws of the loop that lists the kept loops; and what is true of the list.
 use Prim.Native.Nat.{ℕ, zero, suc, ◌+◌, ◌*◌, ◌≤◌, ◌<◌, zero-le}
-use mathlib.Core.Bool.{Bool, true, false, not, cond}
+use mathlib.Core.Bool.{Bool, true, false, cond}
 use mathlib.Core.Path.{◌≡◌, refl, ap, ◌∙◌}
 use mathlib.Core.List.{List, [], ◌∷◌, ◌++◌, append-nil}
 use native.Mathlib.Numerals.{add-one}
@@ -16,9 +16,7 @@ use Rattle.basis.specs.Choice.{code_of, by-test, clash}
 use Rattle.basis.specs.Number.{+0, abs_f, own_abs, finite, limit_ok}
 use Rattle.basis.specs.NumberLaws.{abs-lt}
 use Rattle.basis.specs.OrderLaws.{Finite, lt_not_le, le_total}
-use Rattle.basis.specs.Room.{room_of}
 use Rattle.basis.specs.RoomLaws.{room-unique}
-use Rattle.basis.specs.Sizes.{most_slices}
 use Rattle.area.specs.Area.{is_kept, kept_to, kept_of, Comparable, Roomy, Kept}
 
 -- a finite number's absolute value, as the code has it, is finite; and so is a limit in range

@@ -8,7 +8,7 @@ use Rattle.basis.specs.declared.number.Tolerance.{Tolerance}
 use Rattle.outline.specs.declared.point.Point.{Point}
 use Rattle.outline.specs.declared.point.Vertex.{Vertex}
 use Rattle.outline.specs.Points.{pos_of}
-use Rattle.outline.specs.Outline.{Triple, outline_at, vertex_at, point_at}
+use Rattle.outline.specs.Outline.{Triple, outline_at, vertex_at}
 use Rattle.view.specs.declared.data.ViewData.{ViewData}
 use Rattle.view.specs.declared.create.Walk.{Walk}
 use Rattle.view.specs.declared.create.OneSegment.{OneSegment}
@@ -18,7 +18,7 @@ use Rattle.cut.specs.declared.arrival.Case.{Case}
 use Rattle.candidate.specs.declared.next.Next.{Next}
 use Rattle.candidate.specs.declared.at_cut.Candidate.{Candidate}
 use Rattle.candidate.specs.declared.at_cut.Candidate.TheVariants.{Nothing, Slice}
-use Rattle.candidate.specs.Candidates.{Given, given, segment_at, same_next, whole_split, slice_of, piece_of, walk_of, walked, walk_at}
+use Rattle.candidate.specs.Candidates.{Given, given, segment_at, same_next, slice_of, piece_of, walk_of, walked, walk_at}
 use Rattle.candidate.specs.Steps.{Place, LastPlace, LastCut, NextCut, walk_with, walk_by, WalkParts, WalkReady}
 use Rattle.candidate.specs.PieceLaws.{piece-once}
 

@@ -3,14 +3,14 @@ use Prim.Native.Nat.{ℕ}
 use mathlib.Core.Path.{◌≡◌, refl, sym, ap, ◌∙◌}
 use mathlib.Core.List.{List}
 use native.Mathlib.Omega.{arith}
-use lib.ListN.{length, replicate}
+use lib.ListN.{replicate}
 use lib.Ieee.{Float}
 use Rattle.basis.specs.Room.{room_of, Stretch}
 use Rattle.basis.specs.Refuse.{first_from}
 use Rattle.basis.specs.RefuseLaws.{stop-rows, go-rows, answer-no, answer-yes}
 use Rattle.basis.specs.declared.answer.CountAnswer.{CountAnswer}
 use Rattle.basis.specs.Answers.{count_refused, counted}
-use Rattle.cut.specs.Cuts.{Given, given, cut_count}
+use Rattle.cut.specs.Cuts.{Given, cut_count}
 use Rattle.cut.specs.Order as order
 use Rattle.candidate.specs.Candidates as slices
 use Rattle.candidate.specs.Ready.{Rooms, Written}
@@ -20,7 +20,7 @@ use Rattle.cut_entries.specs.CutRowsLaws.{few-passed}
 use Rattle.candidate_faults.specs.declared.Lengths.{Lengths}
 use Rattle.candidate_lists.specs.Lists.{along_cuts}
 use Rattle.candidate_entries.specs.Candidates.{Lent, rooms_of, lengths, later_rows, candidates_refusal, cand_number, Sliced, Roomed, Dated}
-use Rattle.candidate_entries.specs.CandidatesLaws.{along, cand-pass, cand-accepted, editions-roomy}
+use Rattle.candidate_entries.specs.CandidatesLaws.{cand-pass, cand-accepted, editions-roomy}
 
 -- ---- the table in parts
 

@@ -1,5 +1,5 @@
 -- What the candidates of an accepted call are cut from, and the working lists that their functions are lent.
-use Rattle.std.specs.Prelude.{ℕ, ◌+◌, ◌*◌, ◌≤◌, ◌≡◌, List, length, take, Float}
+use Rattle.std.specs.Prelude.{ℕ, ◌*◌, ◌≤◌, ◌≡◌, List, length, take, Float}
 use Rattle.cut.specs.Cuts.{Given, cut_count}
 use Rattle.cut.specs.Order as order
 use Rattle.cut.specs.Order.{cut_numbers}

@@ -5,7 +5,6 @@ use Rattle.std.proofs.Math.Path.{ap}
 use native.Mathlib.Omega.{arith}
 use Rattle.std.proofs.Math.ListN.{get_or}
 use Rattle.std.specs.Float.Ieee.{nan}
-use Rattle.outline.specs.declared.point.Point.{Point}
 use Rattle.outline.specs.Outline.{point_at}
 use Rattle.cut.specs.Cuts.{Given, cut_count, cut_of, Ready}
 use Rattle.cut.specs.Order.{order_of, cut_numbers, cut_points}

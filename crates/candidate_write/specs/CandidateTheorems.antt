@@ -1,7 +1,7 @@
 -- What holds of the candidates, for every outline and every order of cuts: no walk goes further than once round, and start and offset are what the next entry accepts.
 use Prim.Native.Nat.{ℕ, zero, suc, ◌+◌, ◌-◌, ◌*◌, ◌≤◌, ◌<◌, zero-le}
-use Rattle.std.specs.Prelude.{Bool, true, false, not, ◌&&◌, ◌≡◌, eqb, length, get_or, Float}
-use Rattle.std.proofs.Common.{true≢false, sym, ◌∙◌, not-suc-le-zero, length-append, lt-ltb, eqb-true, ne_eqb, eq-eqb}
+use Rattle.std.specs.Prelude.{Bool, true, false, ◌≡◌, eqb, length, get_or, Float}
+use Rattle.std.proofs.Common.{true≢false, sym, ◌∙◌, not-suc-le-zero, length-append, lt-ltb, eqb-true, eq-eqb}
 use Rattle.std.proofs.Math.Path.{refl, ap}
 use mathlib.Core.List.{List, [], ◌∷◌, ◌++◌, flat_map}
 use native.Mathlib.Omega.{arith}

@@ -1,5 +1,5 @@
 -- What the shared rows tell where none of their faults is there.
-use Rattle.std.specs.Prelude.{ℕ, zero, suc, ◌+◌, ◌*◌, ◌≤◌, ◌<◌, Bool, true, false, not, ◌&&◌, ◌≡◌, List, length, get_or, eqb}
+use Rattle.std.specs.Prelude.{ℕ, zero, suc, ◌+◌, ◌*◌, ◌≤◌, ◌<◌, Bool, true, false, not, ◌&&◌, ◌≡◌, length, get_or, eqb}
 use Rattle.std.proofs.Common.{subst, arith, ltb-false, eq-eqb}
 use Rattle.std.proofs.lemmas.Bool.{not-false}
 use Rattle.basis.specs.Sizes.{most_hits, most_laps}

@@ -23,7 +23,7 @@ use Rattle.cut_runs.specs.Sooner.{sooner}
 use Rattle.cut_runs.specs.Runs.{Goes, before-it, arrived-first}
 use Rattle.cut_order.specs.declared.along.Key.{Key}
 use Rattle.cut_order.specs.Along.{key_by, goes_by, goes_on, follows_by, Third, Followed}
-use Rattle.cut_order.specs.CutsLaws.{order-length, numbers-length, number_at}
+use Rattle.cut_order.specs.CutsLaws.{numbers-length, number_at}
 use Rattle.cut_order.specs.OrderTheorems.{order-known}
 use Rattle.cut_order.proofs.Keying.{distance-fit}
 

@@ -1,5 +1,5 @@
 -- What the area pass by a setting is proved by: the record's lengths, an unknown setting, and a known one.
-use Prim.Native.Nat.{ℕ, suc}
+use Prim.Native.Nat.{ℕ}
 use mathlib.Core.Bool.{Bool, true, false, not}
 use mathlib.Core.Path.{◌≡◌, refl, sym, ap, subst, ◌∙◌}
 use mathlib.Core.List.{List}
@@ -9,11 +9,10 @@ use lib.Ieee.{Float, neg, le, of_bits}
 use Rattle.basis.specs.Number.{limit_ok}
 use Rattle.basis.specs.RefuseLaws.{answer-no}
 use Rattle.basis.specs.declared.answer.CountAnswer.{CountAnswer}
-use Rattle.basis.specs.Answers.{count_refused, counted}
+use Rattle.basis.specs.Answers.{count_refused}
 use Rattle.settings.specs.declared.Setting.{Setting}
 use Rattle.settings.specs.Settings.{Held, lengths_fault, known, asked_of}
 use Rattle.settings.specs.SettingsLaws.{asked-none}
-use Rattle.area.specs.Area.{kept_of}
 use Rattle.area_entries.specs.AreaEntry.{area_list_rows, area_last_rows, area_refusal, AreaLeft}
 use Rattle.named_entries.specs.Named.{unknown_fault}
 use Rattle.named_entries.specs.NamedLaws.{is-1, is-16, is_same, was-4, answer-number, answer-same, answer-still}

@@ -17,7 +17,7 @@ use Rattle.stitch_run.specs.Stitch.{Given, given, plan_of}
 use Rattle.stitch.specs.Lent.{Lists}
 use Rattle.stitch_entries.specs.declared.answer.StitchAnswer.{StitchAnswer}
 use Rattle.stitch_entries.specs.Answers.{stitch_refused}
-use Rattle.stitch_entries.specs.StitchEntry.{lengths_of, stitch_number, StitchBy, StitchLeft}
+use Rattle.stitch_entries.specs.StitchEntry.{stitch_number, StitchLeft}
 use Rattle.stitch_faults.specs.StitchTable.{stitch_refusal}
 use Rattle.named_entries.specs.Named.{unknown_fault}
 use Rattle.named_entries.specs.NamedLaws.{is-1, is-16, is_same, was-4, answer-number, answer-same, answer-still}

@@ -1,7 +1,7 @@
 -- With a record that holds the setting, the answers are those of the calls with its numbers. So demand 3 holds of `mask_stitch`:
 -- `named-demand` `named-need-accepted` `named-shorter-refused` `named-need-is-reached` say of it, from its contract, what stitch_entries/specs/DemandTheorems.antt says of the stitch by
 -- tolerances.
-use Rattle.std.specs.Prelude.{ℕ, ◌≤◌, ◌<◌, true, false, not, ◌≡◌, refl, List, ◌∷◌, ◌++◌, ◌⊎◌, length, take, Float}
+use Rattle.std.specs.Prelude.{ℕ, ◌≤◌, ◌<◌, true, not, ◌≡◌, refl, List, ◌∷◌, ◌++◌, ◌⊎◌, length, take, Float}
 use Rattle.std.proofs.Common.{sym, subst, ◌∙◌, inl, inr, arith}
 use borrow.Author.Tests.{not-false}
 use Rattle.basis.specs.Choice.{by-test}
@@ -23,7 +23,7 @@ use Rattle.stitch_faults.specs.StitchTable.{shape_rows, stitch_refusal}
 use Rattle.stitch_faults.specs.Matching as editions
 use Rattle.stitch_entries.specs.Demand.{chains_in, Demanded, Shorter}
 use Rattle.stitch_entries.specs.DemandTheorems.{stitch-demand, need-accepted, shorter-refused, need-is-reached}
-use Rattle.area_entries.specs.AreaEntry.{area_refusal, AreaBy, AreaLeft}
+use Rattle.area_entries.specs.AreaEntry.{area_refusal, AreaLeft}
 use Rattle.named_entries.specs.NamedLaws.{unknown-number}
 use Rattle.named_entries.specs.NamedStitch.{early_part, late_part, named_stitch_rows, named_stitch_refusal, Holding, NamedStitch}
 use Rattle.named_entries.specs.NamedArea.{limit_in, named_area_refusal, NamedArea}

@@ -1,6 +1,6 @@
 -- What holds of every pruning: it stays within the need, its starts ascend, and a stitch accepts what it gives.
 use Prim.Native.Nat.{ℕ, zero, suc, ◌+◌, ◌*◌, ◌≤◌, ◌<◌}
-use Rattle.std.specs.Prelude.{Bool, ◌≡◌, refl, List, [], ◌∷◌, ◌++◌, eqb, length, get_or}
+use Rattle.std.specs.Prelude.{Bool, ◌≡◌, refl, [], ◌∷◌, ◌++◌, eqb, length, get_or}
 use Rattle.std.proofs.Math.Bool.{true, false, cond}
 use Rattle.std.proofs.Common.{add-zero, length-append}
 use native.Mathlib.Omega.{arith}

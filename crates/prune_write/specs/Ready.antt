@@ -1,5 +1,5 @@
 -- What a caller has shown, and what the functions leave: one record for each contract.
-use Rattle.std.specs.Prelude.{ℕ, ◌+◌, ◌*◌, ◌≤◌, ◌<◌, ◌≡◌, true, false, List, ◌++◌, length}
+use Rattle.std.specs.Prelude.{ℕ, ◌+◌, ◌*◌, ◌≤◌, ◌<◌, ◌≡◌, true, false, ◌++◌, length}
 use Rattle.basis.specs.Number.{+0}
 use Rattle.basis.specs.Sizes.{most_candidates, most_laps}
 use Rattle.basis.specs.Room.{room_of}

@@ -3,7 +3,7 @@ use Prim.Native.Nat.{ℕ, zero, suc, ◌+◌, ◌*◌, ◌≤◌, ◌<◌, zero-
 use Rattle.std.specs.Prelude.{Bool, cond, ◌≡◌, eqb, get_or, drop}
 use Rattle.std.proofs.Math.Bool.{true, false}
 use Rattle.std.proofs.Math.Path.{refl, sym, ap}
-use Rattle.std.proofs.Common.{◌∙◌, zero-add, add-one, arith, eq-eqb, ne_eqb}
+use Rattle.std.proofs.Common.{◌∙◌, add-one, arith, eq-eqb, ne_eqb}
 use mathlib.Core.List.{List, [], ◌∷◌, ◌++◌, append-nil, append_assoc}
 use Rattle.std.proofs.Math.ListN.{length, length-append}
 use Rattle.std.proofs.lemmas.List.{length-map}
@@ -11,7 +11,7 @@ use Rattle.std.proofs.lemmas.List.Edits.{sets}
 use Rattle.basis.specs.Number.{+0}
 use Rattle.basis.specs.StoreLaws.{sets-front}
 use Rattle.basis.specs.RoomLaws.{room-left}
-use Rattle.slice.specs.Slice.{code_width, shape_width, Slice, slice_of}
+use Rattle.slice.specs.Slice.{code_width, shape_width, Slice}
 use Rattle.slice.specs.Ready.{Rooms, Roomy, Placed}
 use Rattle.slice.specs.PutLaws.{codes-length, shapes-length, placed-none, placed-then, placed_at, placed-shape, placed-edition}
 use Rattle.prune.specs.declared.call.Call.{Call}

@@ -1,5 +1,5 @@
 -- Document 02's numbers, computed.
-use Rattle.std.specs.Prelude.{ℕ, ◌≡◌, refl, List, [], ◌∷◌, ◌++◌, replicate}
+use Rattle.std.specs.Prelude.{ℕ, ◌≡◌, refl, List, [], ◌∷◌, replicate}
 use Rattle.basis.specs.Number.{+0, alike}
 use Rattle.basis.specs.Refuse.{first_of}
 use Rattle.fields.specs.Fields.{size, value_of}

@@ -1,5 +1,5 @@
 -- How long the parts of a record are, and that a reader's list is what its stitch has.
-use Rattle.std.specs.Prelude.{ℕ, zero, suc, ◌+◌, ◌*◌, ◌-◌, ◌≤◌, ◌<◌, Bool, true, false, cond, ◌≡◌, refl, List, [], ◌∷◌, ◌++◌, eqb, length, get_or, take, drop}
+use Rattle.std.specs.Prelude.{ℕ, zero, suc, ◌+◌, ◌*◌, ◌-◌, ◌≤◌, ◌<◌, Bool, true, false, cond, ◌≡◌, refl, List, [], ◌++◌, eqb, length, get_or, take, drop}
 use Rattle.std.proofs.Common.{sym, ap, ◌∙◌, arith, suc-mul, ltb-false, length-append, get_or-append-add}
 use Rattle.std.proofs.Math.ListN.{length-map, length-drop}
 use Rattle.std.proofs.Math.Seq.{length-take-le}
@@ -8,15 +8,14 @@ use Rattle.basis.specs.Choice.{by-test}
 use Rattle.basis.specs.Refuse.{count_for}
 use Rattle.basis.specs.RefuseLaws.{Clear}
 use Rattle.basis.specs.Room.{room_of}
-use Rattle.fields.specs.Fields.{size, unpack, rows, num_of}
+use Rattle.fields.specs.Fields.{size, rows, num_of}
 use Rattle.fields.specs.FieldLaws.{length-rows, size-rows, size-append, rows_at, length-unpack, narrow-append, narrow-rows}
 use Rattle.fields.specs.Ready.{Narrow, narrow-none, narrow_one}
 use Rattle.basis.specs.StoreLaws.{sets-front}
 use Rattle.slice.specs.Slice.{code_width, shape_width}
 use Rattle.stitch_run.specs.declared.plan.Plan.{Plan}
-use Rattle.stitch_run.specs.Stitch.{Given}
 use Rattle.record_form.specs.declared.form.Version.{Version}
-use Rattle.record_form.specs.Form.{form1, form2, form_for, head_shape, slice_shape, taken_vertices, common_width, entry_width, vertex_shape, body_of, column}
+use Rattle.record_form.specs.Form.{form_for, head_shape, slice_shape, taken_vertices, common_width, entry_width, vertex_shape, body_of, column}
 use Rattle.record.specs.Record.{Lists, plan_held, body_in, outline1_from, outline2_from, slices_from, codes_from, shapes_from, dates_from, lists_held, taken_rows}
 use Rattle.record_form.specs.Ready.{FormOk}
 

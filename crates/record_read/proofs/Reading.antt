@@ -25,7 +25,7 @@ use Rattle.record.specs.Record.{Lists, head_in, plan_held, body_in, outline1_fro
 use Rattle.record.specs.Ready.{HeadFit, HeadRead}
 use Rattle.record_form.specs.Ready.{FormOk}
 use Rattle.record.specs.RecordLaws.{form-ok, head-size, slice-narrow, vertex-narrow, vertex-size, length-body, date-width, length-values, length-outline1, length-outline2, length-codes, length-shapes, length-dates, sets-room}
-use Rattle.record_read.specs.Ready.{Short, Roomy, ListsFit, ListsFilled, Whole, BodyFit}
+use Rattle.record_read.specs.Ready.{Short, ListsFit, ListsFilled, Whole, BodyFit}
 
 -- ---- the values that follow the head
 module _ {v : Version} {n : ℕ} {p : Plan} (w : Whole v n p) where

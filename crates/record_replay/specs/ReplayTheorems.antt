@@ -15,7 +15,7 @@ use Rattle.basis.specs.RefusalOrder.{refusal_order, before, First}
 use Rattle.basis.specs.RefusalOrderLaws.{first-of}
 use Rattle.slice.specs.Slice.{code_width, shape_width, codes_at}
 use Rattle.slice.specs.SliceLaws.{offset_at}
-use Rattle.slice.specs.Editions.{Editions, editions, edition_fault, edition_list_rows}
+use Rattle.slice.specs.Editions.{Editions, edition_fault, edition_list_rows}
 use Rattle.stitch_run.specs.Stitch.{Given, sum_below, weight_at, need_for, need_of}
 use Rattle.stitch.specs.Lent.{Lists}
 use Rattle.stitch_entries.specs.StitchEntry.{lengths_of, stitch_number}

@@ -1,7 +1,7 @@
 -- Laws by which slices are written one after the other.
 use Rattle.std.specs.Prelude.{ℕ, suc, ◌+◌, ◌*◌, ◌≡◌, refl, length, set, Float}
 use Rattle.std.proofs.Common.{sym, ap, ◌∙◌, mul-add, arith, length-set, length-append}
-use mathlib.Core.List.{List, [], ◌∷◌, ◌++◌, flat_map, map, map-append}
+use mathlib.Core.List.{List, [], ◌∷◌, ◌++◌, flat_map, map-append}
 use Rattle.std.proofs.lemmas.List.{length-map}
 use Rattle.std.proofs.lemmas.List.Edits.{sets}
 use Rattle.std.proofs.Math.Seq.{length-sets}

@@ -1,9 +1,9 @@
 -- What the tests of a list of slices say of each slice, and the other way.
-use Rattle.std.specs.Prelude.{ℕ, ◌+◌, ◌*◌, ◌/◌, ◌≤◌, ◌<◌, Bool, true, ◌≡◌, List, length, get_or}
+use Rattle.std.specs.Prelude.{ℕ, ◌*◌, ◌/◌, ◌≤◌, ◌<◌, Bool, true, ◌≡◌, List, length}
 use Rattle.std.proofs.Common.{sym, ap, subst, ◌∙◌, arith}
 use Rattle.std.proofs.Math.Nat.{mul-div_right}
 use borrow.Author.Tests.{ltb-true, leb-true, lt-ltb, le-leb}
-use Rattle.basis.specs.Each.{each_to, choices_known}
+use Rattle.basis.specs.Each.{choices_known}
 use Rattle.basis.specs.EachLaws.{each_at, at_each, item_in, most-at, at_most}
 use Rattle.basis.specs.Refuse.{count_for}
 use Rattle.slice.specs.declared.data.Codes.{Codes}

@@ -1,5 +1,5 @@
 -- Slices to which a stitch's numbers 1, 3, 5, 6 and 7 do not apply: one, and lists of them.
-use Rattle.std.specs.Prelude.{ℕ, ◌*◌, ◌≤◌, ◌<◌, true, ◌≡◌, List, length, Float}
+use Rattle.std.specs.Prelude.{ℕ, ◌*◌, ◌≤◌, true, ◌≡◌, List, length, Float}
 use Rattle.basis.specs.Number.{all_within}
 use Rattle.basis.specs.Each.{choices_known}
 use Rattle.slice.specs.Slice.{code_width, shape_width, Slice, shape_of}

@@ -1,5 +1,5 @@
 -- Between two chains: what the lent lists hold, and what the functions require and leave of them.
-use Rattle.std.specs.Prelude.{ℕ, ◌+◌, ◌-◌, ◌*◌, ◌≤◌, ◌<◌, Bool, false, ◌≡◌, length, get_or, replicate, Float}
+use Rattle.std.specs.Prelude.{ℕ, ◌+◌, ◌*◌, ◌≤◌, ◌<◌, Bool, false, ◌≡◌, length, get_or, replicate, Float}
 use mathlib.Core.List.{List, map, flat_map}
 use Rattle.basis.specs.Number.{+0}
 use Rattle.basis.specs.Sizes.{most_vertices, most_slices}

@@ -1,9 +1,9 @@
 -- The candidates by a box are those of the end, so three looks give the selector's answer.
-use Prim.Native.Nat.{ℕ, zero, suc, ◌<◌}
+use Prim.Native.Nat.{ℕ, zero, suc}
 use native.Mathlib.Omega.{arith}
 use mathlib.Core.Bool.{Bool, ◌&&◌}
 use mathlib.Core.List.{List}
-use mathlib.Core.Path.{◌≡◌, refl, ap, sym, ◌∙◌}
+use mathlib.Core.Path.{◌≡◌, refl, ap, ◌∙◌}
 use lib.Ieee.{Float, binary64, add, sub, le}
 use Rattle.basis.specs.Choice.{and_assoc}
 use Rattle.basis.specs.Number.{in_span}
@@ -15,7 +15,7 @@ use Rattle.stitch_run.specs.declared.plan.Plan.{Plan}
 use Rattle.stitch_run.specs.Run.{free, passing}
 use Rattle.stitch_layout.specs.declared.layout.Layout.{Layout}
 use Rattle.stitch_layout.specs.declared.layout.Query.{Query}
-use Rattle.stitch_layout.specs.Slices.{x_of, y_of, starts_in}
+use Rattle.stitch_layout.specs.Slices.{x_of, y_of}
 use Rattle.stitch_links.specs.Looks.{query_of}
 use Rattle.stitch_links.specs.Hung.{hung-fit}
 use Rattle.stitch_answer.specs.declared.answer.Answer.{Answer}

@@ -1,9 +1,9 @@
 -- Each look's answer, in its place in the order.
-use Prim.Native.Nat.{ℕ, ◌-◌, ◌≤◌, ◌<◌}
+use Prim.Native.Nat.{ℕ, ◌-◌, ◌≤◌}
 use native.Mathlib.Omega.{arith}
-use mathlib.Core.Bool.{Bool, true, false, cond, ◌&&◌}
+use mathlib.Core.Bool.{Bool, true, false, cond}
 use mathlib.Core.List.{List}
-use mathlib.Core.Path.{◌≡◌, refl, sym, ap, ◌∙◌}
+use mathlib.Core.Path.{◌≡◌, refl, sym, ◌∙◌}
 use lib.Dec.{eqb}
 use lib.Ieee.{Float}
 use borrow.Author.Tests.{eq-eqb, ne_eqb}
@@ -18,7 +18,7 @@ use Rattle.stitch_links.specs.declared.look.Cells.{Cells}
 use Rattle.stitch_layout.specs.Slices.{group_of, home_of, starts_in, meets_of}
 use Rattle.stitch_links.specs.Looks.{hit_of, lowest_of, cells_of}
 use Rattle.stitch_layout.specs.Links.{Linked}
-use Rattle.stitch_links.specs.Ready.{Lookable, Sides, Lowest}
+use Rattle.stitch_links.specs.Ready.{Sides, Lowest}
 use Rattle.stitch_links.specs.Ready as links
 use Rattle.stitch_answer.specs.declared.answer.Answer.{Answer}
 use Rattle.stitch_answer.specs.declared.answer.Answer.TheVariants.{NoCandidate, Asked}

@@ -5,7 +5,6 @@ use Rattle.outline.specs.declared.point.Point.{Point}
 use Rattle.outline.specs.Points.{in_box}
 use Rattle.outline.specs.Outline.{point_at}
 use Rattle.select.specs.declared.class.Starts.{Starts}
-use Rattle.select.specs.declared.best.Selected.{Selected}
 use Rattle.select.specs.declared.best.Selected.TheVariants.{Slice, NoSlice}
 use Rattle.select.specs.Select.{no_number, Known, select_of}
 use Rattle.stitch_run.specs.declared.plan.Plan.{Plan}

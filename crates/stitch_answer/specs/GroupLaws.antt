@@ -1,9 +1,9 @@
 -- The lowest of each group, and the lowest of all.
 use Rattle.std.specs.Prelude.{ℕ, zero, suc, ◌-◌, ◌≤◌, ◌<◌, Bool, true, false, not, cond, ◌&&◌, ◌≡◌, eqb, ltb}
-use Rattle.std.proofs.Common.{arith, true≢false, sym, ap, ◌∙◌}
+use Rattle.std.proofs.Common.{arith, true≢false, sym, ◌∙◌}
 use mathlib.Core.List.{List, [], ◌∷◌, ◌++◌, append-nil}
 use Rattle.std.proofs.Math.Path.{refl}
-use borrow.Author.Tests.{ltb-true, ltb-false, eqb-true, eqb-false, eq-eqb, ne_eqb}
+use borrow.Author.Tests.{ltb-true, ltb-false, eqb-true, eqb-false, ne_eqb}
 use Rattle.basis.specs.Sizes.{most_slices}
 use Rattle.stitch_run.specs.Run.{passing}
 use Rattle.basis.specs.Choice.{by-test, clash, and_left, and_right}
@@ -13,8 +13,7 @@ use Rattle.select.specs.Select.{no_number, first_that, or_else}
 use Rattle.stitch_layout.specs.declared.layout.Layout.{Layout}
 use Rattle.stitch_layout.specs.Slices.{group_of}
 use Rattle.stitch_links.specs.Looks.{lowest_of}
-use Rattle.stitch_links.specs.Looks.{Found}
-use Rattle.stitch_links.specs.BlockLaws.{lowest-none, lowest-at, lowest-found}
+use Rattle.stitch_links.specs.BlockLaws.{lowest-at, lowest-found}
 use Rattle.stitch_answer.specs.Answer.{has_any, in_group}
 
 -- ---- the first of a list, and the lowest number

@@ -1,7 +1,7 @@
 -- The order of groups is the table of preferences.
 use Prim.Native.Nat.{ℕ, zero, suc, ◌-◌, ◌≤◌, ◌<◌}
 use Rattle.std.proofs.Common.{arith, ◌∙◌}
-use Rattle.std.specs.Prelude.{Bool, not, cond, ◌&&◌, List, ◌≡◌, ltb}
+use Rattle.std.specs.Prelude.{Bool, not, cond, ◌&&◌, ◌≡◌, ltb}
 use Rattle.std.proofs.Math.Bool.{true, false, and-false}
 use Rattle.std.proofs.Math.Path.{refl, sym, ap}
 use Rattle.std.proofs.Math.Dec.{eqb}
@@ -10,7 +10,7 @@ use Rattle.stitch_run.specs.Run.{passing}
 use Rattle.basis.specs.Choice.{by-test, and-true}
 use Rattle.select.specs.declared.class.Starts.{Starts}
 use Rattle.select.specs.declared.best.Selected.{Selected}
-use Rattle.select.specs.declared.best.Selected.TheVariants.{Slice, NoSlice}
+use Rattle.select.specs.declared.best.Selected.TheVariants.{NoSlice}
 use Rattle.select.specs.Select.{no_number, class_of, preference_of, suits_of, or_else, choose, choices_of, pick_of, select_of}
 use Rattle.stitch_layout.specs.declared.layout.Layout.{Layout}
 use Rattle.stitch_layout.specs.Slices.{group_of}
@@ -18,7 +18,7 @@ use Rattle.stitch_links.specs.Looks.{lowest_of}
 use Rattle.stitch_links.specs.BlockLaws.{lowest-none}
 use Rattle.stitch_answer.specs.declared.answer.Answer.{Answer}
 use Rattle.stitch_answer.specs.declared.answer.Answer.TheVariants.{NoCandidate, Asked}
-use Rattle.stitch_answer.specs.Answer.{has_any, answer_of, group_first, refused_of, in_order, in_group, Classed}
+use Rattle.stitch_answer.specs.Answer.{answer_of, group_first, refused_of, in_order, in_group, Classed}
 use Rattle.stitch_answer.specs.GroupLaws.{selected_of, first-lowest, any-lowest, lowest-same, rest, only-0, only-1, some-any}
 
 -- ---- three rows of choices, over numbers: a and b the lowest of the preferred outline and of the other, o of the overlaps, y of all

@@ -1,8 +1,8 @@
 -- The cell does not fall where the coordinate rises, so what lies in a box has its cells between those of the box's sides.
-use Rattle.std.specs.Prelude.{ℕ, ◌≤◌, true, false, not, ◌≡◌, refl, T, Float}
+use Rattle.std.specs.Prelude.{◌≤◌, true, false, not, ◌≡◌, refl, T, Float}
 use Rattle.std.proofs.Common.{true≢false, sym}
 use Rattle.std.specs.Float.{nan, inf, fin}
-use Rattle.std.specs.Float.Ieee.{binary64, add, mul, lt, le, fits, is_nan, of_bits, to_bits}
+use Rattle.std.specs.Float.Ieee.{binary64, add, mul, lt, le, fits, is_nan, of_bits}
 use Rattle.std.specs.Float.Ieee.Bits.{of_bits-fits}
 use Rattle.std.specs.Float.Ieee.Fits.{add-fits, mul-fits}
 use Rattle.basis.specs.Choice.{by-test}

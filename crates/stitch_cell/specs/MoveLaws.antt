@@ -3,7 +3,7 @@ use Prim.Native.Nat.compare
 use Prim.Native.Nat.{ℕ, zero, suc, ◌+◌, ◌-◌, ◌*◌, ◌^◌, ◌≤◌, ◌<◌}
 use Rattle.std.proofs.Common.{zero-mul, mul-one, mul_assoc, mul_left_comm, add-mul, mul-le-mul_right, arith, true≢false, ap, ◌∙◌}
 use Rattle.std.proofs.Math.Nat.{zero-div, zero-mod, mul-pos, mul_comm, mul-sub}
-use Rattle.std.specs.Prelude.{Bool, not, cond, ◌&&◌, ◌≡◌, ltb, ℤ, pos, Float}
+use Rattle.std.specs.Prelude.{Bool, cond, ◌&&◌, ◌≡◌, ltb, ℤ, pos, Float}
 use Rattle.std.proofs.Math.Bool.{true, false}
 use Rattle.std.specs.Bool.{beq}
 use Rattle.std.proofs.Math.Path.{refl, sym}
@@ -12,7 +12,7 @@ use Rattle.std.specs.Float.{inf, fin, Format}
 use Rattle.std.specs.Float.Ieee.Bits.{is_true}
 use Rattle.std.specs.Float.Ieee.Order.{round_mono}
 use Rattle.std.specs.Float.Ieee.Fits.{up_pos, down_pos}
-use borrow.Author.Tests.{ltb-true, ltb-false, lt-ltb, le-ltb}
+use borrow.Author.Tests.{ltb-true, ltb-false, lt-ltb}
 use Rattle.basis.specs.Choice.{by-test, clash}
 use Rattle.basis.specs.Number.{+0}
 use Rattle.basis.specs.OrderLaws.{Finite, Number, le_not_lt, lt_not_le, le_trans, le_refl}

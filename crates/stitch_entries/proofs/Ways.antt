@@ -1,7 +1,7 @@
 -- What the stitch by tolerances is proved by: acceptance, and the two ways out.
-use Prim.Native.Nat.{ℕ, zero, suc, ◌*◌, ◌/◌, ◌≤◌, ◌<◌}
+use Prim.Native.Nat.{ℕ, ◌*◌, ◌/◌, ◌≤◌, ◌<◌}
 use mathlib.Core.Bool.{Bool, true, false, cond}
-use mathlib.Core.Path.{◌≡◌, refl, sym, subst, ◌∙◌}
+use mathlib.Core.Path.{◌≡◌, refl, sym, ◌∙◌}
 use mathlib.Core.List.{List, ◌++◌}
 use native.Mathlib.Nat.{le_of_eq, le_trans}
 use native.Mathlib.Omega.{arith}
@@ -10,7 +10,7 @@ use lib.Dec.{eqb}
 use lib.Ieee.{Float}
 use borrow.Author.Tests.{ltb-false, not-false}
 use Rattle.basis.specs.Sizes.{most_slices}
-use Rattle.basis.specs.Refuse.{Row, first_from, or_else, count_for}
+use Rattle.basis.specs.Refuse.{Row, first_from, count_for}
 use Rattle.basis.specs.RefuseLaws.{Clear, clear, clear-left, clear-right, clear-from, stop-rows, go-rows, then-rows, length-ok, size_ok, choice-ok, answer-no, answer-yes}
 use Rattle.outline.specs.Outline.{Whole}
 use Rattle.view.specs.View.{Fit}

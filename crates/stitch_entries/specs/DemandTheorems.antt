@@ -16,7 +16,7 @@ use Rattle.basis.specs.RoomLaws.{room-front}
 use Rattle.basis.specs.Choice.{T-left, T-right, true_of}
 use Rattle.basis.specs.Refuse.{Row, row, first_of, answer}
 use Rattle.basis.specs.RefusalOrder.{Applies}
-use Rattle.basis.specs.RefuseLaws.{clear, clear-left, clear-right, clear_both, none-clear, first-later, answer-zero, answer-accepted}
+use Rattle.basis.specs.RefuseLaws.{clear, clear-left, clear-right, none-clear, first-later, answer-zero, answer-accepted}
 use Rattle.outline.specs.declared.point.Vertex.{Vertex}
 use Rattle.stitch_run.specs.Run.{Chain, slices_of, order_of}
 use Rattle.stitch_run.specs.Demand3.{LowestFirst}

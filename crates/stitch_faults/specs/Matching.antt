@@ -1,5 +1,5 @@
 -- Editions that match. Document 02, K3: "Demands 2 and 3 read over calls whose editions match."
-use Rattle.std.specs.Prelude.{ℕ, ◌*◌, ◌<◌, false, not, ◌≡◌, length, get_or, replicate}
+use Rattle.std.specs.Prelude.{ℕ, ◌*◌, ◌<◌, false, ◌≡◌, length, get_or, replicate}
 use Rattle.std.proofs.Common.{sym, ◌∙◌, arith}
 use mathlib.Core.List.{List, [], ◌∷◌, ◌++◌}
 use Rattle.std.proofs.lemmas.List.{length-replicate}

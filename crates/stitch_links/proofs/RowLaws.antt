@@ -1,9 +1,9 @@
 -- What the loops over cells keep.
-use Prim.Native.Nat.{ℕ, ◌+◌, ◌≤◌, ◌<◌}
+use Prim.Native.Nat.{ℕ, ◌+◌, ◌<◌}
 use native.Mathlib.Omega.{arith}
 use mathlib.Core.Bool.{Bool}
 use mathlib.Core.List.{List}
-use mathlib.Core.Path.{◌≡◌, refl, sym, ◌∙◌}
+use mathlib.Core.Path.{◌≡◌, refl, ◌∙◌}
 use lib.ListN.{length}
 use lib.Ieee.{Float}
 use Rattle.select.specs.Select.{no_number}
@@ -14,8 +14,7 @@ use Rattle.stitch_layout.specs.declared.layout.Query.{Query}
 use Rattle.stitch_links.specs.declared.look.Cells.{Cells}
 use Rattle.stitch_run.specs.Run.{free}
 use Rattle.stitch_layout.specs.Slices.{list_of, home_of, meets_of}
-use Rattle.stitch_links.specs.Looks.{hit_of, cells_of}
-use Rattle.stitch_layout.specs.Links.{Linked}
+use Rattle.stitch_links.specs.Looks.{hit_of}
 use Rattle.stitch_links.specs.Looks.{Found, Looked, Block}
 use Rattle.stitch_links.specs.Ready.{Lookable, OnList, Row, Rows, Asked, Lowest}
 use Rattle.stitch_layout.specs.PuttingLaws.{list-under}

@@ -1,21 +1,20 @@
 -- Lists of cells make blocks of cells, a block that holds the box holds every hit, and what was found there is the lowest.
 use Prim.Native.Nat.{ℕ, zero, suc, ◌+◌, ◌≤◌, ◌<◌}
 use native.Mathlib.Omega.{arith}
-use Rattle.std.proofs.Math.Decide.{dec_lt, ℕ_discrete}
+use Rattle.std.proofs.Math.Decide.{dec_lt}
 use Rattle.std.specs.Prelude.{Bool, ◌&&◌, List, ◌⊎◌, ◌≡◌, eqb, ltb, Float}
-use Rattle.std.proofs.Math.Bool.{true, false, cond, and-false}
-use Rattle.std.proofs.Common.{inl, inr, ap, ◌∙◌, subst}
+use Rattle.std.proofs.Math.Bool.{true, false, cond}
+use Rattle.std.proofs.Common.{inl, inr, ◌∙◌}
 use Rattle.std.proofs.Math.Path.{refl, sym}
 use Rattle.std.specs.Float.Ieee.{le}
 use borrow.Author.Tests.{lt-ltb, le-ltb, eqb-true, eqb-false, ne_eqb}
 use Rattle.basis.specs.Sizes.{most_slices}
 use Rattle.select.specs.Select.{no_number}
-use Rattle.basis.specs.Choice.{by-test, clash, and_left, and_right}
+use Rattle.basis.specs.Choice.{by-test, and_left, and_right}
 use Rattle.stitch_cell.specs.Lower.{lesser_of}
-use Rattle.stitch_cell.specs.CellLaws.{cell-mono, cell-under}
+use Rattle.stitch_cell.specs.CellLaws.{cell-mono}
 use Rattle.stitch_layout.specs.declared.layout.Layout.{Layout}
 use Rattle.stitch_layout.specs.declared.layout.Query.{Query}
-use Rattle.stitch_links.specs.declared.look.Cells.{Cells}
 use Rattle.stitch_run.specs.Run.{free}
 use Rattle.stitch_layout.specs.Slices.{x_of, y_of, group_of, list_of, column_of, line_of, home_of, starts_in, meets_of}
 use Rattle.stitch_links.specs.Looks.{hit_of, lowest_of, cells_of}

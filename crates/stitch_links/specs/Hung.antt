@@ -1,9 +1,7 @@
 -- Slices that hang on lists, from the first look of a stitch to the last. A layout of no lists asks for nothing: there a scan looks.
-use Rattle.std.specs.Prelude.{ℕ, ◌+◌, ◌*◌, ◌≤◌, ◌<◌, Bool, true, false, List, ◌≡◌, length, get_or, set, replicate, Float}
-use Rattle.std.proofs.Common.{arith, ap, subst, sym}
-use Rattle.basis.specs.Sizes.{most_slices}
+use Rattle.std.specs.Prelude.{ℕ, ◌≤◌, ◌<◌, Bool, true, false, List, ◌≡◌, get_or, set, Float}
+use Rattle.std.proofs.Common.{arith}
 use Rattle.select.specs.declared.class.Starts.{Starts}
-use Rattle.stitch_run.specs.declared.plan.Plan.{Plan}
 use Rattle.stitch_run.specs.Run.{free}
 use Rattle.stitch_cell.specs.Cell.{Steady}
 use Rattle.stitch_layout.specs.declared.layout.Layout.{Layout}

@@ -1,6 +1,6 @@
 -- The invariant of the lists: slices looked at, taken off; marks set, chains begun.
-use Rattle.std.specs.Prelude.{ℕ, zero, suc, ◌+◌, ◌-◌, ◌≤◌, ◌<◌, Bool, true, false, not, cond, ◌&&◌, ◌||◌, List, ◌≡◌, refl, eqb, ltb, length, get_or, set}
-use Rattle.std.proofs.Common.{arith, add-one, true≢false, sym, ap, ◌∙◌, subst, length-set, get_or-set_same, get_or-set_other, lt-ltb, le-ltb, ne_eqb}
+use Rattle.std.specs.Prelude.{ℕ, suc, ◌+◌, ◌-◌, ◌≤◌, ◌<◌, Bool, true, false, not, List, ◌≡◌, refl, eqb, length, get_or, set}
+use Rattle.std.proofs.Common.{arith, true≢false, sym, ap, ◌∙◌, length-set, get_or-set_same, get_or-set_other, lt-ltb, le-ltb, ne_eqb}
 use Rattle.std.proofs.Math.Decide.{dec_lt, ℕ_discrete}
 use Rattle.std.proofs.Math.ListN.{get_or-eq_default}
 use Rattle.std.proofs.lemmas.Bool.{not-false}

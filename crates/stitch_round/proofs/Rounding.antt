@@ -21,7 +21,7 @@ use Rattle.stitch_answer.specs.declared.answer.Answer.TheVariants.{NoCandidate, 
 use Rattle.stitch_answer.specs.Answer.{near_end, answer_of, answer_at, Asking, Answered}
 use Rattle.stitch_round.specs.declared.step.Step.{Step}
 use Rattle.stitch_round.specs.declared.step.Step.TheVariants.{Onto, Ends}
-use Rattle.stitch_run.specs.Run.{Rules, onto, ends, closed, too_small, passing, free, candidate, candidates_of, taken, answered, asked, next_of}
+use Rattle.stitch_run.specs.Run.{onto, ends, closed, too_small, passing, free, candidate, candidates_of, taken, answered, asked, next_of}
 use Rattle.stitch_run.specs.Stitch.{given, Given, rules_of, offers_to, how_of}
 use Rattle.stitch_run.specs.TallyLaws.{passing-same}
 use Rattle.stitch_round.specs.Ready.{told_of, step_of, comes_to, RoundFit, standing, Rounded}

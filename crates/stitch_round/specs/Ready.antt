@@ -1,5 +1,5 @@
 -- What a caller has shown, and what the functions leave: one record for each contract.
-use Rattle.std.specs.Prelude.{ℕ, ◌*◌, ◌≤◌, ◌<◌, Bool, cond, eqb, ltb, ◌≡◌, List, [], ◌∷◌, length, Float}
+use Rattle.std.specs.Prelude.{ℕ, ◌*◌, ◌≤◌, ◌<◌, Bool, cond, eqb, ltb, ◌≡◌, List, [], length, Float}
 use Rattle.outline.specs.declared.point.Vertex.{Vertex}
 use Rattle.select.specs.declared.class.Starts.{Starts}
 use Rattle.select.specs.declared.best.Selected.TheVariants.{Slice, NoSlice}

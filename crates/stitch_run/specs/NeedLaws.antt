@@ -14,7 +14,7 @@ use Rattle.stitch_run.specs.Stitch.{sum_below, need_for}
 use Rattle.stitch_run.specs.Demand3.{finished, sum_over, first_slice, reach, leaves, Moment, Within, Enough}
 use Rattle.stitch_run.specs.SumLaws.{sum-append}
 use Rattle.basis.specs.FlatLaws.{flat-snoc}
-use Rattle.stitch_run.specs.TallyLaws.{Tally, tally-weight, tally-most}
+use Rattle.stitch_run.specs.TallyLaws.{Tally, tally-weight}
 use Rattle.stitch_run.specs.RunLaws.{nothing_left, Among, placed, placed-onward, placed-longer, Going, going-onward, going-opened, ended-slices, gone-chain, Kept, kept-turns, no-slices}
 
 -- what a slice's weight f says of the rules

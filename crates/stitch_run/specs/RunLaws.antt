@@ -11,7 +11,7 @@ use Rattle.basis.specs.Choice.{code_of}
 use Rattle.basis.specs.All.{All, all-imp, all_snoc}
 use Rattle.select.specs.declared.best.Selected.{Selected}
 use Rattle.select.specs.declared.best.Selected.TheVariants.{Slice, NoSlice}
-use Rattle.stitch_run.specs.Run.{Rules, Ending, closed, too_small, no_candidate, no_selection, Next, onto, ends, Chain, Underway, Finished, Stitched}
+use Rattle.stitch_run.specs.Run.{Rules, Ending, closed, too_small, Next, onto, ends, Chain, Underway, Finished, Stitched}
 use Rattle.stitch_run.specs.Run.{free, candidate, candidates_of, taken, answered, asked, next_of, round_of, opened, onward, ended}
 use Rattle.stitch_run.specs.Run.{walk, chain_from, added, begun, turn, turns, run, slices_of, rounds_of, order_of}
 use Rattle.stitch_run.specs.Stitch.{sum_below}

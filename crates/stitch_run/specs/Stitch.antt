@@ -1,5 +1,5 @@
 -- Document 01, "Stitching": the rules over the lists of a call, and what is reported.
-use Rattle.std.specs.Prelude.{ℕ, zero, suc, ◌+◌, Bool, true, false, ◌||◌, ltb, length, Float}
+use Rattle.std.specs.Prelude.{ℕ, zero, suc, ◌+◌, Bool, false, ltb, length, Float}
 use mathlib.Core.List.{List, [], ◌∷◌, map, flat_map, reverse}
 use Rattle.basis.specs.declared.number.Tolerance.{Tolerance}
 use Rattle.outline.specs.declared.point.Point.{Point}

@@ -8,7 +8,7 @@ use Rattle.std.proofs.Math.Nat.{mod-eq_of_lt, div-eq_of_lt, mul-add-mod_self_lef
 use Rattle.std.proofs.lemmas.List.{length-replicate}
 use Rattle.std.proofs.Math.ListN.{get_or-append}
 use Rattle.std.proofs.Math.Seq.{take-length}
-use borrow.Author.Tests.{lt-ltb, le-ltb, le-leb, ltb-true, leb-true, eqb-true, ne_eqb, not-true, not-false}
+use borrow.Author.Tests.{lt-ltb, le-leb, ltb-true, leb-true, eqb-true, ne_eqb, not-true}
 use Rattle.basis.specs.Choice.{by-test, clash, and_left, and_right, or_left, or_right}
 use Rattle.store.specs.Keys.{keyed, without}
 use Rattle.store.specs.KeysLaws.{keyed-snoc, without-none}

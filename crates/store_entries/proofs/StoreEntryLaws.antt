@@ -11,14 +11,14 @@ use borrow.Author.Tests.{ltb-false}
 use Rattle.basis.specs.declared.answer.CountAnswer.{CountAnswer}
 use Rattle.basis.specs.Answers.{count_refused, counted}
 use Rattle.basis.specs.Choice.{by-test}
-use Rattle.basis.specs.Refuse.{Row, row, first_of, first_from, answer}
+use Rattle.basis.specs.Refuse.{Row, first_from, answer}
 use Rattle.basis.specs.RefuseLaws.{numbered, Clear, clear, clear-left, clear-right, none-clear, first-from, then-rows, answer-no, answer-yes}
 use Rattle.store_write.specs.declared.keep.Handle.{Handle}
 use Rattle.store_write.specs.declared.keep.Handle.TheVariants.{Given, Full}
 use Rattle.store.specs.Keys.{keyed}
 use Rattle.basis.specs.Machine.{Turn, turn}
 use Rattle.store.specs.Slice.{Slice, slice_of}
-use Rattle.store.specs.Plain.{put, release, list, compact, Answer, refused, given, done, listed}
+use Rattle.store.specs.Plain.{put, compact, Answer, refused, listed}
 use Rattle.store.specs.Blocks.{block}
 use Rattle.store.specs.Marks.{handle_of, lives_of}
 use Rattle.store.specs.Lists.{Lists, lists, lives_in, plain_of, list_step}
@@ -28,7 +28,7 @@ use Rattle.store_party.specs.Ready.{share, PartFits, PartPutFits, PartMarksFit, 
 use Rattle.store_party.specs.PartiesLaws.{released-left}
 use Rattle.store_entries.specs.declared.answer.HandleAnswer.{HandleAnswer}
 use Rattle.store_entries.specs.declared.answer.DoneAnswer.{DoneAnswer}
-use Rattle.store_entries.specs.Answers.{handle_refused, handle_given, handle_from, handle_answer, done_refused, done_from, done_answer, count_answer}
+use Rattle.store_entries.specs.Answers.{handle_refused, handle_given, handle_from, handle_answer, done_refused, done_from, done_answer}
 use Rattle.store_entries.specs.StoreRows.{slice_rows, room_rows, party_rows}
 use Rattle.store_entries.specs.StoreEntry.{to_put, to_release, to_list, to_compact, call_of, own_rows, Called, called, lists_rows, call_rows, call_refusal, store_turn, StoreLeft, shown_by, list_turn, ListLeft}
 use Rattle.store_entries.specs.StoreTheorems.{clear-lists, slice-whole}

@@ -1,9 +1,9 @@
 -- A plain list on a few calls, and marks that a host may hand in.
-use Rattle.std.specs.Prelude.{ℕ, ◌≡◌, refl, List, [], ◌∷◌}
+use Rattle.std.specs.Prelude.{ℕ, ◌≡◌, refl, [], ◌∷◌}
 use Rattle.store.specs.Keys.{keyed, without, lowest_from}
 use Rattle.basis.specs.Machine.{answers}
-use Rattle.store.specs.Plain.{Kept, kept, put, release, list, compact, refused, given, done, listed, plain_step}
-use Rattle.store.specs.Marks.{mark_of, handle_of, place_of, named, fresh, then_live, lives_to}
+use Rattle.store.specs.Plain.{kept, put, release, list, compact, refused, given, done, listed, plain_step}
+use Rattle.store.specs.Marks.{handle_of, place_of, named, fresh, then_live, lives_to}
 
 -- a store of two: the lowest free handle, full, released, a dead handle, a handle used again, and the order put
 pub few-calls : answers (plain_step {A = ℕ} 2) [] (put 7 ∷ put 8 ∷ put 9 ∷ release 0 ∷ release 0 ∷ compact ∷ put 9 ∷ list ∷ [])

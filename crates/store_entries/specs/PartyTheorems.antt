@@ -11,7 +11,7 @@ use Rattle.store.specs.Slice.{Slice}
 use Rattle.store.specs.Plain.{Kept, has, Answer, refused, plain_step}
 use Rattle.store.specs.Lists.{Lists, Sized, lives_in, plain_of, list_step}
 use Rattle.store.specs.ListsLaws.{plain-length}
-use Rattle.store_party.specs.Parties.{part_of, rejoined, party_step}
+use Rattle.store_party.specs.Parties.{part_of, party_step}
 use Rattle.store_party.specs.PartiesLaws.{part-sized, rejoined-own, rejoined-other, rejoined-sized}
 use Rattle.store_party.specs.Ready.{share}
 use Rattle.store_entries.specs.StoreRows.{places, slice_rows, room_rows, party_rows}

@@ -1,5 +1,5 @@
 -- The entries `mask_store_put`, `mask_store_release`, `mask_store_list` and `mask_store_compact`: their refusals, their answers, and what the lent lists hold.
-use Rattle.std.specs.Prelude.{ℕ, Bool, not, ◌≡◌, List, [], ◌∷◌, ◌++◌, length, eqb}
+use Rattle.std.specs.Prelude.{ℕ, not, ◌≡◌, List, [], ◌∷◌, ◌++◌, length, eqb}
 use Rattle.basis.specs.declared.answer.CountAnswer.{CountAnswer}
 use Rattle.basis.specs.Refuse.{Row, row, first_of, answer}
 use Rattle.store.specs.Keys.{keyed}

@@ -1,21 +1,19 @@
 -- K9: "Whatever the sequence of calls, it answers as a plain list would", for every content of lists of up to 2,047 places, refused calls included; the whole table of
 -- an entry's refusals; and that a refusal leaves every list as it was.
-use Prim.Native.Nat.{ℕ, zero, suc, ◌*◌, ◌≤◌, ◌<◌}
-use Rattle.std.specs.Prelude.{Bool, true, false, not, ◌≡◌, refl, List, [], ◌∷◌, ◌++◌, length, get_or, T, eqb}
+use Prim.Native.Nat.{ℕ, zero, suc, ◌*◌, ◌≤◌}
+use Rattle.std.specs.Prelude.{◌≡◌, refl, List, [], ◌++◌, length, T, eqb}
 use Rattle.std.proofs.Math.Path.{sym}
-use Rattle.std.proofs.Common.{ap, ◌∙◌, arith, eqb-true, eq-eqb, ne_eqb}
-use Rattle.std.proofs.lemmas.Bool.{eqb-false}
+use Rattle.std.proofs.Common.{ap, ◌∙◌, arith}
 use Rattle.basis.specs.declared.answer.CountAnswer.{CountAnswer}
 use Rattle.basis.specs.Choice.{by-test}
-use Rattle.basis.specs.Refuse.{Row, row, first_of, answer, length_fault}
-use Rattle.basis.specs.RefuseLaws.{numbered, Clear, clear, clear_both, clear-left, first_found, first-later, length-ok, ok-length}
+use Rattle.basis.specs.Refuse.{first_of, answer}
+use Rattle.basis.specs.RefuseLaws.{numbered, Clear, clear, first_found, first-later, length-ok, ok-length}
 use Rattle.store.specs.Keys.{keyed}
-use Rattle.basis.specs.Machine.{Turn, turn, answers, after, Alike, all_alike, all-mean}
+use Rattle.basis.specs.Machine.{turn, answers, Alike, all_alike}
 use Rattle.store.specs.Slice.{Slice, Whole}
-use Rattle.store.specs.Plain.{Kept, has, put, release, list, compact, Answer, refused, given, done, listed, plain_step, free_handle}
+use Rattle.store.specs.Plain.{Answer, refused, given, done, listed}
 use Rattle.store.specs.Marks.{handle_of}
 use Rattle.store.specs.Lists.{Lists, Sized, lives_in, plain_of, list_step}
-use Rattle.store.specs.ListsLaws.{plain-length, plain-has, empty-plain}
 use Rattle.store.specs.Refines.{Sound, sound-put, sound-release, sound-list, sound-compact, alike}
 use Rattle.store_write.specs.Calls.{Rooms}
 use Rattle.store_party.specs.Parties.{part_of, party_step}

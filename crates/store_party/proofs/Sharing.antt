@@ -1,8 +1,8 @@
 -- A party's part lent to a call, and put back.
-use mathlib.Core.Path.{◌≡◌, refl, sym, ap, ◌∙◌}
+use mathlib.Core.Path.{◌≡◌, sym, ap, ◌∙◌}
 use mathlib.Core.Bool.{Bool, true, false, cond}
 use mathlib.Core.List.{List, ◌++◌, append_assoc}
-use Prim.Native.Nat.{ℕ, ◌+◌, ◌-◌, ◌*◌, ◌≤◌, ◌<◌}
+use Prim.Native.Nat.{ℕ, ◌+◌, ◌-◌, ◌*◌, ◌≤◌}
 use native.Mathlib.Omega.{arith}
 use lib.ListN.{length, take, drop}
 use lib.Seq.{paste, take_all, drop-drop}
@@ -21,7 +21,7 @@ use Rattle.store_write.specs.declared.keep.Handle.{Handle}
 use Rattle.store_write.specs.Calls.{Fit, PutFits, Turned, handle_as, ReleaseFits, Released, Rooms, rooms, shown, ListFits, Listed}
 use Rattle.store_party.specs.Parties.{part_of, rejoined, party_step}
 use Rattle.store_party.specs.PartiesLaws.{part-sized}
-use Rattle.store_party.specs.Ready.{share, Known, Begins, PartFits, PartPutFits, PartMarksFit, PartReleased, PartListFits, PartListed}
+use Rattle.store_party.specs.Ready.{Known, Begins, PartFits, PartPutFits, PartMarksFit, PartReleased, PartListFits, PartListed}
 
 -- where a part begins
 pub begins-first : (w p : ℕ) → p ≡ 0 → Begins w p 0

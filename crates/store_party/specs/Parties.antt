@@ -1,6 +1,6 @@
 -- Document 02, K10: "Another fleet shares the store." Party p has the places from cap * p up to cap * (p + 1) of every list, and a call of its own is a
 -- call on these alone: "Handles count within a party."
-use Rattle.std.specs.Prelude.{ℕ, ◌*◌, List}
+use Rattle.std.specs.Prelude.{ℕ, ◌*◌}
 use Rattle.std.proofs.Math.Seq.{paste}
 use Rattle.basis.specs.Machine.{Turn, turn}
 use Rattle.store.specs.Slice.{Slice}

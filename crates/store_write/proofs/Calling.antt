@@ -1,34 +1,33 @@
 -- What the calls are proved by.
 use mathlib.Core.Path.{◌≡◌, refl, sym, ap, ◌∙◌}
-use mathlib.Core.Bool.{Bool, true, false, not, cond}
+use mathlib.Core.Bool.{true, false}
 use mathlib.Core.List.{List, [], ◌∷◌, ◌++◌, map, flat_map}
-use Prim.Native.Nat.{ℕ, zero, suc, ◌+◌, ◌-◌, ◌*◌, ◌≤◌, ◌<◌}
+use Prim.Native.Nat.{ℕ, suc, ◌+◌, ◌-◌, ◌*◌, ◌≤◌, ◌<◌}
 use native.Mathlib.Omega.{arith}
 use native.Mathlib.Numerals.{add-one}
-use lib.ListN.{length, get_or, set, take, drop, replicate, length-set, length-map, length-replicate}
-use lib.Seq.{paste, take-suc-set, length-take-le}
+use lib.ListN.{length, get_or, set, take, drop, replicate, length-set, length-replicate}
+use lib.Seq.{paste, take-suc-set}
 use lib.Dec.{eqb}
 use lib.Ieee.{Float}
-use borrow.Author.Tests.{eqb-true, eqb-false, eq-eqb, ne_eqb}
+use borrow.Author.Tests.{eq-eqb, ne_eqb}
 use Rattle.basis.specs.All.{All}
-use Rattle.basis.specs.Choice.{by-test, clash}
 use Rattle.basis.specs.Number.{+0}
 use Rattle.basis.specs.Room.{room_of}
 use Rattle.store_write.specs.declared.keep.Handle.{Handle}
 use Rattle.store_write.specs.declared.keep.Handle.TheVariants.{Given, Full}
 use Rattle.store.specs.Keys.{keyed, without, lowest_from}
 use Rattle.store.specs.KeysLaws.{lowest-same, lowest-below}
-use Rattle.store.specs.Slice.{Slice, Whole}
-use Rattle.store.specs.Plain.{Kept, put, release, compact}
+use Rattle.store.specs.Slice.{Slice}
+use Rattle.store.specs.Plain.{put, compact}
 use Rattle.store.specs.Blocks.{block}
-use Rattle.store.specs.Marks.{most_places, mark_of, handle_of, place_of, named, lives_to, lives_of, filled}
-use Rattle.store.specs.MarksLaws.{named-handle, named-place, Proper, lives-proper, lives-most, zeros-at}
-use Rattle.store.specs.Lists.{Lists, lists, Sized, slice_at, kept_at, lives_in, plain_of, free_place, free_mark, written_at, put_in, marks_from, laid, compacted_in, list_step}
+use Rattle.store.specs.Marks.{most_places, mark_of, handle_of, place_of, lives_of, filled}
+use Rattle.store.specs.MarksLaws.{named-handle, named-place, Proper, lives-proper, zeros-at}
+use Rattle.store.specs.Lists.{Lists, lists, slice_at, kept_at, lives_in, plain_of, free_place, free_mark, written_at, put_in, marks_from, laid, compacted_in, list_step}
 use Rattle.store.specs.ListsLaws.{plain-length}
 use Rattle.store.specs.Ready.{Low, told, Told, LookedAll, Blank, MarksFit, number_from}
 use Rattle.store.specs.ReadyLaws.{told_none, told-some}
 use Rattle.store_gather.specs.Gather.{blocks_at, editions_at, LayFits, ShowFits, ShowHandles}
-use Rattle.store_write.specs.Calls.{Fit, PutFits, WriteFits, Wrote, Turned, handle_as, Released, Rooms, rooms, shown, ListFits, Listed}
+use Rattle.store_write.specs.Calls.{Fit, PutFits, WriteFits, Wrote, Turned, handle_as, Released, rooms, shown, ListFits, Listed}
 
 -- ---- before the marks are looked at: local arrays of zeros
 

@@ -1,5 +1,5 @@
 -- Document 02, K8: the winding number and the doubled signed area of an outline in whole microdegrees. Every number here is whole, without bound, so nothing is rounded.
-use Rattle.std.specs.Prelude.{ℕ, Bool, ◌&&◌, List, [], ◌∷◌, ℤ, pos, ◌+ℤ◌, ◌-ℤ◌, ◌*ℤ◌}
+use Rattle.std.specs.Prelude.{Bool, ◌&&◌, List, [], ◌∷◌, ℤ, pos, ◌+ℤ◌, ◌-ℤ◌, ◌*ℤ◌}
 use Rattle.std.specs.Int.Signed.{lt_z, le_z}
 use Rattle.basis.specs.Choice.{code_of}
 

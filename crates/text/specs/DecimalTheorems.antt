@@ -1,5 +1,5 @@
 -- The digits that are printed say the number: none is lost, and zeros in front say nothing.
-use Rattle.std.specs.Prelude.{ℕ, zero, suc, ◌+◌, ◌-◌, ◌*◌, ◌/◌, ◌%◌, ◌^◌, ◌<◌, ◌≡◌, refl, Bool, cond, List, [], ◌∷◌, ◌++◌, eqb, leb}
+use Rattle.std.specs.Prelude.{ℕ, zero, suc, ◌+◌, ◌-◌, ◌*◌, ◌/◌, ◌%◌, ◌^◌, ◌<◌, ◌≡◌, refl, Bool, cond, List, [], ◌∷◌, ◌++◌, eqb}
 use Rattle.std.proofs.Common.{arith, lt_of_lt_of_le, pow-suc, sym, ap, subst, ◌∙◌, leb→le, eqb-true}
 use Rattle.basis.specs.Choice.{by-test}
 use Rattle.text.specs.Decimal.{glyph_of, digits_of, trimmed}

@@ -20,7 +20,7 @@ use Rattle.outline.specs.Outline.{outline_at}
 use Rattle.view.specs.declared.data.ViewData.{ViewData}
 use Rattle.view.specs.View.{Fit, forward_at, turned_at, inverted_at, vertex_of, vertex_count, view_numbers}
 use Rattle.view.specs.ViewTheorems.{outline-passes}
-use Rattle.unmoved.specs.Unmoved.{same_bits, same_vertex, same_at, lowest_from, first_moved, Numbers, Vertices, BothFit}
+use Rattle.unmoved.specs.Unmoved.{same_bits, same_vertex, same_at, lowest_from, first_moved, Vertices, BothFit}
 
 -- ---- the numbers of a view's vertex: where all numbers handed in pass a test that does not look at signs, they pass it too
 module _ (p : Float → Bool) (even : (x : Float) → p (neg x) ≡ p x) (none : p +0 ≡ true) where

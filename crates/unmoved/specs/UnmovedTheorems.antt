@@ -1,6 +1,6 @@
 -- What "unmoved" says, so that a reader can trust the definitions of `Unmoved`. No code is proved by them. All hold forward and inverted: the direction is a field of the view.
 use Prim.Native.Nat.{ℕ, zero, suc, ◌+◌, ◌*◌, ◌≤◌, ◌<◌}
-use Rattle.std.specs.Prelude.{Bool, false, ◌&&◌, ◌≡◌, refl, List, ◌++◌, T, eqb, length, take, drop, Float}
+use Rattle.std.specs.Prelude.{Bool, false, ◌&&◌, ◌≡◌, refl, List, eqb, length, take, drop, Float}
 use Rattle.std.proofs.Math.Bool.{true}
 use Rattle.std.proofs.Math.Path.{sym, ap}
 use Rattle.std.proofs.Common.{subst, ◌∙◌, arith}
@@ -11,7 +11,6 @@ use Rattle.std.specs.Float.Ieee.Bits.{of_bits-to_bits}
 use borrow.Author.Tests.{eqb-true, eqb-false}
 use Rattle.basis.specs.All.{all_of}
 use Rattle.basis.specs.Choice.{by-test, clash, and_left, and_right}
-use Rattle.basis.specs.Each.{each_to}
 use Rattle.basis.specs.EachLaws.{each_at, at_each}
 use Rattle.basis.specs.Items.{first_items}
 use Rattle.basis.specs.ItemLaws.{items-length}

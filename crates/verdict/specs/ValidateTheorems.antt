@@ -1,11 +1,10 @@
 -- What the verdict "valid" says of a view's numbers. No code is proved by it.
-use Rattle.std.specs.Prelude.{ℕ, ◌<◌, Bool, true, false, List, ltb, Float}
+use Rattle.std.specs.Prelude.{ℕ, Bool, false, List, ltb, Float}
 use Rattle.std.proofs.Math.Path.{◌≡◌}
-use Rattle.std.proofs.Common.{sym, ◌∙◌, arith, ltb-false}
+use Rattle.std.proofs.Common.{arith, ltb-false}
 use Rattle.basis.specs.Choice.{by-test}
 use Rattle.view.specs.declared.data.ViewData.{ViewData}
 use Rattle.view.specs.View.{Fit}
-use Rattle.verdict.specs.declared.validate.ViewDataValidation.{ViewDataValidation}
 use Rattle.verdict.specs.declared.validate.ViewDataValidation.TheVariants as verdict
 use Rattle.verdict.specs.Validate.{Asked, verdict_of}
 use Rattle.verdict.specs.ValidateLaws.{asked-fit}

@@ -5,7 +5,6 @@ use Rattle.std.specs.Float.Ieee.{of_bits, sub, lt, le}
 use Rattle.basis.specs.All.{all_of}
 use Rattle.basis.specs.Number.{+0, one, abs_f, agree, within}
 use Rattle.basis.specs.Refuse.{first_of, answer, length_fault}
-use Rattle.outline.specs.declared.point.Point.{Point}
 use Rattle.outline.specs.Points.{points_agree}
 use Rattle.outline.specs.Outline.{vertex_at, wrap, outline_at}
 use Rattle.view.specs.Create.{near_vertex}

@@ -12,7 +12,7 @@ use Rattle.basis.specs.ItemLaws.{Filling, fill_none, fill_more, fill_end}
 use Rattle.outline.specs.declared.point.Vertex.{Vertex}
 use Rattle.outline.specs.Points.{vertex_numbers}
 use Rattle.view.specs.declared.data.ViewData.{ViewData}
-use Rattle.view.specs.View.{Fit, vertex_of, vertex_count, vertex_item, view_vertices, ListFit}
+use Rattle.view.specs.View.{vertex_of, vertex_count, vertex_item, view_vertices, ListFit}
 
 pub record Listing (o : List Float) (vc : ℕ) (v : ViewData) (entry room : List Float) (k : ℕ) : Type 0 where
   pub ahead : k ≤ vertex_count v

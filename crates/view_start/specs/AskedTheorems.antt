@@ -1,11 +1,9 @@
 -- Which split a view does not depend on, so that the host need not make it. No code is proved by these.
-use Rattle.std.specs.Prelude.{ℕ, true, false, ◌≡◌, List, Float}
+use Rattle.std.specs.Prelude.{ℕ, true, ◌≡◌, List, Float}
 use Rattle.std.proofs.Math.Path.{refl, sym, ap}
 use Rattle.std.proofs.Common.{◌∙◌, eq-eqb, ne_eqb}
-use Rattle.basis.specs.Choice.{by-test}
 use Rattle.basis.specs.declared.number.Tolerance.{Tolerance}
 use Rattle.outline.specs.declared.point.Point.{Point}
-use Rattle.outline.specs.declared.point.Vertex.{Vertex}
 use Rattle.outline.specs.Outline.{Segment}
 use Rattle.view.specs.declared.create.OneSegment.TheVariants as one
 use Rattle.view.specs.Create.{near_vertex, bulge_before, create_view}
@@ -13,7 +11,7 @@ use Rattle.view_span.specs.declared.span.Ends.{Ends}
 use Rattle.view_start.specs.declared.slice_points.Splits.{Splits}
 use Rattle.view_span.specs.Span.{span_of}
 use Rattle.view_start.specs.SlicePoints.{running_vertex, walk_over, collapses, walked_view, sliced_view, slice_view}
-use Rattle.view_start.specs.NewStart.{round_ends, round_view, new_start_view}
+use Rattle.view_start.specs.NewStart.{round_view, new_start_view}
 use Rattle.view_start.specs.StartTheorems.{start_of, round-on-vertex, view_fields}
 
 -- two pairs of splits for the same two points

@@ -1,19 +1,17 @@
 -- Theorems about `Span`, so that a reader can trust it. No code is proved by them.
 use Prim.Native.Nat.{ℕ, ◌+◌, ◌-◌, ◌≤◌, ◌<◌}
-use Rattle.std.specs.Prelude.{Bool, true, false, ◌≡◌, refl, List, leb, ltb, eqb, Float}
+use Rattle.std.specs.Prelude.{true, false, ◌≡◌, refl, List, leb, eqb, Float}
 use Rattle.std.proofs.Common.{sym, ap, ◌∙◌}
 use native.Mathlib.Omega.{arith}
-use borrow.Author.Tests.{leb-true, leb-false, ltb-true, eqb-true}
+use borrow.Author.Tests.{leb-true, leb-false, eqb-true}
 use Rattle.basis.specs.Choice.{by-test, and_left, and_right}
 use Rattle.basis.specs.declared.number.Tolerance.{Tolerance}
-use Rattle.outline.specs.declared.point.Point.{Point}
-use Rattle.outline.specs.Points.{pos_of, points_agree}
-use Rattle.outline.specs.Outline.{vertex_at, wrap, outline_at}
+use Rattle.outline.specs.Outline.{wrap, outline_at}
 use Rattle.outline.specs.OutlineLaws.{wrap-lt, wrap-same, wrap-less}
 use Rattle.view.specs.Create.{near_vertex}
 use Rattle.view_span.specs.declared.span.Ends.{Ends}
 use Rattle.view_span.specs.Span.{EndsFit, can_move, moves_on, start_index_of, ahead, decided, start_nearer, traverse, span_of}
-use Rattle.view_span.specs.SpanLaws.{start-lt, ahead-lt, span_fits}
+use Rattle.view_span.specs.SpanLaws.{start-lt, span_fits}
 
 -- one index is at most another, or it is above it
 by_order : {P : Type 0} (a b : ℕ) → (a ≤ b → P) → (b < a → P) → P

@@ -5,13 +5,11 @@ use Rattle.std.specs.Float.Ieee.{of_bits, add, sub, mul, lt}
 use Rattle.basis.specs.Number.{+0, abs_f, agree, alike}
 use Rattle.basis.specs.declared.number.Tolerance.{Tolerance}
 use Rattle.outline.specs.declared.point.Point.{Point}
-use Rattle.outline.specs.declared.point.Vertex.{Vertex}
 use Rattle.outline.specs.Points.{at_point, points_agree, dist_squared}
 use Rattle.outline.specs.Outline.{vertex_at, wrap, outline_at}
-use Rattle.view.specs.declared.data.ViewData.{ViewData}
 use Rattle.view.specs.declared.create.OneSegment.{OneSegment}
 use Rattle.view.specs.declared.create.OneSegment.TheVariants.{View, Collapsed}
-use Rattle.view.specs.Create.{view_of, near_vertex, bulge_before, create_view, single_view, entire_offset, entire_view}
+use Rattle.view.specs.Create.{view_of, near_vertex, bulge_before, create_view, single_view}
 use Rattle.view_span.specs.declared.span.Ends.{Ends}
 use Rattle.view_span.specs.declared.span.Span.{Span}
 use Rattle.view_span.specs.Span.{ends_of, can_move, moves_on, start_index_of, ahead, decided, start_nearer, traverse, span_with, span_of}

@@ -1,8 +1,8 @@
 -- Theorems about `SlicePoints` and `NewStart`, so that a reader can trust them. No code is proved by them.
-use Rattle.std.specs.Prelude.{ℕ, ◌+◌, ◌-◌, ◌≤◌, ◌<◌, Bool, ◌&&◌, ◌≡◌, ◌⊎◌, List, leb, eqb, Float}
+use Rattle.std.specs.Prelude.{ℕ, ◌+◌, ◌-◌, ◌<◌, Bool, ◌≡◌, ◌⊎◌, List, eqb, Float}
 use Rattle.std.proofs.Math.Bool.{true, false}
 use Rattle.std.proofs.Math.Path.{refl, ap, subst}
-use Rattle.std.proofs.Common.{sym, ap₂, ◌∙◌, inl, inr}
+use Rattle.std.proofs.Common.{sym, ◌∙◌, inl, inr}
 use native.Mathlib.Omega.{arith}
 use Rattle.std.proofs.Math.Dec.{ltb}
 use Rattle.std.specs.Float.Ieee.{lt}
@@ -16,14 +16,13 @@ use Rattle.outline.specs.declared.point.Point.{Point}
 use Rattle.outline.specs.declared.point.Vertex.{Vertex}
 use Rattle.outline.specs.Points.{pos_of, with_bulge, at_point, point_numbers, vertex_numbers, points_agree}
 use Rattle.outline.specs.Outline.{Whole, Segment, vertex_at, wrap, outline_at}
-use Rattle.outline.specs.OutlineLaws.{wrap-lt, wrap-same, wrap-less}
+use Rattle.outline.specs.OutlineLaws.{wrap-same, wrap-less}
 use Rattle.view.specs.declared.data.ViewData.{ViewData}
 use Rattle.view.specs.declared.create.Walk.{Walk}
-use Rattle.view.specs.declared.create.OneSegment.{OneSegment}
 use Rattle.view.specs.declared.create.OneSegment.TheVariants as one
 use Rattle.view.specs.View.{Fit, vertex_of, view_numbers}
-use Rattle.view.specs.Create.{WalkFit, view_of, near_vertex, bulge_before, create_view, single_view, entire_offset, entire_view}
-use Rattle.view.specs.ViewTheorems.{OneBulge, forward-first, forward-inner, forward-last, forward-beyond, create-on-vertex, create-between, create-fits, create-bulges, outline-passes, place-passes, create-numbers, single-fits, single-bulges, single-numbers}
+use Rattle.view.specs.Create.{view_of, near_vertex, bulge_before, create_view, single_view, entire_offset, entire_view}
+use Rattle.view.specs.ViewTheorems.{OneBulge, forward-first, forward-inner, forward-last, forward-beyond, create-fits, create-bulges, outline-passes, place-passes, create-numbers, single-fits, single-bulges, single-numbers}
 use Rattle.view_span.specs.declared.span.Ends.{Ends}
 use Rattle.view_span.specs.declared.span.Span.{Span}
 use Rattle.view_start.specs.declared.slice_points.Splits.{Splits}
@@ -31,8 +30,8 @@ use Rattle.view_span.specs.Span.{EndsFit, can_move, moves_on, start_index_of, ah
 use Rattle.view_span.specs.SpanLaws.{ahead-lt, span_fits}
 use Rattle.view_start.specs.WalkLaws.{walk-fits, last-ends, round-ends}
 use Rattle.view_start.specs.SlicePoints.{running_vertex, walk_from, walk_over, collapses, walked_view, sliced_view, slice_view}
-use Rattle.view_start.specs.NewStart.{round_ends, last_ends, round_walk, round_view, new_start_view}
-use Rattle.view_start.specs.SpanTheorems.{ahead-up, ahead-arrives, ahead_none, span-starts, moved-stands}
+use Rattle.view_start.specs.NewStart.{round_ends, last_ends, round_view, new_start_view}
+use Rattle.view_start.specs.SpanTheorems.{ahead-up, ahead-arrives, ahead_none, span-starts}
 
 running-pass : (q : Float → Bool) (o : List Float) (vc : ℕ) (s : Span) (split : Vertex) → Whole o vc → all_of q o ≡ true → all_of q (vertex_numbers split) ≡ true
     → all_of q (vertex_numbers (running_vertex o vc s split)) ≡ true

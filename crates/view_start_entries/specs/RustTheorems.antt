@@ -1,33 +1,31 @@
 -- The definitions of `view_start` are the Rust's text, where the host splits as it is asked.
-use Rattle.std.specs.Prelude.{ℕ, ◌+◌, ◌-◌, ◌≤◌, ◌<◌, Bool, not, cond, ◌&&◌, ◌||◌, ◌≡◌, List, leb, ltb, eqb, Float}
+use Rattle.std.specs.Prelude.{ℕ, ◌+◌, ◌-◌, ◌≤◌, ◌<◌, Bool, not, cond, ◌&&◌, ◌≡◌, List, leb, ltb, eqb, Float}
 use Rattle.std.proofs.Math.Bool.{true, false}
 use Rattle.std.proofs.Math.Path.{refl, ap}
-use Rattle.std.proofs.Common.{sym, ap₂, subst, ◌∙◌, arith}
-use borrow.Author.Tests.{leb-true, leb-false, eqb-true, eqb-false, lt-ltb, le-ltb, eq-eqb, ne_eqb}
+use Rattle.std.proofs.Common.{sym, ap₂, ◌∙◌, arith}
+use borrow.Author.Tests.{leb-true, leb-false, eqb-true, eqb-false, lt-ltb, le-ltb}
 use Rattle.basis.specs.Choice.{by-test}
 use Rattle.basis.specs.declared.number.Tolerance.{Tolerance}
 use Rattle.basis.specs.OrderLaws.{agree-sym}
 use Rattle.outline.specs.declared.point.Point.{Point}
 use Rattle.outline.specs.declared.point.Vertex.{Vertex}
 use Rattle.outline.specs.Points.{pos_of, points_agree}
-use Rattle.outline.specs.Outline.{Whole, Segment, vertex_at, wrap, outline_at}
+use Rattle.outline.specs.Outline.{Segment, vertex_at, wrap, outline_at}
 use Rattle.outline.specs.OutlineLaws.{wrap-same, wrap-less}
-use Rattle.view.specs.declared.data.ViewData.{ViewData}
 use Rattle.view.specs.declared.create.Walk.{Walk}
-use Rattle.view.specs.declared.create.OneSegment.{OneSegment}
 use Rattle.view.specs.declared.create.OneSegment.TheVariants as one
-use Rattle.view.specs.Create.{view_of, near_vertex, bulge_before, create_view, single_view}
+use Rattle.view.specs.Create.{near_vertex, bulge_before, create_view, single_view}
 use Rattle.view_span.specs.declared.span.Ends.{Ends}
 use Rattle.view_span.specs.declared.span.Span.{Span}
 use Rattle.view_start.specs.declared.slice_points.Splits.{Splits}
 use Rattle.view_span.specs.Span.{EndsFit, ends_of, can_move, moves_on, start_index_of, ahead, decided, start_nearer, traverse, span_with, span_of}
 use Rattle.view_span.specs.SpanLaws.{start-lt}
 use Rattle.view_start.specs.WalkLaws.{last-ends}
-use Rattle.view_start.specs.SlicePoints.{running_vertex, walk_from, walk_over, collapses, walked_view, sliced_view, slice_view}
-use Rattle.view_start.specs.NewStart.{round_ends, last_ends, new_ends, round_view, new_start_view}
+use Rattle.view_start.specs.SlicePoints.{running_vertex, walk_over, collapses, walked_view, sliced_view, slice_view}
+use Rattle.view_start.specs.NewStart.{round_ends, new_ends, round_view, new_start_view}
 use Rattle.view_start.specs.StartTheorems.{view_fields, start_of, start-below, round-on-vertex, round-between}
 use Rattle.view_start.specs.SpanTheorems.{ahead-up, ahead-round}
-use Rattle.view_start.specs.Asked.{Asked, Parts, asked, start_asked, end_asked, handed_in}
+use Rattle.view_start.specs.Asked.{Asked, Parts, asked, end_asked, handed_in}
 use Rattle.view_start_entries.specs.RustText as rust
 
 -- points agree either way round

@@ -7,7 +7,6 @@ use Rattle.basis.specs.Number.{+0, abs_f, within, tolerable_on, tolerable, alike
 use Rattle.basis.specs.declared.number.Tolerance.{Tolerance}
 use Rattle.basis.specs.Refuse.{first_of, length_fault, size_fault}
 use Rattle.outline.specs.declared.point.Point.{Point}
-use Rattle.outline.specs.declared.point.Vertex.{Vertex}
 use Rattle.view_entries.specs.declared.input.Split.{Split}
 use Rattle.view_span.specs.declared.span.Ends.{Ends}
 use Rattle.view_span.specs.Span.{ends_of}

@@ -1,17 +1,16 @@
 -- Theorems about the entries for starting anywhere. No code is proved by them.
-use Rattle.std.specs.Prelude.{ℕ, ◌-◌, Bool, true, false, not, ◌≡◌, List, ◌++◌, eqb, Float}
+use Rattle.std.specs.Prelude.{ℕ, ◌-◌, Bool, true, false, not, ◌≡◌, List, eqb, Float}
 use Rattle.std.proofs.Math.Path.{refl, ap}
 use Rattle.std.proofs.Common.{sym, ◌∙◌, arith, le-ltb}
 use Rattle.std.proofs.lemmas.Bool.{lt-leb, not-false}
 use Rattle.basis.specs.Choice.{code_of}
-use Rattle.basis.specs.All.{all_of, all-at, all_append}
+use Rattle.basis.specs.All.{all_of, all-at}
 use Rattle.basis.specs.Number.{+0, within, all_within}
 use Rattle.basis.specs.declared.number.Tolerance.{Tolerance}
-use Rattle.basis.specs.Refuse.{answer, choice_fault}
+use Rattle.basis.specs.Refuse.{choice_fault}
 use Rattle.basis.specs.RefuseLaws.{clear, none-clear, ok-length, ok-size, answer-accepted}
 use Rattle.outline.specs.declared.point.Point.{Point}
-use Rattle.outline.specs.declared.point.Vertex.{Vertex}
-use Rattle.outline.specs.Points.{pos_of, point_numbers, vertex_numbers}
+use Rattle.outline.specs.Points.{point_numbers, vertex_numbers}
 use Rattle.view.specs.declared.data.ViewData.{ViewData}
 use Rattle.view.specs.declared.create.OneSegment.TheVariants as one
 use Rattle.view.specs.View.{Fit, view_numbers}

@@ -1,5 +1,4 @@
-use lib.ListN.{length}
-use Rattle.area.proofs.Listing.{Listing, listing}
+use Rattle.area.proofs.Listing.{listing}
 use borrow.Author.Rules.{rules}
 use Prim.Native.Nat.{◌-◌}
 use Rattle.area.proofs.write_kept.Goals as goal

@@ -1,6 +1,5 @@
 use lib.ListN.{length}
-use Rattle.area.proofs.Listing.{Listing, listing}
-use borrow.Author.Rules.{rules}
+use Rattle.area.proofs.Listing.{Listing}
 use Prim.Native.Nat.{◌-◌}
 use Rattle.area.proofs.write_kept.Given as goal
 

@@ -1,5 +1,5 @@
 use Prim.Native.Nat.{◌-◌}
-use Rattle.basis.specs.RoomLaws.{Clearing, clearing}
+use Rattle.basis.specs.RoomLaws.{clearing}
 use borrow.Author.Rules.{rules}
 use Rattle.store_gather.proofs.clear_editions.Goals as goal
 

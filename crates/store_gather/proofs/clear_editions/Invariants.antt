@@ -1,6 +1,5 @@
 use Prim.Native.Nat.{◌-◌}
-use Rattle.basis.specs.RoomLaws.{Clearing, clearing}
-use borrow.Author.Rules.{rules}
+use Rattle.basis.specs.RoomLaws.{Clearing}
 use Rattle.store_gather.proofs.clear_editions.Given as goal
 
 abbrev pub invariant-loop-i : goal.invariant-loop-i

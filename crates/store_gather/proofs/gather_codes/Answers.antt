@@ -1,7 +1,5 @@
 use Prim.Native.Nat.{◌-◌}
-use lib.ListN.{take}
-use Rattle.store_gather.specs.Gather.{blocks_at}
-use Rattle.store_gather.proofs.Gathering.{Gathering, gather_none, gather-fits, gather-more, gather-end}
+use Rattle.store_gather.proofs.Gathering.{gather_none, gather-fits, gather-more, gather-end}
 use borrow.Author.Rules.{rules}
 use Rattle.store_gather.proofs.gather_codes.Goals as goal
 

@@ -1,8 +1,7 @@
 use Prim.Native.Nat.{◌-◌}
 use lib.ListN.{take}
 use Rattle.store_gather.specs.Gather.{blocks_at}
-use Rattle.store_gather.proofs.Gathering.{Gathering, gather_none, gather-fits, gather-more, gather-end}
-use borrow.Author.Rules.{rules}
+use Rattle.store_gather.proofs.Gathering.{Gathering}
 use Rattle.store_gather.proofs.gather_codes.Given as goal
 
 abbrev pub invariant-loop-k : goal.invariant-loop-k

@@ -1,5 +1,5 @@
 use Prim.Native.Nat.{◌-◌}
-use Rattle.store_gather.proofs.Gathering.{Mapping, mapping-none, edition_at, editions-below, editions-more, editions-end}
+use Rattle.store_gather.proofs.Gathering.{mapping-none, editions-below, editions-more, editions-end}
 use borrow.Author.Rules.{rules}
 use Rattle.store_gather.proofs.gather_editions.Goals as goal
 

@@ -1,6 +1,5 @@
 use Prim.Native.Nat.{◌-◌}
-use Rattle.store_gather.proofs.Gathering.{Mapping, mapping-none, edition_at, editions-below, editions-more, editions-end}
-use borrow.Author.Rules.{rules}
+use Rattle.store_gather.proofs.Gathering.{Mapping, edition_at}
 use Rattle.store_gather.proofs.gather_editions.Given as goal
 
 abbrev pub invariant-loop-k : goal.invariant-loop-k

@@ -1,6 +1,5 @@
 use Prim.Native.Nat.{◌-◌}
-use Rattle.store.specs.Marks.{handle_of}
-use Rattle.store_gather.proofs.Gathering.{Mapping, mapping-none, handles-more, handles-end}
+use Rattle.store_gather.proofs.Gathering.{mapping-none, handles-more, handles-end}
 use borrow.Author.Rules.{rules}
 use Rattle.store_gather.proofs.gather_handles.Goals as goal
 

@@ -1,7 +1,6 @@
 use Prim.Native.Nat.{◌-◌}
 use Rattle.store.specs.Marks.{handle_of}
-use Rattle.store_gather.proofs.Gathering.{Mapping, mapping-none, handles-more, handles-end}
-use borrow.Author.Rules.{rules}
+use Rattle.store_gather.proofs.Gathering.{Mapping}
 use Rattle.store_gather.proofs.gather_handles.Given as goal
 
 abbrev pub invariant-loop-k : goal.invariant-loop-k

@@ -1,5 +1,4 @@
 use Rattle.straight_report.specs.ReportLaws.{cut-outline}
-use borrow.Author.Rules.{rules}
 use Rattle.straight_report.proofs.area_between.Goals as goal
 
 pub area_of-requires : goal.area_of-requires

@@ -1,9 +1,7 @@
 use borrow.Author.Rules.{rules}
-use Prim.Native.Nat.{◌≤◌, ◌-◌}
-use mathlib.Core.Path.{◌≡◌, refl}
-use lib.ListN.{length, take}
+use Prim.Native.Nat.{◌-◌}
+use mathlib.Core.Path.{refl}
 use Rattle.basis.specs.All.{all_of, scan}
-use Rattle.basis.specs.Number.{finite}
 use Rattle.area_entries.proofs.areas.all_finite.Goals as goal
 
 pub loop-i-init : goal.loop-i-init

@@ -1,8 +1,7 @@
-use borrow.Author.Rules.{rules}
 use Prim.Native.Nat.{◌≤◌, ◌-◌}
-use mathlib.Core.Path.{◌≡◌, refl}
+use mathlib.Core.Path.{◌≡◌}
 use lib.ListN.{length, take}
-use Rattle.basis.specs.All.{all_of, scan}
+use Rattle.basis.specs.All.{all_of}
 use Rattle.basis.specs.Number.{finite}
 use Rattle.area_entries.proofs.areas.all_finite.Given as goal
 

@@ -1,5 +1,5 @@
 use Prim.Native.Nat.{◌-◌}
-use Rattle.candidate.proofs.Seeking.{Seeking, seeking}
+use Rattle.candidate.proofs.Seeking.{seeking}
 use borrow.Author.Rules.{rules}
 use Rattle.candidate.proofs.next.traverse_count.Goals as goal
 

@@ -1,6 +1,5 @@
 use Prim.Native.Nat.{◌-◌}
-use Rattle.candidate.proofs.Seeking.{Seeking, seeking}
-use borrow.Author.Rules.{rules}
+use Rattle.candidate.proofs.Seeking.{Seeking}
 use Rattle.candidate.proofs.next.traverse_count.Given as goal
 
 abbrev pub invariant-loop-i : goal.invariant-loop-i

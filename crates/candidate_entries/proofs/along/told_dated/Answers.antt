@@ -1,5 +1,4 @@
 use Rattle.candidate_entries.proofs.Finding.{editions-ready}
-use borrow.Author.Rules.{rules}
 use Rattle.candidate_entries.proofs.along.told_dated.Goals as goal
 
 pub write_editions-requires : goal.write_editions-requires

@@ -2,7 +2,6 @@ use Prim.Native.Nat.{ℕ}
 use lib.ListN.{length-replicate}
 use Rattle.basis.specs.Number.{+0}
 use Rattle.candidate_lists.proofs.Finding.{most-lists}
-use borrow.Author.Rules.{rules}
 use Rattle.candidate_lists.proofs.found.found_many.Goals as goal
 
 pub found_with-requires : goal.found_with-requires

@@ -1,5 +1,4 @@
 use Rattle.candidate_lists.proofs.Finding.{told-ready, told-written}
-use borrow.Author.Rules.{rules}
 use Rattle.candidate_lists.proofs.told.sought.Goals as goal
 
 pub write_candidates-requires : goal.write_candidates-requires

@@ -1,8 +1,5 @@
 use Prim.Native.Nat.{◌-◌}
-use Rattle.cut.specs.Cuts.{given}
-use Rattle.candidate.specs.Ready.{rooms}
-use Rattle.candidate.specs.Told.{along}
-use Rattle.candidate_write.proofs.Writing.{Upto, uptos, upto_turn}
+use Rattle.candidate_write.proofs.Writing.{uptos, upto_turn}
 use borrow.Author.Rules.{rules}
 use Rattle.candidate_write.proofs.write.write_items.Goals as goal
 

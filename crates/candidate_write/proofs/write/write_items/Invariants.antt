@@ -2,8 +2,7 @@ use Prim.Native.Nat.{◌-◌}
 use Rattle.cut.specs.Cuts.{given}
 use Rattle.candidate.specs.Ready.{rooms}
 use Rattle.candidate.specs.Told.{along}
-use Rattle.candidate_write.proofs.Writing.{Upto, uptos, upto_turn}
-use borrow.Author.Rules.{rules}
+use Rattle.candidate_write.proofs.Writing.{Upto}
 use Rattle.candidate_write.proofs.write.write_items.Given as goal
 
 abbrev pub invariant-loop-p : goal.invariant-loop-p

@@ -1,6 +1,5 @@
 use Prim.Native.Nat.{◌-◌}
-use Rattle.cut.specs.Cuts.{given}
-use Rattle.cut_order.proofs.Following.{Following, follow-arrival, following}
+use Rattle.cut_order.proofs.Following.{follow-arrival, following}
 use borrow.Author.Rules.{rules}
 use Rattle.cut_order.proofs.along.is_along.Goals as goal
 

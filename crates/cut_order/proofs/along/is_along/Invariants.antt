@@ -1,7 +1,6 @@
 use Prim.Native.Nat.{◌-◌}
 use Rattle.cut.specs.Cuts.{given}
-use Rattle.cut_order.proofs.Following.{Following, follow-arrival, following}
-use borrow.Author.Rules.{rules}
+use Rattle.cut_order.proofs.Following.{Following}
 use Rattle.cut_order.proofs.along.is_along.Given as goal
 
 abbrev pub invariant-loop-i : goal.invariant-loop-i

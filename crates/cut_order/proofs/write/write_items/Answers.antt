@@ -1,6 +1,5 @@
 use Prim.Native.Nat.{◌-◌}
-use Rattle.cut.specs.Cuts.{given}
-use Rattle.cut_order.proofs.Writing.{Writing, writing}
+use Rattle.cut_order.proofs.Writing.{writing}
 use borrow.Author.Rules.{rules}
 use Rattle.cut_order.proofs.write.write_items.Goals as goal
 

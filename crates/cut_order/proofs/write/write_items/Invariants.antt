@@ -1,7 +1,6 @@
 use Prim.Native.Nat.{◌-◌}
 use Rattle.cut.specs.Cuts.{given}
-use Rattle.cut_order.proofs.Writing.{Writing, writing}
-use borrow.Author.Rules.{rules}
+use Rattle.cut_order.proofs.Writing.{Writing}
 use Rattle.cut_order.proofs.write.write_items.Given as goal
 
 abbrev pub invariant-loop-i : goal.invariant-loop-i

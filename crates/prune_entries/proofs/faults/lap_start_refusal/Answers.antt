@@ -1,5 +1,4 @@
 use Rattle.basis.specs.RefuseLaws.{need-stops, need-passes, rows_end}
-use borrow.Author.Rules.{rules}
 use mathlib.Core.Path.{ap}
 use mathlib.Core.Bool.{not}
 use Rattle.prune_entries.proofs.faults.lap_start_refusal.Goals as goal

@@ -1,5 +1,4 @@
 use Rattle.basis.specs.RefuseLaws.{then-rows}
-use borrow.Author.Rules.{rules}
 use Rattle.prune_entries.proofs.faults.lent_refusal.Goals as goal
 
 pub returns : goal.returns

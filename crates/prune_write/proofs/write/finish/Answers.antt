@@ -1,4 +1,3 @@
-use borrow.Author.Rules.{rules}
 use Rattle.prune_write.specs.WriteLaws.{finished-of}
 use Rattle.prune_write.proofs.write.finish.Goals as goal
 

@@ -1,8 +1,6 @@
 use borrow.Author.Rules.{rules}
 use Prim.Native.Nat.{◌-◌}
-use Rattle.slice.specs.Ready.{rooms}
-use Rattle.prune.specs.Prune.{cands}
-use Rattle.prune_write.specs.WriteLaws.{Keeping, keeping}
+use Rattle.prune_write.specs.WriteLaws.{keeping}
 use Rattle.prune_write.proofs.write.write_kept.Goals as goal
 
 pub loop-i-init : goal.loop-i-init

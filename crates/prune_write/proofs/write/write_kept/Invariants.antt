@@ -1,8 +1,7 @@
-use borrow.Author.Rules.{rules}
 use Prim.Native.Nat.{◌-◌}
 use Rattle.slice.specs.Ready.{rooms}
 use Rattle.prune.specs.Prune.{cands}
-use Rattle.prune_write.specs.WriteLaws.{Keeping, keeping}
+use Rattle.prune_write.specs.WriteLaws.{Keeping}
 use Rattle.prune_write.proofs.write.write_kept.Given as goal
 
 abbrev pub invariant-loop-i : goal.invariant-loop-i

@@ -1,8 +1,6 @@
 use borrow.Author.Rules.{rules}
 use Prim.Native.Nat.{◌-◌}
-use Rattle.slice.specs.Ready.{rooms}
-use Rattle.prune.specs.Prune.{overlaps}
-use Rattle.prune_write.specs.WriteLaws.{Lapping, lapping}
+use Rattle.prune_write.specs.WriteLaws.{lapping}
 use Rattle.prune_write.proofs.write.write_laps.Goals as goal
 
 pub loop-j-init : goal.loop-j-init

@@ -1,8 +1,7 @@
-use borrow.Author.Rules.{rules}
 use Prim.Native.Nat.{◌-◌}
 use Rattle.slice.specs.Ready.{rooms}
 use Rattle.prune.specs.Prune.{overlaps}
-use Rattle.prune_write.specs.WriteLaws.{Lapping, lapping}
+use Rattle.prune_write.specs.WriteLaws.{Lapping}
 use Rattle.prune_write.proofs.write.write_laps.Given as goal
 
 abbrev pub invariant-loop-j : goal.invariant-loop-j

@@ -1,4 +1,3 @@
-use borrow.Author.Rules.{rules}
 use Rattle.record.proofs.Heading.{counted}
 use Rattle.record.proofs.head.count_refusal.Goals as goal
 

@@ -1,4 +1,3 @@
-use borrow.Author.Rules.{rules}
 use Rattle.basis.specs.RefuseLaws.{rows}
 use Rattle.record.proofs.Heading.{then-slices}
 use Rattle.record.proofs.head.room_refusal.Goals as goal

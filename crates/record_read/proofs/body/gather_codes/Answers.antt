@@ -1,6 +1,6 @@
 use borrow.Author.Rules.{rules}
 use native.Mathlib.Omega.{arith}
-use Rattle.record_read.proofs.Gathering.{Gathering, same, gathering-none, gathering-row, gathering-room, gathering-copy, gathering-codes, gathered-codes}
+use Rattle.record_read.proofs.Gathering.{gathering-none, gathering-row, gathering-room, gathering-copy, gathering-codes, gathered-codes}
 use Rattle.record_read.proofs.body.gather_codes.Goals as goal
 
 pub loop-left-init : goal.loop-left-init

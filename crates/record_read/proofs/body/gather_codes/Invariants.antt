@@ -1,6 +1,4 @@
-use borrow.Author.Rules.{rules}
-use native.Mathlib.Omega.{arith}
-use Rattle.record_read.proofs.Gathering.{Gathering, same, gathering-none, gathering-row, gathering-room, gathering-copy, gathering-codes, gathered-codes}
+use Rattle.record_read.proofs.Gathering.{Gathering, same}
 use Rattle.record_read.proofs.body.gather_codes.Given as goal
 
 abbrev pub invariant-loop-left : goal.invariant-loop-left

@@ -1,6 +1,6 @@
 use borrow.Author.Rules.{rules}
 use native.Mathlib.Omega.{arith}
-use Rattle.record_read.proofs.Gathering.{Dating, dating-none, dating-row, dating-place, dating-room, dating-short, dating-more, dating-end}
+use Rattle.record_read.proofs.Gathering.{dating-none, dating-row, dating-place, dating-room, dating-short, dating-more, dating-end}
 use Rattle.record_read.proofs.body.gather_editions.Goals as goal
 
 pub loop-left-init : goal.loop-left-init

@@ -1,6 +1,4 @@
-use borrow.Author.Rules.{rules}
-use native.Mathlib.Omega.{arith}
-use Rattle.record_read.proofs.Gathering.{Dating, dating-none, dating-row, dating-place, dating-room, dating-short, dating-more, dating-end}
+use Rattle.record_read.proofs.Gathering.{Dating}
 use Rattle.record_read.proofs.body.gather_editions.Given as goal
 
 abbrev pub invariant-loop-left : goal.invariant-loop-left

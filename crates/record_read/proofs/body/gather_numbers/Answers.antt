@@ -1,7 +1,6 @@
 use borrow.Author.Rules.{rules}
 use native.Mathlib.Omega.{arith}
-use Rattle.fields.specs.Fields.{num_of}
-use Rattle.record_read.proofs.Gathering.{Gathering, gathering-none, gathering-row, gathering-room, gathering-copy, gathering-more, gathering-end}
+use Rattle.record_read.proofs.Gathering.{gathering-none, gathering-row, gathering-room, gathering-copy, gathering-more, gathering-end}
 use Rattle.record_read.proofs.body.gather_numbers.Goals as goal
 
 pub loop-left-init : goal.loop-left-init

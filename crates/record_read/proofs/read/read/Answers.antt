@@ -1,4 +1,3 @@
-use borrow.Author.Rules.{rules}
 use Rattle.record_read.proofs.Reading.{form-there, read_named}
 use Rattle.record_read.proofs.read.read.Goals as goal
 

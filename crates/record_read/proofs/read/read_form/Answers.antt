@@ -1,4 +1,3 @@
-use borrow.Author.Rules.{rules}
 use Rattle.record_read.proofs.Reading.{frame-fault, head-there, whole-fault, body-fit, read-refused, read-filled}
 use Rattle.record_read.proofs.read.read_form.Goals as goal
 

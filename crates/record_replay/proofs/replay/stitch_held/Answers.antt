@@ -1,4 +1,3 @@
-use borrow.Author.Rules.{rules}
 use native.Mathlib.Omega.{arith}
 use Rattle.record_replay.proofs.ReplayLaws.{fronts-of}
 use Rattle.record_replay.proofs.replay.stitch_held.Goals as goal

@@ -1,6 +1,6 @@
 use borrow.Author.Rules.{rules}
 use Prim.Native.Nat.{◌-◌}
-use Rattle.record_values.proofs.Mixing.{Mixing, mixing-none, mixing-codes, mixing-numbers, mixing-date, mixing-place, mixing-more, mixing-end}
+use Rattle.record_values.proofs.Mixing.{mixing-none, mixing-codes, mixing-numbers, mixing-date, mixing-place, mixing-more, mixing-end}
 use Rattle.record_values.proofs.values.mix_slices.Goals as goal
 
 pub loop-k-init : goal.loop-k-init

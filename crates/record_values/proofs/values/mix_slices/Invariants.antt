@@ -1,6 +1,5 @@
-use borrow.Author.Rules.{rules}
 use Prim.Native.Nat.{◌-◌}
-use Rattle.record_values.proofs.Mixing.{Mixing, mixing-none, mixing-codes, mixing-numbers, mixing-date, mixing-place, mixing-more, mixing-end}
+use Rattle.record_values.proofs.Mixing.{Mixing}
 use Rattle.record_values.proofs.values.mix_slices.Given as goal
 
 abbrev pub invariant-loop-k : goal.invariant-loop-k

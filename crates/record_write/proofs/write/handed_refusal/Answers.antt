@@ -1,4 +1,3 @@
-use borrow.Author.Rules.{rules}
 use Rattle.basis.specs.RefuseLaws.{then-rows}
 use Rattle.record_write.proofs.write.handed_refusal.Goals as goal
 

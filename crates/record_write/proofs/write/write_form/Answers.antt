@@ -1,4 +1,3 @@
-use borrow.Author.Rules.{rules}
 use native.Mathlib.Omega.{arith}
 use Rattle.record_write.proofs.Keeping.{keep-fault, kept-sized, room-fault, no-fault, kept-all, write-refused, write-given}
 use Rattle.record_write.proofs.write.write_form.Goals as goal

@@ -1,4 +1,3 @@
-use borrow.Author.Rules.{rules}
 use mathlib.Core.Path.{refl}
 use Rattle.record_write.proofs.Keeping.{kept-packs, kept-written}
 use Rattle.record_write.proofs.write.write_kept.Goals as goal

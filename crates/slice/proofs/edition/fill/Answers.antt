@@ -1,6 +1,6 @@
 use borrow.Author.Rules.{rules}
 use Prim.Native.Nat.{◌-◌}
-use Rattle.basis.specs.RoomLaws.{Clearing, clearing}
+use Rattle.basis.specs.RoomLaws.{clearing}
 use Rattle.slice.proofs.edition.fill.Goals as goal
 
 pub loop-i-init : goal.loop-i-init

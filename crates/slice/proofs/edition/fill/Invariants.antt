@@ -1,6 +1,5 @@
-use borrow.Author.Rules.{rules}
 use Prim.Native.Nat.{◌-◌}
-use Rattle.basis.specs.RoomLaws.{Clearing, clearing}
+use Rattle.basis.specs.RoomLaws.{Clearing}
 use Rattle.slice.proofs.edition.fill.Given as goal
 
 abbrev pub invariant-loop-i : goal.invariant-loop-i

@@ -3,8 +3,7 @@ use Prim.Native.Nat.{◌-◌}
 use native.Mathlib.Omega.{arith}
 use Rattle.basis.specs.EachLaws.{item-few}
 use Rattle.slice.specs.Slice.{code_width}
-use Rattle.slice.specs.Faults.{start_inside}
-use Rattle.slice.proofs.Looking.{Looked, look-more, looking}
+use Rattle.slice.proofs.Looking.{look-more, looking}
 use Rattle.slice.proofs.faults.starts_inside.Goals as goal
 
 pub loop-i-init : goal.loop-i-init

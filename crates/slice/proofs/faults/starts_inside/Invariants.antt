@@ -1,10 +1,6 @@
-use borrow.Author.Rules.{rules}
 use Prim.Native.Nat.{◌-◌}
-use native.Mathlib.Omega.{arith}
-use Rattle.basis.specs.EachLaws.{item-few}
-use Rattle.slice.specs.Slice.{code_width}
 use Rattle.slice.specs.Faults.{start_inside}
-use Rattle.slice.proofs.Looking.{Looked, look-more, looking}
+use Rattle.slice.proofs.Looking.{Looked}
 use Rattle.slice.proofs.faults.starts_inside.Given as goal
 
 abbrev pub invariant-loop-i : goal.invariant-loop-i

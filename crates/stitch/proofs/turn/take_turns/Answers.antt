@@ -1,8 +1,6 @@
 use borrow.Author.Rules.{rules}
 use Prim.Native.Nat.{◌-◌}
-use Rattle.stitch_run.specs.Stitch.{given}
-use Rattle.stitch.specs.Lent.{lists}
-use Rattle.stitch.proofs.Writing.{Turning, turns-turn, turning}
+use Rattle.stitch.proofs.Writing.{turns-turn, turning}
 use Rattle.stitch.proofs.turn.take_turns.Goals as goal
 
 pub loop-i-init : goal.loop-i-init

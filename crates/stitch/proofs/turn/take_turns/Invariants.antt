@@ -1,8 +1,7 @@
-use borrow.Author.Rules.{rules}
 use Prim.Native.Nat.{◌-◌}
 use Rattle.stitch_run.specs.Stitch.{given}
 use Rattle.stitch.specs.Lent.{lists}
-use Rattle.stitch.proofs.Writing.{Turning, turns-turn, turning}
+use Rattle.stitch.proofs.Writing.{Turning}
 use Rattle.stitch.proofs.turn.take_turns.Given as goal
 
 abbrev pub invariant-loop-i : goal.invariant-loop-i

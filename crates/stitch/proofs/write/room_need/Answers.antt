@@ -1,6 +1,6 @@
 use borrow.Author.Rules.{rules}
 use Prim.Native.Nat.{◌-◌}
-use Rattle.stitch.proofs.Writing.{Summing, sum-offset, summing}
+use Rattle.stitch.proofs.Writing.{sum-offset, summing}
 use Rattle.stitch.proofs.write.room_need.Goals as goal
 
 pub returns-then-count-eq0 : goal.returns-then-count-eq0

@@ -1,6 +1,5 @@
-use borrow.Author.Rules.{rules}
 use Prim.Native.Nat.{◌-◌}
-use Rattle.stitch.proofs.Writing.{Summing, sum-offset, summing}
+use Rattle.stitch.proofs.Writing.{Summing}
 use Rattle.stitch.proofs.write.room_need.Given as goal
 
 abbrev pub invariant-loop-i : goal.invariant-loop-i

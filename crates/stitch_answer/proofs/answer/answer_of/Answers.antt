@@ -1,5 +1,4 @@
 use Rattle.stitch_answer.proofs.AnswerLaws.{asking-ready, asking-answered}
-use borrow.Author.Rules.{rules}
 use Rattle.stitch_answer.proofs.answer.answer_of.Goals as goal
 
 pub by_groups-requires : goal.by_groups-requires

@@ -1,6 +1,5 @@
 use native.Mathlib.Omega.{arith}
 use Rattle.stitch_answer.proofs.LookLaws.{asked-first, asked-again, chosen-first, chosen-second, none-chosen, overlap-refused, overlap-chosen, first-few}
-use borrow.Author.Rules.{rules}
 use Rattle.stitch_answer.proofs.answer.by_groups.Goals as goal
 
 pub lowest-a-requires : goal.lowest-a-requires

@@ -1,5 +1,4 @@
 use mathlib.Core.Path.{ap}
-use borrow.Author.Rules.{rules}
 use lib.Ieee.{Float, binary64, to_bits}
 use Rattle.stitch_cell.specs.Cell.{cell_of}
 use Rattle.stitch_cell.specs.CellLaws.{bits_of}

@@ -1,7 +1,6 @@
 use borrow.Author.Rules.{rules}
 use Prim.Native.Nat.{◌-◌}
-use Rattle.stitch_run.specs.Stitch.{given}
-use Rattle.stitch_chain.proofs.Walking.{Walking, walk-look, walk-place, walk_end, walk-whole, walking}
+use Rattle.stitch_chain.proofs.Walking.{walk-look, walk-place, walk_end, walk-whole, walking}
 use Rattle.stitch_chain.proofs.rounds.walk_chain.Goals as goal
 
 pub place-n-requires : goal.place-n-requires

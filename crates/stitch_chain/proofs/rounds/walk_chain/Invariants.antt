@@ -1,7 +1,6 @@
-use borrow.Author.Rules.{rules}
 use Prim.Native.Nat.{◌-◌}
 use Rattle.stitch_run.specs.Stitch.{given}
-use Rattle.stitch_chain.proofs.Walking.{Walking, walk-look, walk-place, walk_end, walk-whole, walking}
+use Rattle.stitch_chain.proofs.Walking.{Walking}
 use Rattle.stitch_chain.proofs.rounds.walk_chain.Given as goal
 
 abbrev pub invariant-loop-j : goal.invariant-loop-j

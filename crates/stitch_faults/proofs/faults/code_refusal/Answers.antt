@@ -5,7 +5,6 @@ use Rattle.basis.specs.Refuse.{row, first_from, or_else, size_fault, choice_faul
 use Rattle.basis.specs.RefuseLaws.{rows, then-rows}
 use Rattle.slice.specs.Faults as slices
 use Rattle.stitch_faults.specs.StitchRows.{code_rows}
-use borrow.Author.Rules.{rules}
 use Rattle.stitch_faults.proofs.faults.code_refusal.Goals as goal
 
 -- the slices' rows behind the others

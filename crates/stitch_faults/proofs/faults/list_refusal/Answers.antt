@@ -1,13 +1,12 @@
 use Prim.Native.Nat.{ℕ}
 use mathlib.Core.Path.{◌≡◌}
-use mathlib.Core.List.{List, [], ◌∷◌, ◌++◌}
+use mathlib.Core.List.{[], ◌∷◌, ◌++◌}
 use lib.Dec.{ltb}
 use Rattle.basis.specs.Sizes.{most_slices}
 use Rattle.basis.specs.Refuse.{row, first_from, or_else, length_fault}
 use Rattle.basis.specs.RefuseLaws.{rows, then-rows}
 use Rattle.slice.specs.Faults as slices
 use Rattle.stitch_faults.specs.StitchRows.{list_rows}
-use borrow.Author.Rules.{rules}
 use Rattle.stitch_faults.proofs.faults.list_refusal.Goals as goal
 
 -- the slices' rows between the outlines' and the count's

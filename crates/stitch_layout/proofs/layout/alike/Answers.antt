@@ -2,7 +2,6 @@ use borrow.Author.Tests.{eqb-true}
 use Rattle.basis.specs.Choice.{clash, told-yes}
 use mathlib.Core.Path.{sym, refl, ◌∙◌}
 use Rattle.stitch_layout.proofs.AlikeLaws.{alike_of}
-use borrow.Author.Rules.{rules}
 use Rattle.stitch_layout.proofs.layout.alike.Goals as goal
 
 pub returns-then-not-same_start : goal.returns-then-not-same_start

@@ -1,5 +1,4 @@
 use Rattle.stitch_layout.specs.Slices.{home_of}
-use borrow.Author.Rules.{rules}
 use Rattle.stitch_layout.proofs.layout.home_of.Goals as goal
 
 pub returns : goal.returns

@@ -1,6 +1,5 @@
 use mathlib.Core.Path.{refl}
 use Rattle.stitch_layout.specs.PuttingLaws.{before-both, before-alone, before_more}
-use borrow.Author.Rules.{rules}
 use Rattle.stitch_layout.proofs.layout.last_of_run.Goals as goal
 
 pub returns-then-w-next : goal.returns-then-w-next

@@ -1,7 +1,6 @@
 use lib.ListN.{length-set}
 use native.Mathlib.Omega.{arith}
-use Rattle.stitch_layout.specs.PuttingLaws.{Putting, putting-none, putting-before, putting-more, putting-end, putting-inside, home-there}
-use borrow.Author.Rules.{rules}
+use Rattle.stitch_layout.specs.PuttingLaws.{putting-none, putting-before, putting-more, putting-end, putting-inside, home-there}
 use Rattle.stitch_layout.proofs.layout.link_slices.Goals as goal
 
 pub loop-i-init : goal.loop-i-init

@@ -1,7 +1,4 @@
-use lib.ListN.{length-set}
-use native.Mathlib.Omega.{arith}
-use Rattle.stitch_layout.specs.PuttingLaws.{Putting, putting-none, putting-before, putting-more, putting-end, putting-inside, home-there}
-use borrow.Author.Rules.{rules}
+use Rattle.stitch_layout.specs.PuttingLaws.{Putting}
 use Rattle.stitch_layout.proofs.layout.link_slices.Given as goal
 
 abbrev pub invariant-loop-i : goal.invariant-loop-i

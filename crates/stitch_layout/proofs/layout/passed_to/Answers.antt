@@ -1,5 +1,4 @@
 use Rattle.stitch_layout.specs.PuttingLaws.{passed-both, passed-alone, passed-run}
-use borrow.Author.Rules.{rules}
 use Rattle.stitch_layout.proofs.layout.passed_to.Goals as goal
 
 pub same_start-requires : goal.same_start-requires

@@ -1,4 +1,3 @@
-use borrow.Author.Rules.{rules}
 use Rattle.stitch_links.proofs.look.cells_of.Goals as goal
 
 pub returns : goal.returns

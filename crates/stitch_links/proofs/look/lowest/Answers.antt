@@ -1,5 +1,4 @@
 use Rattle.stitch_links.proofs.RowLaws.{rows_of, lowest-of}
-use borrow.Author.Rules.{rules}
 use Rattle.stitch_links.proofs.look.lowest.Goals as goal
 
 pub search-requires : goal.search-requires

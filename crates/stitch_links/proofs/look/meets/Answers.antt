@@ -1,6 +1,4 @@
-use Rattle.basis.specs.Choice.{told-not-yes, told-not-no}
 use Rattle.stitch_layout.specs.Slices.{meets_of}
-use borrow.Author.Rules.{rules}
 use Rattle.basis.specs.Choice.{told-no}
 use Rattle.basis.specs.Choice.{told-yes}
 use Rattle.stitch_links.proofs.look.meets.Goals as goal

@@ -1,7 +1,6 @@
 use native.Mathlib.Omega.{arith}
-use Prim.Native.Nat.{◌+◌, ◌-◌}
-use Rattle.stitch_links.proofs.RowLaws.{Swept, swept-row, swept-list, swept-up, row-end}
-use borrow.Author.Rules.{rules}
+use Prim.Native.Nat.{◌-◌}
+use Rattle.stitch_links.proofs.RowLaws.{swept-row, swept-list, swept-up, row-end}
 use Rattle.stitch_links.proofs.look.row.Goals as goal
 
 pub loop-cy-init : goal.loop-cy-init

@@ -1,7 +1,5 @@
-use native.Mathlib.Omega.{arith}
 use Prim.Native.Nat.{◌+◌, ◌-◌}
-use Rattle.stitch_links.proofs.RowLaws.{Swept, swept-row, swept-list, swept-up, row-end}
-use borrow.Author.Rules.{rules}
+use Rattle.stitch_links.proofs.RowLaws.{Swept}
 use Rattle.stitch_links.proofs.look.row.Given as goal
 
 abbrev pub invariant-loop-cy : goal.invariant-loop-cy

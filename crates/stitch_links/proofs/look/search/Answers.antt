@@ -1,8 +1,7 @@
-use mathlib.Core.Path.{◌≡◌, refl}
+use mathlib.Core.Path.{refl}
 use native.Mathlib.Omega.{arith}
-use Prim.Native.Nat.{◌+◌, ◌-◌}
-use Rattle.stitch_links.proofs.RowLaws.{Swept, swept-rows, swept-on, rows_end}
-use borrow.Author.Rules.{rules}
+use Prim.Native.Nat.{◌-◌}
+use Rattle.stitch_links.proofs.RowLaws.{swept-rows, swept-on, rows_end}
 use Rattle.stitch_links.proofs.look.search.Goals as goal
 
 pub loop-cx-init : goal.loop-cx-init

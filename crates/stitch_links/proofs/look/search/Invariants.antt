@@ -1,8 +1,6 @@
-use mathlib.Core.Path.{◌≡◌, refl}
-use native.Mathlib.Omega.{arith}
+use mathlib.Core.Path.{◌≡◌}
 use Prim.Native.Nat.{◌+◌, ◌-◌}
-use Rattle.stitch_links.proofs.RowLaws.{Swept, swept-rows, swept-on, rows_end}
-use borrow.Author.Rules.{rules}
+use Rattle.stitch_links.proofs.RowLaws.{Swept}
 use Rattle.stitch_links.proofs.look.search.Given as goal
 
 abbrev pub invariant-loop-cx : goal.invariant-loop-cx

@@ -4,7 +4,6 @@ use lib.ListN.{length-replicate}
 use Rattle.basis.specs.Number.{+0}
 use Rattle.basis.specs.Sizes.{most_slices}
 use Rattle.stitch_lists.proofs.Writing.{marks-length, tabled-of, few-of}
-use borrow.Author.Rules.{rules}
 use Rattle.stitch_lists.proofs.write.write_many.Goals as goal
 
 pub slice_bounds-write_with-end-2 : goal.slice_bounds-write_with-end-2

@@ -3,7 +3,6 @@ use native.Mathlib.Omega.{arith}
 use lib.ListN.{length-replicate}
 use Rattle.basis.specs.Number.{+0}
 use Rattle.stitch_lists.proofs.Writing.{marks-length, tabled-of}
-use borrow.Author.Rules.{rules}
 use Rattle.stitch_lists.proofs.write.write_scanned.Goals as goal
 
 pub slice_bounds-write_with-end-2 : goal.slice_bounds-write_with-end-2

@@ -1,7 +1,6 @@
 use borrow.Author.Rules.{rules}
 use Prim.Native.Nat.{◌-◌}
-use Rattle.stitch_answer.specs.Answer.{near_end}
-use Rattle.stitch_round.proofs.Scanning.{Meeting, meeting}
+use Rattle.stitch_round.proofs.Scanning.{meeting}
 use Rattle.stitch_round.proofs.scan.scan.Goals as goal
 
 pub loop-j-init : goal.loop-j-init

@@ -1,8 +1,6 @@
 use borrow.Author.Rules.{rules}
 use Prim.Native.Nat.{◌-◌}
-use lib.ListN.{length}
-use Rattle.stitch_run.specs.Stitch.{given}
-use Rattle.stitch_slices.proofs.Slicing.{Pointing, pointing}
+use Rattle.stitch_slices.proofs.Slicing.{pointing}
 use Rattle.stitch_slices.proofs.slices.fill_points.Goals as goal
 
 pub loop-i-init : goal.loop-i-init

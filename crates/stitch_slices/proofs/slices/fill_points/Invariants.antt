@@ -1,8 +1,7 @@
-use borrow.Author.Rules.{rules}
 use Prim.Native.Nat.{◌-◌}
 use lib.ListN.{length}
 use Rattle.stitch_run.specs.Stitch.{given}
-use Rattle.stitch_slices.proofs.Slicing.{Pointing, pointing}
+use Rattle.stitch_slices.proofs.Slicing.{Pointing}
 use Rattle.stitch_slices.proofs.slices.fill_points.Given as goal
 
 abbrev pub invariant-loop-i : goal.invariant-loop-i

@@ -1,7 +1,6 @@
-use borrow.Author.Rules.{rules}
 use Prim.Native.Nat.{◌-◌}
 use Rattle.view.specs.View.{vertex_of}
-use Rattle.stitch_vertices.proofs.Growing.{Adding, extending}
+use Rattle.stitch_vertices.proofs.Growing.{Adding}
 use Rattle.stitch_vertices.proofs.grow.extend_remove_repeat.Given as goal
 
 abbrev pub invariant-loop-k : goal.invariant-loop-k

@@ -1,5 +1,4 @@
 use Rattle.store_entries.proofs.StoreEntryLaws.{compact-refused, compact-fits, compact-given}
-use borrow.Author.Rules.{rules}
 use Rattle.store_entries.proofs.storing.compact.Goals as goal
 
 pub returns-then-number-ne0 : goal.returns-then-number-ne0

@@ -1,5 +1,4 @@
 use Rattle.store_entries.proofs.StoreEntryLaws.{list-refused, list-fits, list-given}
-use borrow.Author.Rules.{rules}
 use Rattle.store_entries.proofs.storing.list.Goals as goal
 
 pub returns-then-number-ne0 : goal.returns-then-number-ne0

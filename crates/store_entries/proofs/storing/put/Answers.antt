@@ -1,5 +1,4 @@
 use Rattle.store_entries.proofs.StoreEntryLaws.{put_refused, put-fits, put-given}
-use borrow.Author.Rules.{rules}
 use Rattle.store_entries.proofs.storing.put.Goals as goal
 
 pub returns-then-number-ne0 : goal.returns-then-number-ne0

@@ -1,5 +1,4 @@
 use Rattle.store_party.proofs.Sharing.{compact-fits, compact-part}
-use borrow.Author.Rules.{rules}
 use Rattle.store_party.proofs.half.compact.Goals as goal
 
 pub compact_slices-requires : goal.compact_slices-requires

@@ -1,5 +1,4 @@
 use Rattle.store_party.proofs.Sharing.{list-fits, list-part}
-use borrow.Author.Rules.{rules}
 use Rattle.store_party.proofs.half.list.Goals as goal
 
 pub list_slices-requires : goal.list_slices-requires

@@ -1,5 +1,4 @@
 use Rattle.store_party.proofs.Sharing.{put-fits, put-part}
-use borrow.Author.Rules.{rules}
 use Rattle.store_party.proofs.half.put.Goals as goal
 
 pub put_slice-requires : goal.put_slice-requires

@@ -1,5 +1,4 @@
 use Rattle.store_party.proofs.Sharing.{release-fits, release-part}
-use borrow.Author.Rules.{rules}
 use Rattle.store_party.proofs.half.release.Goals as goal
 
 pub release_slice-requires : goal.release_slice-requires

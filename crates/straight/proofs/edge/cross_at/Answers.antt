@@ -6,7 +6,6 @@ use mir.Val.{to_z, of_z}
 use Rattle.whole.specs.Fit.{Near}
 use Rattle.whole.specs.FitLaws.{got, read, as-near, wider}
 use Rattle.straight.specs.Plane.{cross}
-use borrow.Author.Rules.{rules}
 use Rattle.straight.proofs.edge.cross_at.Goals as goal
 
 -- a number of the list, as it is read back

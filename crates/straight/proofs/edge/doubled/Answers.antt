@@ -6,7 +6,6 @@ use lib.IntN.{ℤ, pos, ◌*ℤ◌}
 use lib.ListN.{get_or}
 use mir.Syntax.{w64}
 use mir.Val.{SFits}
-use borrow.Author.Rules.{rules}
 use Rattle.whole.specs.FitLaws.{fit, read, mul-near, mul_fit, mul-read}
 use Rattle.straight.specs.Ready.{Held}
 use Rattle.straight.proofs.edge.doubled.Goals as goal

@@ -5,7 +5,6 @@ use mir.Val.{to_z, of_z}
 use Rattle.whole.specs.FitLaws.{got}
 use Rattle.straight.specs.Ready.{above}
 use Rattle.straight.proofs.EdgeLaws.{above-yes, above-no}
-use borrow.Author.Rules.{rules}
 use Rattle.straight.proofs.edge.gain_at.Goals as goal
 
 abbrev seen : ℤ → ℤ

@@ -5,7 +5,6 @@ use mir.Facts.{to_z-of_z}
 use Rattle.whole.specs.FitLaws.{got, as-near}
 use Rattle.straight.specs.Plane.{left, side, twice}
 use Rattle.straight.proofs.EdgeLaws.{from-x, from-y, to-x, to-y, twice-near}
-use borrow.Author.Rules.{rules}
 use Rattle.straight.proofs.edge.left_at.Goals as goal
 
 line : {a b d e x y a' b' d' e' x' y' : ℤ} → a ≡ a' → b ≡ b' → d ≡ d' → e ≡ e' → x ≡ x' → y ≡ y'

@@ -3,7 +3,6 @@ use mathlib.Core.Bool.{◌&&◌}
 use mir.Facts.{to_z-of_z}
 use Rattle.straight.specs.Plane.{left, spans, twice}
 use Rattle.straight.specs.Ready.{spot_at}
-use borrow.Author.Rules.{rules}
 use Rattle.straight.proofs.edge.rises_at.Goals as goal
 
 pub returns-then-spans_at : goal.returns-then-spans_at

@@ -8,7 +8,6 @@ use mir.Facts.{to_z-of_z}
 use Rattle.whole.specs.FitLaws.{got}
 use Rattle.straight.specs.Plane.{spans, twice}
 use Rattle.straight.proofs.EdgeLaws.{from-y, to-y}
-use borrow.Author.Rules.{rules}
 use Rattle.straight.proofs.edge.spans_at.Goals as goal
 
 pub doubled-requires : goal.doubled-requires

@@ -1,4 +1,3 @@
-use borrow.Author.Rules.{rules}
 use Rattle.straight.specs.Ready.{next}
 use Rattle.straight.proofs.sum.after.Goals as goal
 

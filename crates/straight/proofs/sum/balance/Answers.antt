@@ -1,7 +1,6 @@
 use mathlib.Core.Path.{◌∙◌}
 use lib.IntN.{pos, ◌-ℤ◌}
 use Rattle.whole.specs.FitLaws.{fit, got, sub-near, sub_fit}
-use borrow.Author.Rules.{rules}
 use Rattle.straight.proofs.sum.balance.Goals as goal
 
 pub minus-requires : goal.minus-requires

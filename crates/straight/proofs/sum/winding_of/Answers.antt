@@ -1,4 +1,4 @@
-use Prim.Native.Nat.{ℕ, ◌≤◌, ◌-◌}
+use Prim.Native.Nat.{ℕ, ◌-◌}
 use native.Mathlib.Omega.{arith}
 use mathlib.Core.Path.{◌∙◌, ap}
 use mir.Syntax.{w64}
@@ -9,7 +9,7 @@ use mir.Facts.{to_z-of_z}
 use borrow.Author.Rules.{rules}
 use Rattle.whole.specs.FitLaws.{got}
 use Rattle.basis.specs.Choice.{code_of}
-use Rattle.straight.specs.PartLaws.{Part, part_none, part_end}
+use Rattle.straight.specs.PartLaws.{part_none, part_end}
 use Rattle.straight.specs.Ready.{Probed}
 use Rattle.straight.specs.SumLaws.{winds, code-most, probed-as, seen-on, seen_back, wind-more, wound}
 use Rattle.straight.proofs.sum.winding_of.Goals as goal

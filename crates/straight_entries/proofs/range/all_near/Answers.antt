@@ -1,9 +1,9 @@
-use Prim.Native.Nat.{◌≤◌, ◌-◌}
-use mathlib.Core.Path.{◌≡◌, refl}
+use Prim.Native.Nat.{◌-◌}
+use mathlib.Core.Path.{refl}
 use lib.IntN.{pos}
-use lib.ListN.{length, get_or, take}
+use lib.ListN.{get_or}
 use Rattle.basis.specs.All.{all_of, all_more, scan}
-use Rattle.straight_entries.specs.Range.{in_reach, all_in_reach}
+use Rattle.straight_entries.specs.Range.{in_reach}
 use Rattle.straight_entries.specs.RangeLaws.{reach-got}
 use borrow.Author.Rules.{rules}
 use Rattle.straight_entries.proofs.range.all_near.Goals as goal

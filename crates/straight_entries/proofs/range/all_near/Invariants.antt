@@ -1,11 +1,7 @@
 use Prim.Native.Nat.{◌≤◌, ◌-◌}
-use mathlib.Core.Path.{◌≡◌, refl}
-use lib.IntN.{pos}
-use lib.ListN.{length, get_or, take}
-use Rattle.basis.specs.All.{all_of, all_more, scan}
-use Rattle.straight_entries.specs.Range.{in_reach, all_in_reach}
-use Rattle.straight_entries.specs.RangeLaws.{reach-got}
-use borrow.Author.Rules.{rules}
+use mathlib.Core.Path.{◌≡◌}
+use lib.ListN.{length, take}
+use Rattle.straight_entries.specs.Range.{all_in_reach}
 use Rattle.straight_entries.proofs.range.all_near.Given as goal
 
 abbrev pub invariant-loop-i : goal.invariant-loop-i

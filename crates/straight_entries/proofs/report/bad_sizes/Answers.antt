@@ -1,7 +1,6 @@
-use Prim.Native.Nat.{◌≤◌, ◌-◌}
+use Prim.Native.Nat.{◌-◌}
 use mathlib.Core.Path.{refl}
-use lib.ListN.{length}
-use Rattle.straight_report.specs.ReportLaws.{SizesFrom, sizing}
+use Rattle.straight_report.specs.ReportLaws.{sizing}
 use borrow.Author.Rules.{rules}
 use Rattle.straight_entries.proofs.report.bad_sizes.Goals as goal
 

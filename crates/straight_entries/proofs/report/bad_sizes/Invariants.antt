@@ -1,8 +1,6 @@
 use Prim.Native.Nat.{◌≤◌, ◌-◌}
-use mathlib.Core.Path.{refl}
 use lib.ListN.{length}
-use Rattle.straight_report.specs.ReportLaws.{SizesFrom, sizing}
-use borrow.Author.Rules.{rules}
+use Rattle.straight_report.specs.ReportLaws.{SizesFrom}
 use Rattle.straight_entries.proofs.report.bad_sizes.Given as goal
 
 abbrev pub invariant-loop-k : goal.invariant-loop-k

@@ -11,7 +11,6 @@ use Rattle.straight.specs.Plane.{spots, winding}
 use Rattle.straight.specs.SumLaws.{probed-as}
 use Rattle.straight_entries.specs.Answers.{winding_refused, winding_found}
 use Rattle.straight_entries.specs.WindingEntry.{winding_refusal, winding-accepted}
-use borrow.Author.Rules.{rules}
 use Rattle.straight_entries.proofs.winding.entry.Goals as goal
 
 -- the probe that is handed on is the one that was handed in

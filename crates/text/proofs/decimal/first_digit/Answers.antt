@@ -1,7 +1,4 @@
-use Prim.Native.Nat.{◌≤◌, ◌-◌}
-use mathlib.Core.Path.{◌≡◌}
-use lib.ListN.{length, drop}
-use Rattle.text.specs.Decimal.{trimmed}
+use Prim.Native.Nat.{◌-◌}
 use Rattle.text.proofs.DecimalLaws.{trimming}
 use borrow.Author.Rules.{rules}
 use Rattle.text.proofs.decimal.first_digit.Goals as goal

@@ -2,8 +2,6 @@ use Prim.Native.Nat.{◌≤◌, ◌-◌}
 use mathlib.Core.Path.{◌≡◌}
 use lib.ListN.{length, drop}
 use Rattle.text.specs.Decimal.{trimmed}
-use Rattle.text.proofs.DecimalLaws.{trimming}
-use borrow.Author.Rules.{rules}
 use Rattle.text.proofs.decimal.first_digit.Given as goal
 
 abbrev pub invariant-loop-i : goal.invariant-loop-i

@@ -1,5 +1,4 @@
-use Rattle.whole.specs.Two.{value}
-use Rattle.text.proofs.DecimalLaws.{Spelling, digit-small, spelling}
+use Rattle.text.proofs.DecimalLaws.{digit-small, spelling}
 use borrow.Author.Rules.{rules}
 use Rattle.text.proofs.decimal.spell.Goals as goal
 

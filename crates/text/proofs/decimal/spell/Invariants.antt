@@ -1,6 +1,5 @@
 use Rattle.whole.specs.Two.{value}
-use Rattle.text.proofs.DecimalLaws.{Spelling, digit-small, spelling}
-use borrow.Author.Rules.{rules}
+use Rattle.text.proofs.DecimalLaws.{Spelling}
 use Rattle.text.proofs.decimal.spell.Given as goal
 
 abbrev pub invariant-loop-i : goal.invariant-loop-i

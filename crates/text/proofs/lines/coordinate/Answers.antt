@@ -1,7 +1,6 @@
 use mathlib.Core.Path.{◌∙◌}
 use Rattle.whole.specs.FitLaws.{got}
 use Rattle.text.proofs.LinesLaws.{coordinate-minus, coordinate-plus, minus-fits}
-use borrow.Author.Rules.{rules}
 use Rattle.text.proofs.lines.coordinate.Goals as goal
 
 pub minus-requires : goal.minus-requires

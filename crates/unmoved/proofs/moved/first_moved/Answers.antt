@@ -1,7 +1,6 @@
-use Prim.Native.Nat.{◌+◌, ◌-◌, ◌≤◌}
+use Prim.Native.Nat.{◌-◌}
 use mathlib.Core.Bool.{true, not}
-use mathlib.Core.Path.{◌≡◌, ap}
-use Rattle.basis.specs.Each.{each_to}
+use mathlib.Core.Path.{ap}
 use Rattle.unmoved.specs.Unmoved.{same_at}
 use Rattle.unmoved.specs.UnmovedLaws.{moved-found, moving}
 use native.Mathlib.Omega.{arith}

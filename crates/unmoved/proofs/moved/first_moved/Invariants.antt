@@ -3,9 +3,6 @@ use mathlib.Core.Bool.{true}
 use mathlib.Core.Path.{◌≡◌}
 use Rattle.basis.specs.Each.{each_to}
 use Rattle.unmoved.specs.Unmoved.{same_at}
-use Rattle.unmoved.specs.UnmovedLaws.{moved-found, moving}
-use native.Mathlib.Omega.{arith}
-use borrow.Author.Rules.{rules}
 use Rattle.unmoved.proofs.moved.first_moved.Given as goal
 
 abbrev pub invariant-loop-k : goal.invariant-loop-k

@@ -1,6 +1,5 @@
 use mathlib.Core.Path.{sym, ap, ◌∙◌}
 use Rattle.verdict_answer.specs.VerdictAnswers.{verdict_given}
-use borrow.Author.Rules.{rules}
 use Rattle.verdict_answer.proofs.answer.verdict_given.Goals as goal
 
 pub returns-in-SourceHasNoSegments : goal.returns-in-SourceHasNoSegments

@@ -1,6 +1,6 @@
 use Prim.Native.Nat.{◌-◌}
 use borrow.Author.Rules.{rules}
-use Rattle.view.proofs.Listing.{Listing, list-more, listing}
+use Rattle.view.proofs.Listing.{list-more, listing}
 use Rattle.view.proofs.list.write_vertices.Goals as goal
 
 pub loop-k-init : goal.loop-k-init

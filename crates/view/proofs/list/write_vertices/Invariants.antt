@@ -1,6 +1,5 @@
 use Prim.Native.Nat.{◌-◌}
-use borrow.Author.Rules.{rules}
-use Rattle.view.proofs.Listing.{Listing, list-more, listing}
+use Rattle.view.proofs.Listing.{Listing}
 use Rattle.view.proofs.list.write_vertices.Given as goal
 
 abbrev pub invariant-loop-k : goal.invariant-loop-k

@@ -1,6 +1,5 @@
 use mathlib.Core.Path.{sym, ap, ◌∙◌}
 use Rattle.view_entries.specs.Answers.{segment_made}
-use borrow.Author.Rules.{rules}
 use Rattle.view_entries.proofs.answer.segment_made.Goals as goal
 
 pub returns-in-View : goal.returns-in-View

@@ -1,6 +1,5 @@
 use mathlib.Core.Path.{sym, ap, ◌∙◌}
 use Rattle.view_entries.specs.Answers.{vertex_found}
-use borrow.Author.Rules.{rules}
 use Rattle.view_entries.proofs.answer.vertex_found.Goals as goal
 
 pub returns-in-At : goal.returns-in-At

@@ -1,5 +1,4 @@
 use Rattle.view_entries.specs.Answers.{view_made}
-use borrow.Author.Rules.{rules}
 use Rattle.view_entries.proofs.answer.view_made.Goals as goal
 
 pub returns : goal.returns

@@ -1,5 +1,4 @@
 use Rattle.view_start_entries.specs.Answers.{span_told}
-use borrow.Author.Rules.{rules}
 use Rattle.view_start_entries.proofs.answer.span_told.Goals as goal
 
 pub returns : goal.returns

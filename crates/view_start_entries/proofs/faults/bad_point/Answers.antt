@@ -1,6 +1,5 @@
 use mathlib.Core.Bool.{not}
 use mathlib.Core.Path.{ap}
-use borrow.Author.Rules.{rules}
 use Rattle.view_start_entries.proofs.faults.bad_point.Goals as goal
 
 pub returns : goal.returns

@@ -2,7 +2,6 @@ use mathlib.Core.Path.{refl}
 use Rattle.view_start_entries.specs.SliceEntry.{slice_refusal}
 use Rattle.view_start_entries.proofs.Rows.{one-row}
 use Rattle.basis.specs.RefuseLaws.{first-from, then-rows}
-use borrow.Author.Rules.{rules}
 use Rattle.view_start_entries.proofs.slice_points.refusal.Goals as goal
 
 pub returns : goal.returns
