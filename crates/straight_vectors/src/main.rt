@@ -1,32 +1,35 @@
+#![tactic(auto)]
 // Replays recorded answers of exact integers, data/vectors.bin, through the entries over straight masks. tools/compare-straight writes the file: a count, then for each case its entry, its length in words and its words.
 mod case;
 mod words;
 
-use libc::STDOUT_FILENO;
+use std::fs::File;
+use std::io;
+use std::io::Read;
 
-fn word(text: &[u8]) {
-    io::write_all(STDOUT_FILENO, text);
+fn word(rt: &impl Print, text: &[u8]) -> io::Result<()> {
+    rt.write_all(text)
 }
 
-fn whole(n: usize) {
-    io::print_decimal(STDOUT_FILENO, n as u64);
+fn whole(rt: &impl Print, n: usize) -> io::Result<()> {
+    rt.print(n)
 }
 
 // The counts: cases of each entry, then all that differ.
-fn show(counts: &[usize]) {
-    word(b"mask_straight_winding ");
-    whole(words::count(counts, 0));
-    word(b" cases\nmask_straight_area ");
-    whole(words::count(counts, 1));
-    word(b" cases\nmask_straight_report ");
-    whole(words::count(counts, 2));
-    word(b" cases\n");
-    whole(words::count(counts, 4));
-    word(b" of ");
-    whole(words::count(counts, 5));
-    word(b" cases, ");
-    whole(words::count(counts, 3));
-    word(b" differ\n");
+fn show(rt: &impl Print, counts: &[usize]) -> io::Result<()> {
+    word(rt, b"mask_straight_winding ")?;
+    whole(rt, words::count(counts, 0))?;
+    word(rt, b" cases\nmask_straight_area ")?;
+    whole(rt, words::count(counts, 1))?;
+    word(rt, b" cases\nmask_straight_report ")?;
+    whole(rt, words::count(counts, 2))?;
+    word(rt, b" cases\n")?;
+    whole(rt, words::count(counts, 4))?;
+    word(rt, b" of ")?;
+    whole(rt, words::count(counts, 5))?;
+    word(rt, b" cases, ")?;
+    whole(rt, words::count(counts, 3))?;
+    word(rt, b" differ\n")
 }
 
 // A case of an entry. Place 3 counts those that differ, 4 all.
@@ -48,27 +51,26 @@ fn front(buf: &mut [u8], n: usize) -> &mut [u8] {
 }
 
 // Reads so many bytes into a list that is as long: yes where they were all there.
-fn filled(fd: i32, buf: &mut [u8]) -> bool {
-    let n = buf.len();
-    io::read_full(fd, buf) == n
+fn filled(file: &mut File, buf: &mut [u8]) -> bool {
+    file.read_exact(buf).is_ok()
 }
 
 // Reads so many words to the front of the buffer.
-fn read_words(fd: i32, buf: &mut [u8], n: usize) -> bool {
+fn read_words(file: &mut File, buf: &mut [u8], n: usize) -> bool {
     if n > buf.len() / 8 {
         return false;
     }
-    filled(fd, front(buf, 8 * n))
+    filled(file, front(buf, 8 * n))
 }
 
 // One case: its entry and its length, then its words. Yes where it was all there.
-fn replay(fd: i32, buf: &mut [u8], counts: &mut [usize]) -> bool {
-    if !read_words(fd, buf, 2) {
+fn replay(file: &mut File, buf: &mut [u8], counts: &mut [usize]) -> bool {
+    if !read_words(file, buf, 2) {
         return false;
     }
     let entry = words::at(buf, 0);
     let n = words::at(buf, 1);
-    if !read_words(fd, buf, n) {
+    if !read_words(file, buf, n) {
         return false;
     }
     tally(counts, entry, case::holds(entry, buf));
@@ -76,10 +78,10 @@ fn replay(fd: i32, buf: &mut [u8], counts: &mut [usize]) -> bool {
 }
 
 // As many cases as the file's head says, and fewer where it breaks off.
-fn replay_all(fd: i32, count: usize, buf: &mut [u8], counts: &mut [usize]) {
+fn replay_all(file: &mut File, count: usize, buf: &mut [u8], counts: &mut [usize]) {
     let mut k: usize = 0;
     while k < count {
-        if !replay(fd, buf, counts) {
+        if !replay(file, buf, counts) {
             break;
         }
         k += 1;
@@ -87,24 +89,22 @@ fn replay_all(fd: i32, count: usize, buf: &mut [u8], counts: &mut [usize]) {
 }
 
 // The whole file.
-fn replay_file(fd: i32, buf: &mut [u8], counts: &mut [usize]) {
-    if !read_words(fd, buf, 1) {
+fn replay_file(file: &mut File, buf: &mut [u8], counts: &mut [usize]) {
+    if !read_words(file, buf, 1) {
         return;
     }
     let all = words::at(buf, 0);
     words::put(counts, 5, all);
-    replay_all(fd, all, buf, counts);
+    replay_all(file, all, buf, counts);
 }
 
-fn main() {
-    let fd = os::open_read(b"vectors.bin");
-    if fd < 0 {
-        os::fail(b"vectors.bin");
-        return;
-    }
-    let mut buf = io::buffer();
+fn main(rt: HostRuntime) -> io::Result<()> {
+    let mut file = match File::open(&rt, "vectors.bin") {
+        Ok(file) => file,
+        Err(error) => return eprintln!(rt; "vectors.bin: {error}"),
+    };
+    let mut buf = [0u8; 4096];
     let mut counts = [0usize; 6];
-    replay_file(fd, &mut buf, &mut counts);
-    libc::close(fd);
-    show(&counts);
+    replay_file(&mut file, &mut buf, &mut counts);
+    show(&rt, &counts)
 }
