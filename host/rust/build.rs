@@ -16,7 +16,7 @@ fn main() {
         println!("cargo:warning=libmask.a is for x86-64: only `cargo test --lib` links here");
     } else if !archive.is_file() {
         println!(
-            "cargo:warning={} is missing: make it with `rt staticlib mask`, or name its folder in \
+            "cargo:warning={} is missing: make it with `tools/library`, or name its folder in \
              {FOLDER}; only `cargo test --lib` links without it",
             archive.display()
         );

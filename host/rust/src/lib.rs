@@ -172,7 +172,7 @@
 //! # Linking
 //!
 //! The build script takes `libmask.a` from the folder that `MASK_ARCHIVE_DIR` names, else from
-//! `target/staticlib` of the repository, where `rt staticlib mask` puts it. The archive is for
+//! `target/staticlib` of the repository, where `tools/library` puts it. The archive is for
 //! x86-64. Elsewhere `cargo test --lib` still tests what lies above the boundary.
 
 #![deny(missing_docs)]
