@@ -9,8 +9,7 @@ use prune_entries::answer::PruneAnswer;
 use straight_slices::job::Job;
 
 // The slices of a mode of two straight masks: what `mask_candidates` of each outline, `mask_straight_winding` of each candidate in the other outline and `mask_prune` give in turn.
-#[unsafe(no_mangle)]
-pub extern "C" fn mask_straight_slices(
+pub fn mask_straight_slices(
     mode: u32,
     opposing: u32,
     outline1: &[f64],

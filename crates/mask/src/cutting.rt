@@ -7,8 +7,7 @@ ghost use Rattle.candidate_entries.specs.Candidates.{lent, Sliced};
 use basis::answer::CountAnswer;
 
 // The cuts of the outline that the source names, in their order: segment, overlap mark, number of arrival and point of each.
-#[unsafe(no_mangle)]
-pub extern "C" fn mask_cut_order(
+pub fn mask_cut_order(
     outline: &[f64],
     vc: usize,
     source: u32,
@@ -44,8 +43,7 @@ pub extern "C" fn mask_cut_order(
 
 // The candidates of the outline that the source names: the pieces between neighbouring cuts, and the walks from a segment's last cut to the next segment that has one.
 // Beside each stands the outline's edition.
-#[unsafe(no_mangle)]
-pub extern "C" fn mask_candidates(
+pub fn mask_candidates(
     outline: &[f64],
     vc: usize,
     edition: u32,
@@ -89,8 +87,7 @@ pub extern "C" fn mask_candidates(
 
 // The same, with the order as `mask_cut_order` wrote it, three numbers a cut: a hint, which is looked at in one pass. Where it is not the order, or is of another length,
 // the order is worked out. So the answer is that of `mask_candidates` for every hint.
-#[unsafe(no_mangle)]
-pub extern "C" fn mask_candidates_along(
+pub fn mask_candidates_along(
     outline: &[f64],
     vc: usize,
     edition: u32,

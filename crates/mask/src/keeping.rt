@@ -9,8 +9,7 @@ use basis::answer::CountAnswer;
 use store_entries::answer::{DoneAnswer, HandleAnswer};
 
 // A slice of a party is put into the store. It gets the lowest handle, from 0, that no live slice of the party has.
-#[unsafe(no_mangle)]
-pub extern "C" fn mask_store_put(
+pub fn mask_store_put(
     held: &mut [usize],
     slice_at: &mut [usize],
     slice: &mut [f64],
@@ -35,8 +34,7 @@ pub extern "C" fn mask_store_put(
 }
 
 // The party's slice with a handle is released.
-#[unsafe(no_mangle)]
-pub extern "C" fn mask_store_release(
+pub fn mask_store_release(
     held: &mut [usize],
     slice_at: &[usize],
     slice: &[f64],
@@ -50,8 +48,7 @@ pub extern "C" fn mask_store_release(
 }
 
 // The party's live slices in the order put: handles, codes, numbers and editions.
-#[unsafe(no_mangle)]
-pub extern "C" fn mask_store_list(
+pub fn mask_store_list(
     held: &[usize],
     slice_at: &[usize],
     slice: &[f64],
@@ -78,8 +75,7 @@ pub extern "C" fn mask_store_list(
 }
 
 // The party's live slices go to its first places, in the order put, each with its handle.
-#[unsafe(no_mangle)]
-pub extern "C" fn mask_store_compact(
+pub fn mask_store_compact(
     held: &mut [usize],
     slice_at: &mut [usize],
     slice: &mut [f64],

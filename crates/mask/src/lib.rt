@@ -1,4 +1,5 @@
-// What hosts link: the exported entries, each a thin function over the crates below.
+#![tactic(auto)]
+// The entries, each a thin function over the crates below. `mask_c` exports them to C.
 pub mod at_once;
 pub mod cutting;
 pub mod keeping;

@@ -7,8 +7,7 @@ use prune::call::Call;
 use prune_entries::answer::PruneAnswer;
 
 // The slices of a mode: the candidates of each outline that stay, then the overlaps for each outline. Each has the edition of what it comes from.
-#[unsafe(no_mangle)]
-pub extern "C" fn mask_prune(
+pub fn mask_prune(
     mode: u32,
     opposing: u32,
     vc1: usize,

@@ -13,8 +13,7 @@ use select::class::Starts;
 use stitch_run::plan::Plan;
 
 // Writes the record of a stitch, of the version asked for, at the front of the lent bytes. Says how many bytes it has.
-#[unsafe(no_mangle)]
-pub extern "C" fn mask_record_write(
+pub fn mask_record_write(
     version: u32,
     outline1: &[f64],
     vc1: usize,
@@ -68,8 +67,7 @@ pub extern "C" fn mask_record_write(
 }
 
 // A record's stitch, run again in the lent lists, which are those of `mask_stitch`.
-#[unsafe(no_mangle)]
-pub extern "C" fn mask_record_replay(
+pub fn mask_record_replay(
     bytes: &[u8],
     room: &mut [f64],
     ends: &mut [usize],

@@ -8,8 +8,7 @@ use verdict_answer::answer::ReopenAnswer;
 use view_entries::input::View;
 
 // The verdict on a slice's view over the new outline, whatever the editions, and the edition that the slice has from now on: the outline's where the verdict is valid, else its own.
-#[unsafe(no_mangle)]
-pub extern "C" fn mask_reopen(
+pub fn mask_reopen(
     outline: &[f64],
     vc: usize,
     edition: u32,
@@ -32,8 +31,7 @@ pub extern "C" fn mask_reopen(
 }
 
 // Whether a view has the same vertices on the old outline and on the new, bit for bit, and the lowest number of one that differs.
-#[unsafe(no_mangle)]
-pub extern "C" fn mask_unmoved(
+pub fn mask_unmoved(
     outline1: &[f64],
     vc1: usize,
     outline2: &[f64],

@@ -6,8 +6,7 @@ ghost use Rattle.settings_entries.specs.SettingsEntry.{setting_of, EnterLeft, as
 use settings_entries::answer::{EditionAnswer, SettingAnswer};
 
 // A setting entered into the record, after those that are there: its edition.
-#[unsafe(no_mangle)]
-pub extern "C" fn mask_settings_enter(
+pub fn mask_settings_enter(
     entered: &mut [usize],
     settings: &mut [f64],
     tolerance_x: f64,
@@ -20,12 +19,7 @@ pub extern "C" fn mask_settings_enter(
 }
 
 // The setting of an edition, exactly as it was entered.
-#[unsafe(no_mangle)]
-pub extern "C" fn mask_settings_ask(
-    entered: &[usize],
-    settings: &[f64],
-    edition: usize,
-) -> SettingAnswer
+pub fn mask_settings_ask(entered: &[usize], settings: &[f64], edition: usize) -> SettingAnswer
     ensures { result ≡ ask_answer (held entered.now settings.now) edition }
 {
     settings_entries::ask::entry(entered, settings, edition)

@@ -12,8 +12,7 @@ use view_entries::input::Split;
 use view_start_entries::answer::SpanAnswer;
 
 // The segment that the view between two points starts on, and how many segments further on it ends: what the host has to split.
-#[unsafe(no_mangle)]
-pub extern "C" fn mask_slice_span(
+pub fn mask_slice_span(
     outline: &[f64],
     vc: usize,
     closed: u32,
@@ -40,8 +39,7 @@ pub extern "C" fn mask_slice_span(
 }
 
 // The view from a point on one segment to a point on another, or none where nothing lies between them.
-#[unsafe(no_mangle)]
-pub extern "C" fn mask_from_slice_points(
+pub fn mask_from_slice_points(
     outline: &[f64],
     vc: usize,
     closed: u32,
@@ -72,8 +70,7 @@ pub extern "C" fn mask_from_slice_points(
 }
 
 // The view that starts a closed outline at a point of it and goes once round, or leads from a point of an open one to its last vertex; none where that point is the last vertex.
-#[unsafe(no_mangle)]
-pub extern "C" fn mask_from_new_start(
+pub fn mask_from_new_start(
     outline: &[f64],
     vc: usize,
     closed: u32,

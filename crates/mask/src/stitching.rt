@@ -10,8 +10,7 @@ use basis::answer::CountAnswer;
 use stitch_entries::answer::StitchAnswer;
 
 // The slices stitched into closed loops, by the setting's tolerances. Each slice must have the edition of its outline.
-#[unsafe(no_mangle)]
-pub extern "C" fn mask_stitch(
+pub fn mask_stitch(
     outline1: &[f64],
     vc1: usize,
     edition1: u32,
@@ -64,8 +63,7 @@ pub extern "C" fn mask_stitch(
 }
 
 // The numbers of the loops whose area, without its sign, is not below the setting's limit, in order.
-#[unsafe(no_mangle)]
-pub extern "C" fn mask_area_pass(
+pub fn mask_area_pass(
     areas: &[f64],
     loops: usize,
     entered: &[usize],

@@ -16,21 +16,14 @@ use view_entries::answer::{VertexAnswer, ViewAnswer};
 use view_entries::input::{Split, View};
 
 // The vertex of a view at an index, or "no vertex" beyond its last.
-#[unsafe(no_mangle)]
-pub extern "C" fn mask_view_vertex(
-    outline: &[f64],
-    vc: usize,
-    view: View,
-    index: usize,
-) -> VertexAnswer
+pub fn mask_view_vertex(outline: &[f64], vc: usize, view: View, index: usize) -> VertexAnswer
     ensures { result ≡ view_vertex_answer outline.now vc view index }
 {
     view_entries::view_vertex::entry(outline, vc, view, index)
 }
 
 // All vertices of a view, three numbers each: vertex k is what `mask_view_vertex` answers for k.
-#[unsafe(no_mangle)]
-pub extern "C" fn mask_view_vertices(
+pub fn mask_view_vertices(
     outline: &[f64],
     vc: usize,
     view: View,
@@ -42,8 +35,7 @@ pub extern "C" fn mask_view_vertices(
 }
 
 // The view that walks from its start over `traverse_count` segments to an end on the segment at `intersect_index`.
-#[unsafe(no_mangle)]
-pub extern "C" fn mask_create(
+pub fn mask_create(
     outline: &[f64],
     vc: usize,
     start_index: usize,
@@ -72,8 +64,7 @@ pub extern "C" fn mask_create(
 }
 
 // The view between two points of one segment, or none where they agree.
-#[unsafe(no_mangle)]
-pub extern "C" fn mask_create_on_single_segment(
+pub fn mask_create_on_single_segment(
     outline: &[f64],
     vc: usize,
     start_index: usize,
@@ -96,16 +87,14 @@ pub extern "C" fn mask_create_on_single_segment(
 }
 
 // The view of a whole outline, closed or open.
-#[unsafe(no_mangle)]
-pub extern "C" fn mask_from_entire_pline(outline: &[f64], vc: usize, closed: u32) -> ViewAnswer
+pub fn mask_from_entire_pline(outline: &[f64], vc: usize, closed: u32) -> ViewAnswer
     ensures { result ≡ entire_answer outline.now vc closed }
 {
     view_entries::entire::entry(outline, vc, closed)
 }
 
 // The verdict on view data over an outline, with the host's answers whether the start and the end lie on their segments. A view of another edition than the outline's is refused (14).
-#[unsafe(no_mangle)]
-pub extern "C" fn mask_validate_for_source(
+pub fn mask_validate_for_source(
     outline: &[f64],
     vc: usize,
     edition: u32,
