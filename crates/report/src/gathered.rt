@@ -118,11 +118,11 @@ fn vertex_read(s: State, points: &mut [i64]) -> State
 }
 
 // A line that is neither a pair nor empty.
-fn no_pair(s: State) -> State
+fn no_pair(rt: &impl Eprint, s: State) -> State
     requires { Reported s.so_far }
     ensures { Reported result.so_far }
 {
-    print::no_pair(s.number);
+    print::no_pair(rt, s.number);
     let so_far = s.so_far;
     next_line(s, 1, s.vertices, so_far)
 }
@@ -136,7 +136,7 @@ fn outline_read(s: State, points: &[i64]) -> State
     next_line(s, s.bad, 0, so_far)
 }
 
-fn line_read(s: State, points: &mut [i64]) -> State
+fn line_read(rt: &impl Eprint, s: State, points: &mut [i64]) -> State
     requires { Reported s.so_far }
     ensures { Reported result.so_far }
 {
@@ -146,7 +146,7 @@ fn line_read(s: State, points: &mut [i64]) -> State
     if text::lines::is_pair(s.line) {
         return vertex_read(s, points);
     }
-    no_pair(s)
+    no_pair(rt, s)
 }
 
 fn byte_read(s: State, c: u8) -> State
@@ -166,31 +166,31 @@ fn byte_read(s: State, c: u8) -> State
 }
 
 // One byte more; 10 ends a line.
-pub(crate) fn take(s: State, points: &mut [i64], c: u8) -> State
+pub(crate) fn take(rt: &impl Eprint, s: State, points: &mut [i64], c: u8) -> State
     requires { Reported s.so_far }
     ensures { Reported result.so_far }
 {
     if c == 10 {
-        return line_read(s, points);
+        return line_read(rt, s, points);
     }
     byte_read(s, c)
 }
 
 // The end of the text: of its last line, where that has no end, and of its last outline.
-pub(crate) fn finish(s: State, points: &mut [i64]) -> State
+pub(crate) fn finish(rt: &impl Eprint, s: State, points: &mut [i64]) -> State
     requires { Reported s.so_far }
     ensures { Reported result.so_far }
 {
-    let s = last_line(s, points);
+    let s = last_line(rt, s, points);
     outline_read(s, points)
 }
 
-fn last_line(s: State, points: &mut [i64]) -> State
+fn last_line(rt: &impl Eprint, s: State, points: &mut [i64]) -> State
     requires { Reported s.so_far }
     ensures { Reported result.so_far }
 {
     if text::lines::is_empty(s.line) {
         return s;
     }
-    line_read(s, points)
+    line_read(rt, s, points)
 }
