@@ -1,32 +1,49 @@
+#![tactic(auto)]
 // Runs an archived stitch again: reads the record in the file that the argument names, or from standard input where there is none, and prints the outcome.
 // What cannot be read, and a second name, is said on standard error, and then nothing is printed.
 mod read;
 mod show;
 
-fn replay_file(path: &[u8]) {
-    let fd = os::open_read(path);
-    if fd < 0 {
-        os::fail(path);
-        return;
+use std::env::{Env, FillError};
+use std::rt::Files;
+use std::{fs, io, str};
+
+// The system's number for a name that is too long.
+const NAME_TOO_LONG: i32 = 36;
+
+// Whether there is an argument of this number. The program's name is number 0.
+fn given(rt: &impl Env, i: usize) -> bool {
+    let mut start = [0u8; 1];
+    match rt.arg(i, &mut start) {
+        Err(FillError::NotPresent) => false,
+        _ => true,
     }
-    read::replay_from(fd, path);
-    libc::close(fd);
 }
 
-fn main() {
-    if os::arg_count() < 2 {
-        read::replay_from(libc::STDIN_FILENO, b"standard input");
+fn replay_file<R: Files + Print + Eprint + Alloc>(rt: &R, path: &str) {
+    match fs::open(rt, path) {
+        Ok(mut file) => read::replay_from(rt, &mut file, path),
+        Err(e) => show::fail(rt, path, e),
+    }
+}
+
+fn main(rt: HostRuntime) {
+    if !given(&rt, 1) {
+        read::replay_from(&rt, &mut rt.stdin(), "standard input");
         return;
     }
-    if 2 < os::arg_count() {
-        io::write_all(libc::STDERR_FILENO, b"replay: one file, and no second\n");
+    if given(&rt, 2) {
+        let _ = eprintln!(rt; "replay: one file, and no second");
         return;
     }
-    let mut path = io::buffer();
-    let n = os::arg(1, &mut path);
-    if os::errno() != 0 {
-        os::fail(b"path");
+    let mut path = [0u8; 4096];
+    let Ok(n) = rt.arg(1, &mut path) else {
+        show::fail(&rt, "path", io::Error::from_raw_os_error(NAME_TOO_LONG));
         return;
-    }
-    replay_file(&path[..n]);
+    };
+    let Ok(path) = str::from_utf8(&path[..n]) else {
+        show::fail(&rt, "path", io::Error::from(io::ErrorKind::InvalidFilename));
+        return;
+    };
+    replay_file(&rt, path);
 }

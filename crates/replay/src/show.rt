@@ -1,34 +1,52 @@
 // What a replay prints.
-use libc::STDOUT_FILENO;
 use record_form::form;
 use record_replay::replay;
+use std::io;
 
 // An entry for each slice that is taken; three numbers for each vertex of the need, which is the most where each slice has the most vertices.
 const SLICES: usize = form::TAKEN_SLICES;
 
 const ROOM: usize = 3 * (1 + SLICES * (form::TAKEN_VERTICES + 1));
 
-fn word(text: &[u8]) {
-    io::write_all(STDOUT_FILENO, text);
+fn word(rt: &impl Print, text: &[u8]) {
+    let _ = rt.write_all(text);
 }
 
-fn number(n: usize) {
-    io::print_decimal(STDOUT_FILENO, n as u64);
+fn number(rt: &impl Print, n: usize) {
+    let _ = print!(rt; "{n}");
+}
+
+// The words of an error, without the number that std puts behind those of the system.
+fn words(text: &str) -> &str {
+    match text.split_once(" (os error ") {
+        Some((words, _)) => words,
+        None => text,
+    }
+}
+
+// Says on standard error what failed, and why.
+pub(crate) fn fail<R: Eprint + Alloc>(rt: &R, what: &str, why: io::Error) {
+    let _ = match format!(in rt.alloc(); "{why}") {
+        Ok(text) => eprintln!(rt; "{what}: {}", words(text.as_str())),
+        Err(_) => eprintln!(rt; "{what}: {why}"),
+    };
 }
 
 // The first word of an answer. Where it cannot be written, on a full disk, that is said, and there is no answer.
-fn first_word(text: &[u8]) -> bool {
-    if io::write_all(STDOUT_FILENO, text) {
-        return true;
+fn first_word<R: Print + Eprint + Alloc>(rt: &R, text: &[u8]) -> bool {
+    match rt.write_all(text) {
+        Ok(()) => true,
+        Err(e) => {
+            fail(rt, "standard output", e);
+            false
+        }
     }
-    os::fail(b"standard output");
-    false
 }
 
-fn refused(n: u32) {
-    if first_word(b"refused ") {
-        number(n as usize);
-        word(b"\n");
+fn refused<R: Print + Eprint + Alloc>(rt: &R, n: u32) {
+    if first_word(rt, b"refused ") {
+        number(rt, n as usize);
+        word(rt, b"\n");
     }
 }
 
@@ -45,22 +63,22 @@ fn next(i: usize) -> usize {
 }
 
 // How a chain ended.
-fn ending(how: usize) {
+fn ending(rt: &impl Print, how: usize) {
     match how {
-        0 => word(b"closed "),
-        1 => word(b"small "),
-        2 => word(b"empty "),
-        _ => word(b"unselected "),
+        0 => word(rt, b"closed "),
+        1 => word(rt, b"small "),
+        2 => word(rt, b"empty "),
+        _ => word(rt, b"unselected "),
     }
 }
 
 // The slices of a chain.
-fn slices(chain: &[usize; SLICES], from: usize, to: usize) {
+fn slices(rt: &impl Print, chain: &[usize; SLICES], from: usize, to: usize) {
     let mut i = from;
     let mut left = between(from, to);
     while left > 0 {
-        number(at(chain, i));
-        word(b" ");
+        number(rt, at(chain, i));
+        word(rt, b" ");
         i = next(i);
         left -= 1;
     }
@@ -75,19 +93,26 @@ struct Shown {
 }
 
 // One chain: its slices, how it ended, the vertices of its loop, 0 unless it closed.
-fn line(chain: &[usize; SLICES], to: usize, how: usize, end: usize, shown: Shown) -> Shown {
-    slices(chain, shown.slices, to);
-    ending(how);
+fn line(
+    rt: &impl Print,
+    chain: &[usize; SLICES],
+    to: usize,
+    how: usize,
+    end: usize,
+    shown: Shown,
+) -> Shown {
+    slices(rt, chain, shown.slices, to);
+    ending(rt, how);
     if how != 0 {
-        word(b"0\n");
+        word(rt, b"0\n");
         return Shown {
             slices: to,
             vertices: shown.vertices,
             loops: shown.loops,
         };
     }
-    number(between(shown.vertices, end));
-    word(b"\n");
+    number(rt, between(shown.vertices, end));
+    word(rt, b"\n");
     Shown {
         slices: to,
         vertices: end,
@@ -96,6 +121,7 @@ fn line(chain: &[usize; SLICES], to: usize, how: usize, end: usize, shown: Shown
 }
 
 fn chains(
+    rt: &impl Print,
     chain: &[usize; SLICES],
     chain_ends: &[usize; SLICES],
     chain_how: &[usize; SLICES],
@@ -111,6 +137,7 @@ fn chains(
     let mut left = count;
     while left > 0 {
         shown = line(
+            rt,
             chain,
             at(chain_ends, i),
             at(chain_how, i),
@@ -123,7 +150,7 @@ fn chains(
 }
 
 // The counts, and a line for each chain; or the number of a refusal.
-pub(crate) fn replay(bytes: &[u8]) {
+pub(crate) fn replay<R: Print + Eprint + Alloc>(rt: &R, bytes: &[u8]) {
     let mut room = [0.0f64; ROOM];
     let mut ends = [0usize; SLICES];
     let mut chain = [0usize; SLICES];
@@ -138,17 +165,17 @@ pub(crate) fn replay(bytes: &[u8]) {
         &mut chain_how,
     );
     if r.refusal != 0 {
-        refused(r.refusal);
+        refused(rt, r.refusal);
         return;
     }
-    if !first_word(b"slices ") {
+    if !first_word(rt, b"slices ") {
         return;
     }
-    number(r.slices);
-    word(b" rounds ");
-    number(r.rounds);
-    word(b" loops ");
-    number(r.loops);
-    word(b"\n");
-    chains(&chain, &chain_ends, &chain_how, &ends, r.chains);
+    number(rt, r.slices);
+    word(rt, b" rounds ");
+    number(rt, r.rounds);
+    word(rt, b" loops ");
+    number(rt, r.loops);
+    word(rt, b"\n");
+    chains(rt, &chain, &chain_ends, &chain_how, &ends, r.chains);
 }
