@@ -1,6 +1,6 @@
 -- What an accepted call leaves, and what a call needs to be accepted: the entries of the pipeline one by one.
-use Rattle.std.specs.Prelude.{ℕ, ◌+◌, ◌*◌, ◌≤◌, ◌<◌, Bool, true, false, not, ◌≡◌, refl, List, ◌++◌, get_or, replicate, Float}
-use Rattle.std.proofs.Common.{sym, subst, ◌∙◌, arith, le-ltb}
+use Rattle.std.specs.Prelude.{ℕ, ◌*◌, ◌≤◌, ◌<◌, Bool, true, false, not, ◌≡◌, refl, List, ◌++◌, get_or, replicate, Float}
+use Rattle.std.proofs.Common.{sym, ◌∙◌, arith, le-ltb}
 use Rattle.std.proofs.Math.Path.{ap}
 use Rattle.std.proofs.Math.Nat.{add-zero}
 use Rattle.std.proofs.Math.ListN.{length, take}
@@ -29,7 +29,7 @@ use Rattle.candidate_entries.specs.CandidatesLaws.{SplitsPass, cand-pass, cand-a
 use Rattle.select.specs.declared.class.Starts.{Starts}
 use Rattle.slice.specs.Slice.{code_width, shape_width}
 use Rattle.slice.specs.Ready as slice
-use Rattle.slice.specs.Editions.{Editions, editions, edition_of, edition_fault}
+use Rattle.slice.specs.Editions.{Editions, editions, edition_fault}
 use Rattle.slice.specs.Sound as sound
 use Rattle.prune.specs.Prune.{Cands, Overlaps, Given, need_of, pruned_of, slices_of, slice_codes, slice_shapes, slice_editions}
 use Rattle.prune.specs.Ready.{Few, OverlapsFit}

@@ -1,10 +1,9 @@
 -- Request K11: "Where the three accept, its answer is theirs in turn." `mask_candidates` twice, `mask_straight_winding` for each candidate and `mask_prune`, beside
 -- `mask_straight_slices`. Each call is taken by its contract, so this holds of the exported entries.
-use Rattle.std.specs.Prelude.{ℕ, zero, suc, ◌+◌, ◌*◌, ◌≤◌, ◌<◌, Bool, true, false, ◌&&◌, ◌≡◌, refl, List, [], ◌∷◌, ◌++◌, ltb, leb, get_or, ℤ, pos, negsuc, neg_ℤ, Float}
-use Rattle.std.proofs.Common.{zero-le, subst, ◌∙◌, not-suc-le-zero, le_of_suc-le-suc, arith, length-append, ext_get_or, get_or-append-add, ltb-true, ltb-false, le-leb, le-ltb}
+use Rattle.std.specs.Prelude.{ℕ, zero, suc, ◌+◌, ◌*◌, ◌<◌, true, ◌≡◌, refl, List, [], ◌∷◌, ◌++◌, ltb, get_or, ℤ, pos, negsuc, Float}
+use Rattle.std.proofs.Common.{zero-le, subst, ◌∙◌, not-suc-le-zero, le_of_suc-le-suc, arith, ext_get_or, get_or-append-add, ltb-true, ltb-false, le-leb, le-ltb}
 use Rattle.std.proofs.Math.Bool.{not}
 use Rattle.std.proofs.Math.Path.{sym, ap}
-use Rattle.std.proofs.Math.Nat.{sub_self}
 use Rattle.std.proofs.Math.ListN.{length, take, replicate, get_or-append}
 use Rattle.std.proofs.lemmas.List.{length-replicate}
 use Rattle.basis.specs.Number.{+0}
@@ -13,7 +12,6 @@ use Rattle.basis.specs.Choice.{by-test}
 use Rattle.basis.specs.Items.{first_items}
 use Rattle.basis.specs.ItemLaws.{items-length}
 use Rattle.basis.specs.RoomLaws.{room-front}
-use Rattle.basis.specs.Room.{room_of}
 use Rattle.basis.specs.RefuseLaws.{Clear, clear, clear-left, clear-right, clear_both, none-clear, answer-zero, answer-accepted, ok-length, ok-size}
 use Rattle.basis.specs.declared.answer.CountAnswer.{CountAnswer}
 use Rattle.basis.specs.Answers.{count_refused}
@@ -22,7 +20,7 @@ use Rattle.cut.specs.Cuts as cuts
 use Rattle.cut.specs.Cuts.{which_of}
 use Rattle.cut_entries.specs.CutRows as cut
 use Rattle.cut_entries.specs.CutRowsLaws.{CutsPass, cuts-accepted}
-use Rattle.candidate.specs.Candidates.{cand_count, cand_numbers, cand_shapes, probe_numbers, candidates_of, numbers_of, shape_of, probe_of}
+use Rattle.candidate.specs.Candidates.{cand_numbers, cand_shapes, probe_numbers, candidates_of, numbers_of, shape_of, probe_of}
 use Rattle.candidate_write.specs.ItemLaws.{flat-length, wide-numbers, wide-shapes, wide-probes}
 use Rattle.candidate_entries.specs.Candidates.{Lent, lengths, later_rows, candidates_rows, candidates_refusal, cand_number, Sliced}
 use Rattle.candidate_entries.specs.CandidatesLaws.{cand-pass}
@@ -31,14 +29,13 @@ use Rattle.slice.specs.Ready as slice
 use Rattle.prune.specs.Prune as prune
 use Rattle.prune.specs.Prune.{Cands, cands, call_of, overlaps, pruned_of, slice_codes, slice_shapes, slice_editions}
 use Rattle.prune_entries.specs.declared.answer.PruneAnswer.{PruneAnswer}
-use Rattle.prune_entries.specs.Answers.{prune_refused, prune_given}
+use Rattle.prune_entries.specs.Answers.{prune_refused}
 use Rattle.prune_entries.specs.PruneEntry as pruned
 use Rattle.prune_entries.specs.PruneEntry.{prune_refusal, prune_number, PruneLeft}
 use Rattle.prune_entries.specs.PruneEntryLaws.{prune-accepted}
 use Rattle.whole.specs.Fit.{Near}
-use Rattle.straight.specs.Plane.{spots, winding}
 use Rattle.straight_entries.specs.declared.answer.WindingAnswer.{WindingAnswer}
-use Rattle.straight_entries.specs.Answers.{winding_refused, winding_found}
+use Rattle.straight_entries.specs.Answers.{winding_refused}
 use Rattle.straight_entries.specs.Range.{in_reach, all_in_reach}
 use Rattle.straight_entries.specs.WindingEntry.{winding_rows, winding_refusal, winding_answer}
 use Rattle.straight_cut.specs.Microdegrees.{wholes_of}

@@ -15,7 +15,6 @@ use Rattle.view_span.specs.declared.span.Ends.{Ends}
 use Rattle.view_span.specs.Span.{decided}
 use Rattle.view_start.specs.SlicePoints.{collapses}
 use Rattle.stitch_vertices.specs.Vertices.{add_vertex}
-use Rattle.stitch_run.specs.declared.plan.Plan.{Plan}
 use Rattle.stitch_run.specs.Stitch.{given, plan_of, offers_to, start_point_of}
 use Rattle.select.specs.declared.class.Starts.{Starts}
 

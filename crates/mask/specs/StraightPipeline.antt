@@ -19,7 +19,6 @@ use Rattle.stitch.specs.Lent.{Lists, Long}
 use Rattle.stitch_entries.specs.declared.answer.StitchAnswer.{StitchAnswer}
 use Rattle.stitch_entries.specs.Answers.{stitch_refused}
 use Rattle.stitch_entries.specs.StitchEntry.{lengths_of, stitch_number}
-use Rattle.stitch_faults.specs.Matching.{Matched}
 use Rattle.settings.specs.Settings.{Held}
 use Rattle.named_entries.specs.NamedStitch.{named_stitch_refusal, Holding, NamedStitch}
 use Rattle.named_entries.specs.NamedTheorems.{stitch-number}
