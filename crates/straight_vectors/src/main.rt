@@ -7,29 +7,29 @@ use std::fs::File;
 use std::io;
 use std::io::Read;
 
-fn word(rt: &impl Print, text: &[u8]) -> io::Result<()> {
-    rt.write_all(text)
+fn word(rt: &impl Print, text: &[u8]) {
+    let _ = rt.write_all(text);
 }
 
-fn whole(rt: &impl Print, n: usize) -> io::Result<()> {
-    rt.print(n)
+fn whole(rt: &impl Print, n: usize) {
+    let _ = rt.print(n);
 }
 
 // The counts: cases of each entry, then all that differ.
-fn show(rt: &impl Print, counts: &[usize]) -> io::Result<()> {
-    word(rt, b"mask_straight_winding ")?;
-    whole(rt, words::count(counts, 0))?;
-    word(rt, b" cases\nmask_straight_area ")?;
-    whole(rt, words::count(counts, 1))?;
-    word(rt, b" cases\nmask_straight_report ")?;
-    whole(rt, words::count(counts, 2))?;
-    word(rt, b" cases\n")?;
-    whole(rt, words::count(counts, 4))?;
-    word(rt, b" of ")?;
-    whole(rt, words::count(counts, 5))?;
-    word(rt, b" cases, ")?;
-    whole(rt, words::count(counts, 3))?;
-    word(rt, b" differ\n")
+fn show(rt: &impl Print, counts: &[usize]) {
+    word(rt, b"mask_straight_winding ");
+    whole(rt, words::count(counts, 0));
+    word(rt, b" cases\nmask_straight_area ");
+    whole(rt, words::count(counts, 1));
+    word(rt, b" cases\nmask_straight_report ");
+    whole(rt, words::count(counts, 2));
+    word(rt, b" cases\n");
+    whole(rt, words::count(counts, 4));
+    word(rt, b" of ");
+    whole(rt, words::count(counts, 5));
+    word(rt, b" cases, ");
+    whole(rt, words::count(counts, 3));
+    word(rt, b" differ\n");
 }
 
 // A case of an entry. Place 3 counts those that differ, 4 all.
@@ -98,13 +98,32 @@ fn replay_file(file: &mut File, buf: &mut [u8], counts: &mut [usize]) {
     replay_all(file, all, buf, counts);
 }
 
-fn main(rt: HostRuntime) -> io::Result<()> {
+// The words of an error, without the number that std puts behind those of the system.
+fn without_number(text: &str) -> &str {
+    match text.split_once(" (os error ") {
+        Some((said, _)) => said,
+        None => text,
+    }
+}
+
+// Says on standard error that the file cannot be opened, and why.
+fn fail<R: Eprint + Alloc>(rt: &R, why: io::Error) {
+    let _ = match format!(in rt.alloc(); "{why}") {
+        Ok(text) => eprintln!(rt; "vectors.bin: {}", without_number(text.as_str())),
+        Err(_) => eprintln!(rt; "vectors.bin: {why}"),
+    };
+}
+
+fn main(rt: HostRuntime) {
     let mut file = match File::open(&rt, "vectors.bin") {
         Ok(file) => file,
-        Err(error) => return eprintln!(rt; "vectors.bin: {error}"),
+        Err(e) => {
+            fail(&rt, e);
+            return;
+        }
     };
     let mut buf = [0u8; 4096];
     let mut counts = [0usize; 6];
     replay_file(&mut file, &mut buf, &mut counts);
-    show(&rt, &counts)
+    show(&rt, &counts);
 }
