@@ -2,9 +2,10 @@
 use crate::{print, stitches};
 use outline::point::{Point, Vertex};
 use select::class::Starts;
+use std::io;
 
 // On A's segment 0 there is a view between the two, which there is not between points that agree.
-pub(crate) fn apart(a: &[f64]) {
+pub(crate) fn apart(rt: &impl Print, a: &[f64]) -> io::Result<()> {
     let from = Vertex {
         x: 1.0,
         y: 0.0,
@@ -12,16 +13,16 @@ pub(crate) fn apart(a: &[f64]) {
     };
     let to = Point { x: 1.5, y: 0.0 };
     let made = mask::viewing::mask_create_on_single_segment(a, 4, 0, from, to, 0.5, 0.5);
-    print::word(b"T10 tolerance 0.5, x = 1 and x = 1.5: ");
+    print::word(rt, b"T10 tolerance 0.5, x = 1 and x = 1.5: ")?;
     if made.found == 1 {
-        print::word(b"they do not agree; ");
+        print::word(rt, b"they do not agree; ")
     } else {
-        print::word(b"they agree; ");
+        print::word(rt, b"they agree; ")
     }
 }
 
 // A slice of A from 1.5 round to 1 is closed over the gap.
-pub(crate) fn joined() {
+pub(crate) fn joined(rt: &impl Print) -> io::Result<()> {
     let slice_at = [1usize, 0, 0, 4];
     let slice = [1.5, 0.0, 0.0, 0.0, 1.0, 0.0];
     let slice_edition = [0u32; 1];
@@ -31,8 +32,9 @@ pub(crate) fn joined() {
         pline1_overlapping: 1,
         pline2_overlapping: 1,
     };
-    print::word(b"A from 1.5 round to 1");
+    print::word(rt, b"A from 1.5 round to 1")?;
     stitches::stitch(
+        rt,
         &slice_at,
         &slice,
         &slice_edition,
@@ -41,5 +43,5 @@ pub(crate) fn joined() {
         0,
         0.5,
         &mut room,
-    );
+    )
 }

@@ -1,5 +1,6 @@
 // The two squares and their candidates: T1 and T2.
 use crate::{corners, print};
+use std::io;
 
 pub(crate) const TOLERANCE: f64 = 0.0009765625;
 
@@ -11,14 +12,15 @@ pub(crate) fn b() -> [f64; 12] {
     [2.0, 2.0, 0.0, 6.0, 2.0, 0.0, 6.0, 6.0, 0.0, 2.0, 6.0, 0.0]
 }
 
-pub(crate) fn show(a: &[f64], b: &[f64]) {
-    print::word(b"A is");
-    corners::list(a, 4);
-    print::word(b"B is");
-    corners::list(b, 4);
+pub(crate) fn show(rt: &impl Print, a: &[f64], b: &[f64]) -> io::Result<()> {
+    print::word(rt, b"A is")?;
+    corners::list(rt, a, 4)?;
+    print::word(rt, b"B is")?;
+    corners::list(rt, b, 4)?;
     print::word(
+        rt,
         b"They cross at (4,2), on segments 1 and 0, and at (2,4), on 2 and 3. Tolerance 1/1024.\n",
-    );
+    )
 }
 
 // The candidates of a square over the splits along its two cuts. Says how many there are.
@@ -59,33 +61,44 @@ fn sliced(
 
 // The same, shown.
 fn candidates(
+    rt: &impl Print,
     outline: &[f64],
     source: u32,
     splits: &[f64],
     at: &mut [usize],
     shape: &mut [f64],
-) -> usize {
+) -> io::Result<usize> {
     let count = sliced(outline, source, splits, at, shape);
-    print::whole(count);
-    print::word(b",");
-    print::starts_and_offsets(at);
-    print::word(b"\n");
-    count
+    print::whole(rt, count)?;
+    print::word(rt, b",")?;
+    print::starts_and_offsets(rt, at)?;
+    print::word(rt, b"\n")?;
+    Ok(count)
 }
 
 // A square's splits: for each cut the part of its segment up to it, the cut, and the cut again as the whole segment's split.
-pub(crate) fn candidates_of_a(a: &[f64], at: &mut [usize], shape: &mut [f64]) -> usize {
-    print::word(b"T1 candidates of A: ");
+pub(crate) fn candidates_of_a(
+    rt: &impl Print,
+    a: &[f64],
+    at: &mut [usize],
+    shape: &mut [f64],
+) -> io::Result<usize> {
+    print::word(rt, b"T1 candidates of A: ")?;
     let splits = [
         4.0, 0.0, 0.0, 4.0, 2.0, 0.0, 4.0, 2.0, 0.0, 4.0, 4.0, 0.0, 2.0, 4.0, 0.0, 2.0, 4.0, 0.0,
     ];
-    candidates(a, 1, &splits, at, shape)
+    candidates(rt, a, 1, &splits, at, shape)
 }
 
-pub(crate) fn candidates_of_b(b: &[f64], at: &mut [usize], shape: &mut [f64]) -> usize {
-    print::word(b"T2 candidates of B: ");
+pub(crate) fn candidates_of_b(
+    rt: &impl Print,
+    b: &[f64],
+    at: &mut [usize],
+    shape: &mut [f64],
+) -> io::Result<usize> {
+    print::word(rt, b"T2 candidates of B: ")?;
     let splits = [
         2.0, 2.0, 0.0, 4.0, 2.0, 0.0, 4.0, 2.0, 0.0, 2.0, 6.0, 0.0, 2.0, 4.0, 0.0, 2.0, 4.0, 0.0,
     ];
-    candidates(b, 2, &splits, at, shape)
+    candidates(rt, b, 2, &splits, at, shape)
 }

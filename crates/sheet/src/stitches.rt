@@ -3,6 +3,7 @@ use crate::{corners, print, squares};
 use mask::setting;
 use prune_entries::answer::PruneAnswer;
 use select::class::Starts;
+use std::io;
 use stitch_entries::answer::StitchAnswer;
 
 // The slices of a mode, as they stay: A's first candidate is inside B, B's second inside A.
@@ -50,14 +51,15 @@ fn prune(
 }
 
 // How many slices stay, and where their classes start.
-fn show_pruned(slices: usize, starts: Starts) {
-    print::whole(slices);
-    print::word(b" slices, starts");
+fn show_pruned(rt: &impl Print, slices: usize, starts: Starts) -> io::Result<()> {
+    print::whole(rt, slices)?;
+    print::word(rt, b" slices, starts")?;
     print::three(
+        rt,
         starts.pline2,
         starts.pline1_overlapping,
         starts.pline2_overlapping,
-    );
+    )
 }
 
 // Stitches slices of the two squares by a setting of a record.
@@ -106,32 +108,37 @@ fn joined(
 }
 
 // The outcome of a stitch: the rounds, and the loop where there is one.
-fn show_stitched(answer: StitchAnswer, room: &[f64], end: usize) {
+fn show_stitched(
+    rt: &impl Print,
+    answer: StitchAnswer,
+    room: &[f64],
+    end: usize,
+) -> io::Result<()> {
     if answer.refusal != 0 {
-        print::refused(answer.refusal);
-        return;
+        return print::refused(rt, answer.refusal);
     }
-    print::whole(answer.rounds);
-    print::word(b" rounds, ");
-    print::whole(answer.loops);
-    print::word(b" loops\n");
+    print::whole(rt, answer.rounds)?;
+    print::word(rt, b" rounds, ")?;
+    print::whole(rt, answer.loops)?;
+    print::word(rt, b" loops\n")?;
     if answer.loops == 0 {
-        return;
+        return Ok(());
     }
-    print::word(b"   loop of ");
-    print::whole(end);
-    print::word(b":");
-    corners::list(room, end);
+    print::word(rt, b"   loop of ")?;
+    print::whole(rt, end)?;
+    print::word(rt, b":")?;
+    corners::list(rt, room, end)
 }
 
-fn show_room(numbers: usize) {
-    print::word(b"; room for ");
-    print::whole(numbers / 3);
-    print::word(b": ");
+fn show_room(rt: &impl Print, numbers: usize) -> io::Result<()> {
+    print::word(rt, b"; room for ")?;
+    print::whole(rt, numbers / 3)?;
+    print::word(rt, b": ")
 }
 
 // Stitches slices of the two squares by a setting with this tolerance on both axes, and says the outcome.
 pub(crate) fn stitch(
+    rt: &impl Print,
     slice_at: &[usize],
     slice: &[f64],
     slice_edition: &[u32],
@@ -140,7 +147,7 @@ pub(crate) fn stitch(
     selector: u32,
     tolerance: f64,
     room: &mut [f64],
-) {
+) -> io::Result<()> {
     let mut ends = [0usize; 2];
     let mut entered = [0usize; 1];
     let mut settings = [0.0; 48];
@@ -151,7 +158,7 @@ pub(crate) fn stitch(
         tolerance,
         0.0,
     );
-    show_room(room.len());
+    show_room(rt, room.len())?;
     let answer = joined(
         slice_at,
         slice,
@@ -165,11 +172,12 @@ pub(crate) fn stitch(
         room,
         &mut ends,
     );
-    show_stitched(answer, room, ends[0]);
+    show_stitched(rt, answer, room, ends[0])
 }
 
 // The stitch of the first two slices of a list, with room for so many numbers.
 fn stitch_two(
+    rt: &impl Print,
     at: &[usize],
     shape: &[f64],
     edition: &[u32],
@@ -177,20 +185,21 @@ fn stitch_two(
     selector: u32,
     numbers: usize,
     room: &mut [f64],
-) {
+) -> io::Result<()> {
     if at.len() < 8 {
-        return;
+        return Ok(());
     }
     if shape.len() < 12 {
-        return;
+        return Ok(());
     }
     if edition.len() < 2 {
-        return;
+        return Ok(());
     }
     if numbers > room.len() {
-        return;
+        return Ok(());
     }
     stitch(
+        rt,
         &at[..8],
         &shape[..12],
         &edition[..2],
@@ -199,11 +208,12 @@ fn stitch_two(
         selector,
         squares::TOLERANCE,
         &mut room[..numbers],
-    );
+    )
 }
 
 // A mode of the two squares, by its selector, with room for so many numbers, three to a vertex.
 fn of_mode(
+    rt: &impl Print,
     mode: u32,
     selector: u32,
     numbers: usize,
@@ -213,7 +223,7 @@ fn of_mode(
     at_b: &[usize],
     shape_b: &[f64],
     count_b: usize,
-) {
+) -> io::Result<()> {
     let mut at = [0usize; 16];
     let mut shape = [0.0; 24];
     let mut edition = [0u32; 4];
@@ -229,9 +239,10 @@ fn of_mode(
         &mut shape,
         &mut edition,
     );
-    show_pruned(kept.slices, kept.starts);
+    show_pruned(rt, kept.slices, kept.starts)?;
     let mut room = [0.0; 27];
     stitch_two(
+        rt,
         &at,
         &shape,
         &edition,
@@ -239,42 +250,44 @@ fn of_mode(
         selector,
         numbers,
         &mut room,
-    );
+    )
 }
 
 // T3, T4 and T5, each with the room that it needs.
 pub(crate) fn modes(
+    rt: &impl Print,
     at_a: &[usize],
     shape_a: &[f64],
     count_a: usize,
     at_b: &[usize],
     shape_b: &[f64],
     count_b: usize,
-) {
-    print::word(b"T3 union: ");
-    of_mode(0, 0, 27, at_a, shape_a, count_a, at_b, shape_b, count_b);
-    print::word(b"T4 intersection: ");
-    of_mode(1, 0, 15, at_a, shape_a, count_a, at_b, shape_b, count_b);
-    print::word(b"T5 A without B: ");
-    of_mode(2, 1, 21, at_a, shape_a, count_a, at_b, shape_b, count_b);
+) -> io::Result<()> {
+    print::word(rt, b"T3 union: ")?;
+    of_mode(rt, 0, 0, 27, at_a, shape_a, count_a, at_b, shape_b, count_b)?;
+    print::word(rt, b"T4 intersection: ")?;
+    of_mode(rt, 1, 0, 15, at_a, shape_a, count_a, at_b, shape_b, count_b)?;
+    print::word(rt, b"T5 A without B: ")?;
+    of_mode(rt, 2, 1, 21, at_a, shape_a, count_a, at_b, shape_b, count_b)
 }
 
 // T9: the union, with room for one vertex less than it needs.
 pub(crate) fn short_room(
+    rt: &impl Print,
     at_a: &[usize],
     shape_a: &[f64],
     count_a: usize,
     at_b: &[usize],
     shape_b: &[f64],
     count_b: usize,
-) {
-    print::word(b"T9 union: ");
-    of_mode(0, 0, 24, at_a, shape_a, count_a, at_b, shape_b, count_b);
+) -> io::Result<()> {
+    print::word(rt, b"T9 union: ")?;
+    of_mode(rt, 0, 0, 24, at_a, shape_a, count_a, at_b, shape_b, count_b)
 }
 
 // T8: no slices.
-pub(crate) fn nothing() {
-    print::word(b"T8 no slices");
+pub(crate) fn nothing(rt: &impl Print) -> io::Result<()> {
+    print::word(rt, b"T8 no slices")?;
     let slice_at = [0usize; 0];
     let slice = [0.0; 0];
     let slice_edition = [0u32; 0];
@@ -285,6 +298,7 @@ pub(crate) fn nothing() {
         pline2_overlapping: 0,
     };
     stitch(
+        rt,
         &slice_at,
         &slice,
         &slice_edition,
@@ -293,5 +307,5 @@ pub(crate) fn nothing() {
         0,
         squares::TOLERANCE,
         &mut room,
-    );
+    )
 }

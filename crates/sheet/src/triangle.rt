@@ -1,6 +1,7 @@
 // A triangle with one cut: T6 on a vertex, T7 inside a segment.
 use crate::{corners, print, squares};
 use outline::point::{Point, Vertex};
+use std::io;
 use view_entries::input::View;
 
 fn outline() -> [f64; 9] {
@@ -57,34 +58,33 @@ fn candidate(outline: &[f64], x: f64, at: &mut [usize], shape: &mut [f64]) -> u3
     answer.refusal
 }
 
-fn show_view(outline: &[f64], view: View) {
-    print::word(b"; its view:");
-    let n = corners::view(outline, 3, view);
-    print::word(b", ");
-    print::whole(n);
-    print::word(b" vertices\n");
+fn show_view(rt: &impl Print, outline: &[f64], view: View) -> io::Result<()> {
+    print::word(rt, b"; its view:")?;
+    let n = corners::view(rt, outline, 3, view)?;
+    print::word(rt, b", ")?;
+    print::whole(rt, n)?;
+    print::word(rt, b" vertices\n")
 }
 
 // Its start and offset, and the vertices of its view.
-fn cut_at(x: f64) {
+fn cut_at(rt: &impl Print, x: f64) -> io::Result<()> {
     let outline = outline();
     let mut at = [0usize; 2];
     let mut shape = [0.0; 6];
     let refusal = candidate(&outline, x, &mut at, &mut shape);
     if refusal != 0 {
-        print::refused(refusal);
-        return;
+        return print::refused(rt, refusal);
     }
-    print::starts_and_offsets(&at);
-    show_view(&outline, view_of(at, shape));
+    print::starts_and_offsets(rt, &at)?;
+    show_view(rt, &outline, view_of(at, shape))
 }
 
-pub(crate) fn on_vertex() {
-    print::word(b"T6 a triangle, one cut on vertex 0:");
-    cut_at(0.0);
+pub(crate) fn on_vertex(rt: &impl Print) -> io::Result<()> {
+    print::word(rt, b"T6 a triangle, one cut on vertex 0:")?;
+    cut_at(rt, 0.0)
 }
 
-pub(crate) fn inside_segment() {
-    print::word(b"T7 the cut inside segment 0:");
-    cut_at(1.0);
+pub(crate) fn inside_segment(rt: &impl Print) -> io::Result<()> {
+    print::word(rt, b"T7 the cut inside segment 0:")?;
+    cut_at(rt, 1.0)
 }
