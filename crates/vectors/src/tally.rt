@@ -1,6 +1,5 @@
 // How many cases of each entry there were, and how many of them differ: one list of 80 counts.
 use crate::bits;
-use libc::STDOUT_FILENO;
 
 // The count of all cases stands here; below it those of the entries, by their numbers in the record.
 const ALL: usize = 32;
@@ -59,63 +58,64 @@ pub(crate) fn count_differing(counts: &mut [usize; 80], entry: usize, holds: boo
     add(counts, ALL_DIFFER);
 }
 
-fn word(text: &[u8]) {
-    io::write_all(STDOUT_FILENO, text);
+fn word(rt: &impl Print, text: &[u8]) {
+    let _ = rt.write_all(text);
 }
 
 // The count at place i, and the words behind it.
-fn part(counts: &[usize; 80], i: usize, text: &[u8]) {
+fn part(rt: &impl Print, counts: &[usize; 80], i: usize, text: &[u8]) {
     if i < 80 {
-        io::print_decimal(STDOUT_FILENO, counts[i] as u64);
+        let _ = rt.print(counts[i]);
     }
-    word(text);
+    word(rt, text);
 }
 
 // The cases of an entry stand at place i, those that differ at place j.
-fn line(name: &[u8], counts: &[usize; 80], i: usize, j: usize) {
-    word(name);
-    part(counts, i, b" cases, ");
-    part(counts, j, b" differ\n");
+fn line(rt: &impl Print, name: &[u8], counts: &[usize; 80], i: usize, j: usize) {
+    word(rt, name);
+    part(rt, counts, i, b" cases, ");
+    part(rt, counts, j, b" differ\n");
 }
 
-fn of_views(counts: &[usize; 80]) {
-    line(b"mask_view_vertex ", counts, 0, 40);
-    line(b"mask_create ", counts, 1, 41);
-    line(b"mask_create_on_single_segment ", counts, 2, 42);
-    line(b"mask_from_entire_pline ", counts, 3, 43);
-    line(b"mask_validate_for_source ", counts, 4, 44);
+fn of_views(rt: &impl Print, counts: &[usize; 80]) {
+    line(rt, b"mask_view_vertex ", counts, 0, 40);
+    line(rt, b"mask_create ", counts, 1, 41);
+    line(rt, b"mask_create_on_single_segment ", counts, 2, 42);
+    line(rt, b"mask_from_entire_pline ", counts, 3, 43);
+    line(rt, b"mask_validate_for_source ", counts, 4, 44);
 }
 
-fn of_lists(counts: &[usize; 80]) {
-    line(b"mask_cut_order ", counts, 5, 45);
-    line(b"mask_candidates ", counts, 6, 46);
-    line(b"mask_prune ", counts, 7, 47);
-    line(b"mask_stitch ", counts, 8, 48);
-    line(b"mask_area_pass ", counts, 9, 49);
+fn of_lists(rt: &impl Print, counts: &[usize; 80]) {
+    line(rt, b"mask_cut_order ", counts, 5, 45);
+    line(rt, b"mask_candidates ", counts, 6, 46);
+    line(rt, b"mask_prune ", counts, 7, 47);
+    line(rt, b"mask_stitch ", counts, 8, 48);
+    line(rt, b"mask_area_pass ", counts, 9, 49);
 }
 
-fn of_starts(counts: &[usize; 80]) {
-    line(b"mask_slice_span ", counts, 10, 50);
-    line(b"mask_from_slice_points ", counts, 11, 51);
-    line(b"mask_from_new_start ", counts, 12, 52);
+fn of_starts(rt: &impl Print, counts: &[usize; 80]) {
+    line(rt, b"mask_slice_span ", counts, 10, 50);
+    line(rt, b"mask_from_slice_points ", counts, 11, 51);
+    line(rt, b"mask_from_new_start ", counts, 12, 52);
 }
 
-fn of_all(counts: &[usize; 80]) {
-    part(counts, ORIGINAL, b" answers of the original, ");
+fn of_all(rt: &impl Print, counts: &[usize; 80]) {
+    part(rt, counts, ORIGINAL, b" answers of the original, ");
     part(
+        rt,
         counts,
         TABLE,
         b" of the refusal table; all words add up to ",
     );
-    part(counts, WORDS, b"\n");
-    part(counts, ALL, b" of ");
-    part(counts, ANNOUNCED, b" cases, ");
-    part(counts, ALL_DIFFER, b" differ\n");
+    part(rt, counts, WORDS, b"\n");
+    part(rt, counts, ALL, b" of ");
+    part(rt, counts, ANNOUNCED, b" cases, ");
+    part(rt, counts, ALL_DIFFER, b" differ\n");
 }
 
-pub(crate) fn show(counts: &[usize; 80]) {
-    of_views(counts);
-    of_lists(counts);
-    of_starts(counts);
-    of_all(counts);
+pub(crate) fn show(rt: &impl Print, counts: &[usize; 80]) {
+    of_views(rt, counts);
+    of_lists(rt, counts);
+    of_starts(rt, counts);
+    of_all(rt, counts);
 }
