@@ -40,6 +40,7 @@ pub extern "C" fn mask_slice_span(
 }
 
 // The view from a point on one segment to a point on another, or none where nothing lies between them.
+// It calls what mask's function calls: by way of that one the splits are copied once more, and the call takes 528 bytes of stack, where include/mask.h says 512.
 #[unsafe(no_mangle)]
 pub extern "C" fn mask_from_slice_points(
     outline: &[f64],
@@ -56,7 +57,7 @@ pub extern "C" fn mask_from_slice_points(
 ) -> ViewAnswer
     ensures { result ≡ slice_answer outline.now vc closed (ends_of (eqb closed 1) start_index start_point end_index end_point) (tolerance_of tolerance_x tolerance_y) start_split end_split }
 {
-    mask::starting::mask_from_slice_points(
+    view_start_entries::slice_points::entry(
         outline,
         vc,
         closed,
@@ -72,6 +73,7 @@ pub extern "C" fn mask_from_slice_points(
 }
 
 // The view that starts a closed outline at a point of it and goes once round, or leads from a point of an open one to its last vertex; none where that point is the last vertex.
+// It calls what mask's function calls: by way of that one the splits are copied once more, and the call takes 528 bytes of stack, where include/mask.h says 512.
 #[unsafe(no_mangle)]
 pub extern "C" fn mask_from_new_start(
     outline: &[f64],
@@ -86,7 +88,7 @@ pub extern "C" fn mask_from_new_start(
 ) -> ViewAnswer
     ensures { result ≡ new_start_answer outline.now vc closed start_index start_point (tolerance_of tolerance_x tolerance_y) start_split end_split }
 {
-    mask::starting::mask_from_new_start(
+    view_start_entries::new_start::entry(
         outline,
         vc,
         closed,
