@@ -9,6 +9,7 @@ use borrow.Author.Tests.{eqb-true, eq-eqb}
 use Rattle.basis.specs.Choice.{by-test, clash, and_left, and_right}
 use Rattle.basis.specs.OrderLaws.{le_trans}
 use Rattle.stitch_layout.specs.declared.layout.Layout.{Layout}
+use Rattle.stitch_layout.specs.PuttingLaws.{before-alone}
 use Rattle.stitch_layout.specs.Slices.{x_of, y_of, group_of, meets_of, same_start, Alike}
 
 level-sym : (s t : Bool) (a b : ℕ) → level s a t b ≡ true → level t b s a ≡ true
@@ -61,3 +62,6 @@ alike_of points w i j h g q =
     let x = and_left (eq (x_of points i) (x_of points j)) _ h in
     let y = and_right (eq (x_of points i) (x_of points j)) _ h in
     rw (le_same (x_of points i) (x_of points j) x q.left, same-le (x_of points i) (x_of points j) x q.right, le_same (y_of points i) (y_of points j) y q.bottom, same-le (y_of points i) (y_of points j) y q.top, g)
+
+-- a run that ends with the slice where it begins: for each way in which `last_of_run` says so
+pub ruleset run_ends = (before-alone)

@@ -85,6 +85,7 @@ fn alike(points: &[f64], w: Layout, i: usize, j: usize) -> bool
 }
 
 // Slices of a list that follow one another and are alike make a run. The last of slice i's run, which is to stand before `next`.
+#[tactic(auto, using(crate::proofs::AlikeLaws::run_ends))]
 fn last_of_run(points: &[f64], link: &[usize], w: Layout, i: usize, next: usize) -> usize
     requires { Before points.now w link.now i next }
     ensures { Run (home_of points.now w) (meets_of points.now w) w.lists w.count i result }

@@ -1,5 +1,6 @@
 use mathlib.Core.Path.{refl}
 use Rattle.stitch_layout.specs.PuttingLaws.{before-both, before-alone, before_more}
+use borrow.Author.Rules.{rules}
 use Rattle.stitch_layout.proofs.layout.last_of_run.Goals as goal
 
 pub returns-then-w-next : goal.returns-then-w-next
@@ -8,9 +9,5 @@ returns-then-w-next c = before-alone _ _ _ _ _ c.requires _ refl
 pub alike-requires : goal.alike-requires
 alike-requires c = before-both _ _ _ _ _ c.requires c.if-w-next.false
 
-pub returns-then-not-alike : goal.returns-then-not-alike
-returns-then-not-alike c = before-alone _ _ _ _ _ c.requires _ refl
-
 pub returns : goal.returns
-returns c =
-    before_more _ _ _ _ _ c.requires c.if-w-next.false (c.alike.ensures c.if-not-alike.false)
+returns c = search (rules, before_more)
