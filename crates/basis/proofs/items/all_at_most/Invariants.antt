@@ -1,4 +1,4 @@
-use Prim.Native.Nat.{◌+◌, ◌*◌, ◌-◌, ◌≤◌}
+use Prim.Native.Nat.{◌+◌, ◌*◌}
 use mathlib.Core.Bool.{true}
 use mathlib.Core.Path.{◌≡◌}
 use lib.ListN.{get_or}
@@ -7,7 +7,4 @@ use Rattle.basis.specs.Each.{each_to}
 use Rattle.basis.proofs.items.all_at_most.Given as goal
 
 abbrev pub invariant-loop-i : goal.invariant-loop-i
-invariant-loop-i l = (l.i ≤ l.count) × (true ≡ each_to (λ j. leb (get_or l.list (l.width * j + l.place) 0) l.most) l.i)
-
-abbrev pub decreases-loop-i : goal.decreases-loop-i
-decreases-loop-i l = l.count - l.i
+invariant-loop-i l = true ≡ each_to (λ j. leb (get_or l.list (l.width * j + l.place) 0) l.most) l.i

@@ -7,6 +7,3 @@ loop-i-init c = search (rules, clearing)
 
 pub loop-i-preserved : goal.loop-i-preserved
 loop-i-preserved c = search (rules, clearing)
-
-pub returns : goal.returns
-returns c = search (rules, clearing)

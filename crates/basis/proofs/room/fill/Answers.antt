@@ -7,6 +7,3 @@ loop-i-init g c = search (rules, clearing)
 
 pub loop-i-preserved : goal.loop-i-preserved
 loop-i-preserved g c = search (rules, clearing)
-
-pub returns : goal.returns
-returns g c = search (rules, clearing)
