@@ -1,13 +1,12 @@
 -- Document 01, "Cuts and candidates": the candidates of one outline, over its cuts in order and the splits along them.
-use Rattle.std.specs.Prelude.{ℕ, zero, suc, ◌+◌, ◌-◌, ◌*◌, Bool, cond, ◌&&◌, length, get_or, ltb, eqb, Float}
+use Rattle.std.specs.Prelude.{ℕ, zero, suc, ◌+◌, ◌-◌, ◌*◌, Bool, cond, ◌&&◌, length, get_or, ltb, eqb, Float, Option, Some, None}
 use mathlib.Core.List.{List, [], ◌∷◌, ◌++◌, flat_map}
 use Rattle.basis.specs.declared.number.Tolerance.{Tolerance}
 use Rattle.outline.specs.declared.point.Vertex.{Vertex}
 use Rattle.outline.specs.Points.{pos_of, vertex_numbers}
 use Rattle.outline.specs.Outline.{wrap, vertex_at, outline_at, point_at}
+use Rattle.view.specs.declared.data.ViewData.{ViewData}
 use Rattle.view.specs.declared.create.Walk.{Walk}
-use Rattle.view.specs.declared.create.OneSegment.{OneSegment}
-use Rattle.view.specs.declared.create.OneSegment.TheVariants as one
 use Rattle.view.specs.View.{view_numbers}
 use Rattle.view.specs.Create.{create_view, single_view}
 use Rattle.cut.specs.declared.arrival.Case.{Case}
@@ -81,9 +80,9 @@ traverse_of vc cut_at count s = traverse_from (vc - 1) (has_cut cut_at count) vc
 -- ---- what the cut at a place gives
 
 -- a candidate has a view; the two vertices are those "whose midpoint the host tests"
-unfoldable pub slice_of : OneSegment → Vertex → Vertex → Candidate
-slice_of (one.View v) a b = Slice v a b
-slice_of one.Collapsed a b = Nothing
+unfoldable pub slice_of : Option ViewData → Vertex → Vertex → Candidate
+slice_of (Some v) a b = Slice v a b
+slice_of None a b = Nothing
 
 -- "a piece between neighbours on the segment unless [..] the split's two positions agree"; it is tested between "the split's start part and split vertex". Where they agree
 -- `create_on_single_segment` has no view; K12: "a piece whose ends were tested apart always gets its view"

@@ -1,5 +1,5 @@
 -- Laws by which the code of one place is proved: a piece, a walk, and which of them it is.
-use Rattle.std.specs.Prelude.{ℕ, ◌+◌, ◌*◌, ◌<◌, Bool, true, false, ◌≡◌, List, ltb, length, Float}
+use Rattle.std.specs.Prelude.{ℕ, ◌+◌, ◌*◌, ◌<◌, Bool, true, false, ◌≡◌, List, ltb, length, Float, Option, Some, None}
 use Rattle.std.proofs.Common.{sym, ◌∙◌, arith}
 use Rattle.std.proofs.Math.Path.{ap}
 use borrow.Author.Tests.{ltb-true}
@@ -11,8 +11,6 @@ use Rattle.outline.specs.Points.{pos_of}
 use Rattle.outline.specs.Outline.{Triple, outline_at, vertex_at}
 use Rattle.view.specs.declared.data.ViewData.{ViewData}
 use Rattle.view.specs.declared.create.Walk.{Walk}
-use Rattle.view.specs.declared.create.OneSegment.{OneSegment}
-use Rattle.view.specs.declared.create.OneSegment.TheVariants as one
 use Rattle.view.specs.Create.{create_view, single_view}
 use Rattle.cut.specs.declared.arrival.Case.{Case}
 use Rattle.candidate.specs.declared.next.Next.{Next}
@@ -23,12 +21,12 @@ use Rattle.candidate.specs.Steps.{Place, LastPlace, LastCut, NextCut, walk_with,
 use Rattle.candidate.specs.PieceLaws.{piece-once}
 
 -- ---- a piece
-module _ (s : ℕ) (a b : Vertex) (t : Tolerance) (end : Point) (r : OneSegment) (at : end ≡ pos_of b) (made : r ≡ single_view s a end t) where
-  pub piece-none : r ≡ one.Collapsed → Nothing ≡ piece_of s a b t
+module _ (s : ℕ) (a b : Vertex) (t : Tolerance) (end : Point) (r : Option ViewData) (at : end ≡ pos_of b) (made : r ≡ single_view s a end t) where
+  pub piece-none : r ≡ None → Nothing ≡ piece_of s a b t
   unfolding slice_of
   piece-none e = rw (piece-once, ← at, ← made, e)
 
-  pub piece-some : (v : ViewData) → r ≡ one.View v → Slice v a b ≡ piece_of s a b t
+  pub piece-some : (v : ViewData) → r ≡ Some v → Slice v a b ≡ piece_of s a b t
   unfolding slice_of
   piece-some v e = rw (piece-once, ← at, ← made, e)
 

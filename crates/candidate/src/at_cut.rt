@@ -13,7 +13,7 @@ use cut::arrival::Case;
 use outline::point::{Point, Vertex};
 use outline::{point, read};
 use view::create;
-use view::create::{OneSegment, Walk};
+use view::create::Walk;
 use view::data::ViewData;
 
 // What a cut gives: nothing, or a candidate, which is its view and the two vertices whose midpoint the host tests.
@@ -36,7 +36,7 @@ pub fn piece(s: usize, a: Vertex, b: Vertex, t: Tolerance) -> Candidate
     ensures { result ≡ piece_of s a b t }
 {
     let end = point::pos(b);
-    let OneSegment::View(v) = create::create_on_single_segment(s, a, end, t) else {
+    let Some(v) = create::create_on_single_segment(s, a, end, t) else {
         return Candidate::Nothing;
     };
     Candidate::Slice(v, a, b)

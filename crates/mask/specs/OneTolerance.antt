@@ -2,13 +2,12 @@
 -- Document 01's agreement, box and range of one tolerance, and that those of two are these where both are `alike`. Of the definitions that an entry's contract reaches, six ask for agreement or box,
 -- and each is shown here with document 01's own in it. Every definition of the base above them takes a tolerance as a whole and hands it on, and so does every entry of the base:
 -- an entry with the tolerance given twice is the entry of before.
-use Rattle.std.specs.Prelude.{ℕ, Bool, true, false, not, ◌&&◌, cond, ◌≡◌, refl, List, ◌∷◌, eqb, Float}
+use Rattle.std.specs.Prelude.{ℕ, Bool, true, false, not, ◌&&◌, cond, ◌≡◌, refl, List, ◌∷◌, eqb, Float, Some, None}
 use Rattle.basis.specs.Number.{agree, in_span, alike, tolerable_on, tolerable}
 use Rattle.outline.specs.declared.point.Point.{Point}
 use Rattle.outline.specs.declared.point.Vertex.{Vertex}
 use Rattle.outline.specs.Outline.{outline_at}
 use Rattle.outline.specs.Points.{pos_of, with_bulge, points_agree, in_box}
-use Rattle.view.specs.declared.create.OneSegment.TheVariants as one
 use Rattle.view.specs.declared.create.Walk.{Walk}
 use Rattle.view.specs.Create.{view_of, near_vertex, single_view}
 use Rattle.view_span.specs.declared.span.Ends.{Ends}
@@ -55,7 +54,7 @@ near-alike o vc i p t = agree-alike t p (pos_of (outline_at o vc i))
 
 -- whether a piece of one segment has a view
 pub single-alike : (s : ℕ) (a : Vertex) (e : Point) (t : Float)
-    → single_view s a e (alike t) ≡ cond (agree_by t (pos_of a) e) one.Collapsed (one.View (view_of s 0 a a.bulge e))
+    → single_view s a e (alike t) ≡ cond (agree_by t (pos_of a) e) None (Some (view_of s 0 a a.bulge e))
 unfolding single_view
 single-alike s a e t = rw (agree-alike t (pos_of a) e)
 

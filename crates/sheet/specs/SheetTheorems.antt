@@ -1,5 +1,5 @@
 -- The sheet: every case holds of the definitions, and the entries answer so.
-use Rattle.std.specs.Prelude.{◌≡◌, ℕ, zero, suc, ◌-◌, ◌*◌, ◌<◌, List, length, take, refl, Float}
+use Rattle.std.specs.Prelude.{◌≡◌, ℕ, zero, suc, ◌-◌, ◌*◌, ◌<◌, List, length, take, refl, Float, Option, Some, None}
 use Rattle.std.proofs.Common.{arith, sym, ap, subst, ◌∙◌}
 use mathlib.Core.List.{flat_map}
 use Rattle.std.specs.Float.Ieee.{of_int, of_bits, neg, add, sub, mul, lt, le}
@@ -14,8 +14,6 @@ use Rattle.basis.specs.Refuse.{answer, first_of, length_fault, size_fault, sourc
 use Rattle.outline.specs.declared.point.Vertex.{Vertex}
 use Rattle.outline.specs.Points.{pos_of, points_agree, in_box, dist_squared}
 use Rattle.outline.specs.Outline.{vertex_at, wrap, outline_at, point_at}
-use Rattle.view.specs.declared.vertex.Found.{Found}
-use Rattle.view.specs.declared.vertex.Found.TheVariants as found
 use Rattle.view.specs.View.{forward_at, turned_at, inverted_at, vertex_of, get_vertex}
 use Rattle.view.specs.ViewTheorems.{found_below, none-beyond}
 use Rattle.view_entries.specs.declared.answer.VertexAnswer.{VertexAnswer}
@@ -156,9 +154,9 @@ unfolding vertex_found
 vertices-answer o vc v n h =
     let w = view_data v in
     let e = h.0 in
-    (found-is (n - 1) (found.At (vertex_of o vc w (n - 1))) (found_below o vc w (n - 1) (omega arith)), found-is n found.NoVertex (none-beyond o vc w n (omega arith)))
+    (found-is (n - 1) (Some (vertex_of o vc w (n - 1))) (found_below o vc w (n - 1) (omega arith)), found-is n None (none-beyond o vc w n (omega arith)))
   where
-    found-is : (k : ℕ) (f : Found) → get_vertex o vc (view_data v) k ≡ f → (view_vertex_answer o vc v k).found ≡ (vertex_found f).found
+    found-is : (k : ℕ) (f : Option Vertex) → get_vertex o vc (view_data v) k ≡ f → (view_vertex_answer o vc v k).found ≡ (vertex_found f).found
     found-is k f e =
         ap (λ (x : VertexAnswer). x.found)
         (answer-accepted vertex_refused (view_vertex_refusal o vc v) _ (view_vertex_answer o vc v k) refl h.1 ∙ ap vertex_found e)

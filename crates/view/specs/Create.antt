@@ -1,5 +1,5 @@
 -- Document 01, "Vertices of a view": the constructors.
-use Rattle.std.specs.Prelude.{ℕ, ◌+◌, ◌-◌, ◌<◌, Bool, false, cond, List, eqb, Float}
+use Rattle.std.specs.Prelude.{ℕ, ◌+◌, ◌-◌, ◌<◌, Bool, false, cond, List, eqb, Float, Option, Some, None}
 use Rattle.basis.specs.declared.number.Tolerance.{Tolerance}
 use Rattle.outline.specs.declared.point.Point.{Point}
 use Rattle.outline.specs.declared.point.Vertex.{Vertex}
@@ -7,8 +7,6 @@ use Rattle.outline.specs.Points.{pos_of, points_agree}
 use Rattle.outline.specs.Outline.{Whole, outline_at}
 use Rattle.view.specs.declared.data.ViewData.{ViewData}
 use Rattle.view.specs.declared.create.Walk.{Walk}
-use Rattle.view.specs.declared.create.OneSegment.{OneSegment}
-use Rattle.view.specs.declared.create.OneSegment.TheVariants as one
 
 -- forward view data, field by field
 abbrev pub view_of : ℕ → ℕ → Vertex → Float → Point → ViewData
@@ -51,9 +49,9 @@ create_view o vc w t =
     (walk_view w w.traverse_count w.split_bulge)
 
 -- ---- `create_on_single_segment`: "has no view when both ends agree"; else offset 0, and the end bulge is the start's
-unfoldable pub single_view : ℕ → Vertex → Point → Tolerance → OneSegment
+unfoldable pub single_view : ℕ → Vertex → Point → Tolerance → Option ViewData
 single_view start first end t =
-    cond (points_agree t (pos_of first) end) one.Collapsed (one.View (view_of start 0 first first.bulge end))
+    cond (points_agree t (pos_of first) end) None (Some (view_of start 0 first first.bulge end))
 
 -- ---- `from_entire_pline`
 

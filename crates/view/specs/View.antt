@@ -1,5 +1,5 @@
 -- Document 01, "Vertices of a view".
-use Rattle.std.specs.Prelude.{ℕ, ◌+◌, ◌-◌, ◌*◌, ◌≤◌, ◌<◌, cond, List, ◌∷◌, ◌++◌, ltb, leb, eqb, length, Float}
+use Rattle.std.specs.Prelude.{ℕ, ◌+◌, ◌-◌, ◌*◌, ◌≤◌, ◌<◌, cond, List, ◌∷◌, ◌++◌, ltb, leb, eqb, length, Float, Option, Some, None}
 use Rattle.std.specs.Float.Ieee.{neg}
 use Rattle.basis.specs.Number.{+0}
 use Rattle.basis.specs.Items.{first_items}
@@ -7,8 +7,6 @@ use Rattle.outline.specs.declared.point.Vertex.{Vertex}
 use Rattle.outline.specs.Points.{with_bulge, at_point, point_numbers, vertex_numbers}
 use Rattle.outline.specs.Outline.{Whole, outline_at}
 use Rattle.view.specs.declared.data.ViewData.{ViewData}
-use Rattle.view.specs.declared.vertex.Found.{Found}
-use Rattle.view.specs.declared.vertex.Found.TheVariants as found
 
 -- view data that fits an outline: "Offset equal to vc is valid."
 pub record Fit (o : List Float) (vc : ℕ) (v : ViewData) : Type 0 where
@@ -45,8 +43,8 @@ vertex_of o vc v k = cond v.inverted_direction (inverted_at o vc v k) (forward_a
 abbrev pub vertex_count : ViewData → ℕ
 vertex_count v = v.end_index_offset + 2
 
-unfoldable pub get_vertex : List Float → ℕ → ViewData → ℕ → Found
-get_vertex o vc v k = cond (leb (vertex_count v) k) found.NoVertex (found.At (vertex_of o vc v k))
+unfoldable pub get_vertex : List Float → ℕ → ViewData → ℕ → Option Vertex
+get_vertex o vc v k = cond (leb (vertex_count v) k) None (Some (vertex_of o vc v k))
 
 -- all vertices of a view, three numbers each, one after the other: vertex 0, vertex 1 and so on
 abbrev pub vertex_item : List Float → ℕ → ViewData → ℕ → List Float

@@ -1,5 +1,5 @@
 -- Closed examples of views, computed: document 01's T6 and T7, and an inverted view.
-use Rattle.std.specs.Prelude.{ℕ, true, false, ◌≡◌, refl, List, [], ◌∷◌, Float, pos, negsuc}
+use Rattle.std.specs.Prelude.{ℕ, true, false, ◌≡◌, refl, List, [], ◌∷◌, Float, pos, negsuc, Option, Some, None}
 use Rattle.std.specs.Float.{fin}
 use Rattle.std.specs.Float.Ieee.{of_bits, neg, sub, lt}
 use Rattle.basis.specs.Number.{+0, one, abs_f, agree, alike}
@@ -9,8 +9,6 @@ use Rattle.outline.specs.declared.point.Vertex.{Vertex}
 use Rattle.outline.specs.Points.{pos_of, with_bulge, points_agree}
 use Rattle.outline.specs.Outline.{vertex_at, wrap, outline_at}
 use Rattle.view.specs.declared.data.ViewData.{ViewData}
-use Rattle.view.specs.declared.vertex.Found.{Found}
-use Rattle.view.specs.declared.vertex.Found.TheVariants as found
 use Rattle.view.specs.declared.create.Walk.{Walk}
 use Rattle.view.specs.View.{forward_at, turned_at, inverted_at, vertex_of, get_vertex}
 use Rattle.view.specs.Create.{view_of, near_vertex, bulge_before, create_view}
@@ -73,16 +71,16 @@ pub t7-offset : (round_view (straight one +0)).end_index_offset ≡ 3
 unfolding creates
 t7-offset = refl
 
-abbrev t7 : ℕ → Found
+abbrev t7 : ℕ → Option Vertex
 t7 = get_vertex (triangle +0) 3 (round_view (straight one +0))
 
 -- Five vertices, and none after them.
-pub t7-vertices : (t7 0 ≡ found.At (straight one +0))
-    × (t7 1 ≡ found.At (straight two +0))
-    × (t7 2 ≡ found.At (straight +0 two))
-    × (t7 3 ≡ found.At (straight +0 +0))
-    × (t7 4 ≡ found.At (straight one +0))
-    × (t7 5 ≡ found.NoVertex)
+pub t7-vertices : (t7 0 ≡ Some (straight one +0))
+    × (t7 1 ≡ Some (straight two +0))
+    × (t7 2 ≡ Some (straight +0 two))
+    × (t7 3 ≡ Some (straight +0 +0))
+    × (t7 4 ≡ Some (straight one +0))
+    × (t7 5 ≡ None)
 unfolding creates
 t7-vertices = (refl, refl, refl, refl, refl, refl)
 
@@ -92,15 +90,15 @@ pub t6-offset : (round_view (straight +0 +0)).end_index_offset ≡ 2
 unfolding creates
 t6-offset = refl
 
-abbrev t6 : ℕ → Found
+abbrev t6 : ℕ → Option Vertex
 t6 = get_vertex (triangle +0) 3 (round_view (straight +0 +0))
 
 -- Four vertices, and none after them.
-pub t6-vertices : (t6 0 ≡ found.At (straight +0 +0))
-    × (t6 1 ≡ found.At (straight two +0))
-    × (t6 2 ≡ found.At (straight +0 two))
-    × (t6 3 ≡ found.At (straight +0 +0))
-    × (t6 4 ≡ found.NoVertex)
+pub t6-vertices : (t6 0 ≡ Some (straight +0 +0))
+    × (t6 1 ≡ Some (straight two +0))
+    × (t6 2 ≡ Some (straight +0 two))
+    × (t6 3 ≡ Some (straight +0 +0))
+    × (t6 4 ≡ None)
 unfolding creates
 t6-vertices = (refl, refl, refl, refl, refl)
 
@@ -127,24 +125,24 @@ back =
       inverted_direction = true;
     }
 
-abbrev there : ℕ → Found
+abbrev there : ℕ → Option Vertex
 there = get_vertex (triangle half) 3 way
 
-abbrev home : ℕ → Found
+abbrev home : ℕ → Option Vertex
 home = get_vertex (triangle half) 3 back
 
-pub forward-arc : (there 0 ≡ found.At (straight one +0))
-    × (there 1 ≡ found.At (with_bulge (straight two +0) half))
-    × (there 2 ≡ found.At (straight +0 two))
-    × (there 3 ≡ found.At (straight +0 one))
-    × (there 4 ≡ found.NoVertex)
+pub forward-arc : (there 0 ≡ Some (straight one +0))
+    × (there 1 ≡ Some (with_bulge (straight two +0) half))
+    × (there 2 ≡ Some (straight +0 two))
+    × (there 3 ≡ Some (straight +0 one))
+    × (there 4 ≡ None)
 unfolding reads
 forward-arc = (refl, refl, refl, refl, refl)
 
-pub inverted-arc : (home 0 ≡ found.At (with_bulge (straight +0 one) -0))
-    × (home 1 ≡ found.At (with_bulge (straight +0 two) -half))
-    × (home 2 ≡ found.At (with_bulge (straight two +0) -0))
-    × (home 3 ≡ found.At (straight one +0))
-    × (home 4 ≡ found.NoVertex)
+pub inverted-arc : (home 0 ≡ Some (with_bulge (straight +0 one) -0))
+    × (home 1 ≡ Some (with_bulge (straight +0 two) -half))
+    × (home 2 ≡ Some (with_bulge (straight two +0) -0))
+    × (home 3 ≡ Some (straight one +0))
+    × (home 4 ≡ None)
 unfolding reads
 inverted-arc = (refl, refl, refl, refl, refl)

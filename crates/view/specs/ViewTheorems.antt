@@ -1,5 +1,5 @@
 -- Theorems about the definitions of `View` and `Create`, so that a reader can trust them. Of the proofs of code only one rests on them, in the crate unmoved: it uses `outline-passes`.
-use Rattle.std.specs.Prelude.{ℕ, ◌+◌, ◌-◌, ◌*◌, ◌≤◌, ◌<◌, Bool, ◌≡◌, List, ◌∷◌, ◌++◌, ltb, eqb, Float}
+use Rattle.std.specs.Prelude.{ℕ, ◌+◌, ◌-◌, ◌*◌, ◌≤◌, ◌<◌, Bool, ◌≡◌, List, ◌∷◌, ◌++◌, ltb, eqb, Float, Some, None}
 use Rattle.std.proofs.Math.Bool.{true, false, ◌&&◌}
 use Rattle.std.proofs.Math.Path.{refl, ap, ap₂}
 use Rattle.std.proofs.Common.{sym, subst, ◌∙◌}
@@ -16,9 +16,7 @@ use Rattle.outline.specs.Points.{pos_of, with_bulge, at_point, point_numbers, ve
 use Rattle.outline.specs.Outline.{Whole, vertex_at, wrap, outline_at}
 use Rattle.outline.specs.OutlineLaws.{wrap-lt, wrap-same, wrap-less}
 use Rattle.view.specs.declared.data.ViewData.{ViewData}
-use Rattle.view.specs.declared.vertex.Found.TheVariants as found
 use Rattle.view.specs.declared.create.Walk.{Walk}
-use Rattle.view.specs.declared.create.OneSegment.TheVariants as one
 use Rattle.view.specs.View.{Fit, forward_at, turned_at, inverted_at, vertex_of, get_vertex, vertex_count, view_numbers}
 use Rattle.view.specs.Create.{WalkFit, view_of, walk_view, near_vertex, bulge_before, create_view, single_view, entire_offset, entire_view}
 
@@ -50,12 +48,12 @@ module _ (o : List Float) (vc : ℕ) (v : ViewData) where
   -- ---- how many vertices a view has
 
   -- A view has offset + 2 vertices: an index below that has one,
-  pub found_below : (k : ℕ) → k < offset v + 2 → get_vertex o vc v k ≡ found.At (vertex_of o vc v k)
+  pub found_below : (k : ℕ) → k < offset v + 2 → get_vertex o vc v k ≡ Some (vertex_of o vc v k)
   unfolding get_vertex
   found_below k h = simp (lt-leb (offset v + 2) k h)
 
   -- and an index from there on has none.
-  pub none-beyond : (k : ℕ) → offset v + 2 ≤ k → get_vertex o vc v k ≡ found.NoVertex
+  pub none-beyond : (k : ℕ) → offset v + 2 ≤ k → get_vertex o vc v k ≡ None
   unfolding get_vertex
   none-beyond k h = simp (le-leb (offset v + 2) k h)
 
@@ -264,16 +262,16 @@ module _ (o : List Float) (vc : ℕ) (w : Walk) (t : Tolerance) where
 
 -- ---- `create_on_single_segment`
 module _ (i : ℕ) (first : Vertex) (end : Point) (t : Tolerance) where
-  single-yes : points_agree t (pos_of first) end ≡ true → single_view i first end t ≡ one.Collapsed
+  single-yes : points_agree t (pos_of first) end ≡ true → single_view i first end t ≡ None
   unfolding single_view
   single-yes e = simp e
 
-  single-no : points_agree t (pos_of first) end ≡ false → single_view i first end t ≡ one.View (view_of i 0 first first.bulge end)
+  single-no : points_agree t (pos_of first) end ≡ false → single_view i first end t ≡ Some (view_of i 0 first first.bulge end)
   unfolding single_view
   single-no e = simp e
 
   -- where it gives a view
-  module _ (v : ViewData) (is : single_view i first end t ≡ one.View v) where
+  module _ (v : ViewData) (is : single_view i first end t ≡ Some v) where
     single-is : view_of i 0 first first.bulge end ≡ v
     single-is = by-test (points_agree t (pos_of first) end) (λ e. cc (single-yes e)) (λ e. cc (single-no e))
 
@@ -323,7 +321,7 @@ module _ (p : Float → Bool) where
       (numbers-pass _ _ _ f g h)
 
   -- Handed to `create_on_single_segment`: the start and the end.
-  pub single-numbers : (i : ℕ) (first : Vertex) (end : Point) (t : Tolerance) (v : ViewData) → single_view i first end t ≡ one.View v
+  pub single-numbers : (i : ℕ) (first : Vertex) (end : Point) (t : Tolerance) (v : ViewData) → single_view i first end t ≡ Some v
       → all_of p (vertex_numbers first) ≡ true → all_of p (point_numbers end) ≡ true → all_of p (view_numbers v) ≡ true
   single-numbers i first end t v is f h =
       subst (λ (u : ViewData). all_of p (view_numbers u) ≡ true) (single-is i first end t v is) (numbers-pass _ _ _ f (bulge-passes first f) h)

@@ -19,13 +19,6 @@ pub struct Walk {
     pub split_bulge: f64,
 }
 
-// A view, or none where both ends agree.
-#[derive(Clone, Copy)]
-pub enum OneSegment {
-    View(ViewData),
-    Collapsed,
-}
-
 // The point agrees with the outline's vertex at an index that wraps.
 pub fn near_vertex(outline: &[f64], vc: usize, i: usize, p: Point, t: Tolerance) -> bool
     requires { Near outline.now vc i }
@@ -75,13 +68,13 @@ pub fn create(outline: &[f64], vc: usize, w: Walk, t: Tolerance) -> ViewData
     }
 }
 
-// The view between two points of one segment.
+// The view between two points of one segment, or none where both agree.
 pub fn create_on_single_segment(
     start_index: usize,
     updated_start: Vertex,
     end_intersect: Point,
     t: Tolerance,
-) -> OneSegment
+) -> Option<ViewData>
     ensures { result ≡ single_view start_index updated_start end_intersect t }
 {
     let start = Point {
@@ -89,9 +82,9 @@ pub fn create_on_single_segment(
         y: updated_start.y,
     };
     if point::points_agree(start, end_intersect, t) {
-        return OneSegment::Collapsed;
+        return None;
     }
-    OneSegment::View(ViewData {
+    Some(ViewData {
         start_index,
         end_index_offset: 0,
         updated_start,

@@ -8,13 +8,6 @@ use crate::data::ViewData;
 use outline::point::Vertex;
 use outline::{point, read};
 
-// The answer at an index: a vertex, or none there.
-#[derive(Clone, Copy)]
-pub enum Found {
-    At(Vertex),
-    NoVertex,
-}
-
 // The outline's vertex at an index that wraps, with another bulge.
 fn bulged(outline: &[f64], vc: usize, i: usize, bulge: f64) -> Vertex
     requires { Near outline.now vc i }
@@ -81,14 +74,14 @@ pub fn vertex_of(outline: &[f64], vc: usize, v: ViewData, k: usize) -> Vertex
     }
 }
 
-// The vertex at any index.
-pub fn get_vertex(outline: &[f64], vc: usize, v: ViewData, k: usize) -> Found
+// The vertex at any index, or none beyond the last.
+pub fn get_vertex(outline: &[f64], vc: usize, v: ViewData, k: usize) -> Option<Vertex>
     requires { Fit outline.now vc v }
     ensures { result ≡ get_vertex outline.now vc v k }
 {
     if v.end_index_offset + 2 <= k {
-        Found::NoVertex
+        None
     } else {
-        Found::At(vertex_of(outline, vc, v, k))
+        Some(vertex_of(outline, vc, v, k))
     }
 }

@@ -1,14 +1,10 @@
 -- The flat answers of the entries. "A refusal returns its number and zero counts": all other fields are 0 or +0.
-use Rattle.std.specs.Prelude.{ℕ}
+use Rattle.std.specs.Prelude.{ℕ, Option, Some, None}
 use Rattle.basis.specs.Choice.{code_of}
 use Rattle.basis.specs.Number.{+0}
 use Rattle.outline.specs.declared.point.Point.{Point}
 use Rattle.outline.specs.declared.point.Vertex.{Vertex}
 use Rattle.view.specs.declared.data.ViewData.{ViewData}
-use Rattle.view.specs.declared.vertex.Found.{Found}
-use Rattle.view.specs.declared.vertex.Found.TheVariants as found
-use Rattle.view.specs.declared.create.OneSegment.{OneSegment}
-use Rattle.view.specs.declared.create.OneSegment.TheVariants as one
 use Rattle.view_entries.specs.declared.input.View.{View}
 use Rattle.view_entries.specs.declared.answer.VertexAnswer.{VertexAnswer}
 use Rattle.view_entries.specs.declared.answer.ViewAnswer.{ViewAnswer}
@@ -36,9 +32,9 @@ abbrev pub vertex_refused : ℕ → VertexAnswer
 vertex_refused n = record { refusal = n; found = 0; vertex = no_vertex }
 
 -- found 1 and the vertex; "no vertex": found 0, the vertex all +0
-unfoldable pub vertex_found : Found → VertexAnswer
-vertex_found (found.At v) = record { refusal = 0; found = 1; vertex = v }
-vertex_found found.NoVertex = vertex_refused 0
+unfoldable pub vertex_found : Option Vertex → VertexAnswer
+vertex_found (Some v) = record { refusal = 0; found = 1; vertex = v }
+vertex_found None = vertex_refused 0
 
 -- ---- a view
 
@@ -60,6 +56,6 @@ unfoldable pub view_made : ViewData → ViewAnswer
 view_made v = record { refusal = 0; found = 1; view = flat_view v }
 
 -- no view where both ends agree: found 0, the view all 0
-unfoldable pub segment_made : OneSegment → ViewAnswer
-segment_made (one.View v) = view_made v
-segment_made one.Collapsed = view_refused 0
+unfoldable pub segment_made : Option ViewData → ViewAnswer
+segment_made (Some v) = view_made v
+segment_made None = view_refused 0

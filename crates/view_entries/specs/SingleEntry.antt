@@ -1,5 +1,5 @@
 -- The entry `mask_create_on_single_segment`: its refusals and its answer.
-use Rattle.std.specs.Prelude.{ℕ, not, ◌≡◌, List, [], ◌∷◌, ◌++◌, length, leb, Float}
+use Rattle.std.specs.Prelude.{ℕ, not, ◌≡◌, List, [], ◌∷◌, ◌++◌, length, leb, Float, Option}
 use Rattle.std.proofs.Common.{ap, ◌∙◌}
 use Rattle.basis.specs.Number.{all_within, tolerable}
 use Rattle.basis.specs.declared.number.Tolerance.{Tolerance}
@@ -7,7 +7,7 @@ use Rattle.basis.specs.Refuse.{Row, row, first_of, answer, length_fault, size_fa
 use Rattle.outline.specs.declared.point.Point.{Point}
 use Rattle.outline.specs.declared.point.Vertex.{Vertex}
 use Rattle.outline.specs.Points.{point_numbers, vertex_numbers}
-use Rattle.view.specs.declared.create.OneSegment.{OneSegment}
+use Rattle.view.specs.declared.data.ViewData.{ViewData}
 use Rattle.view.specs.Create.{single_view}
 use Rattle.view_entries.specs.declared.answer.ViewAnswer.{ViewAnswer}
 use Rattle.view_entries.specs.Answers.{view_refused, segment_made}
@@ -28,7 +28,7 @@ single_refusal o vc start first end t = first_of (single_rows o vc start first e
 abbrev pub single_answer : List Float → ℕ → ℕ → Vertex → Point → Tolerance → ViewAnswer
 single_answer o vc start first end t = answer view_refused (single_refusal o vc start first end t) (segment_made (single_view start first end t))
 
-pub single_of : (start : ℕ) (first : Vertex) (end : Point) (t : Tolerance) (s : OneSegment) (r : ViewAnswer)
+pub single_of : (start : ℕ) (first : Vertex) (end : Point) (t : Tolerance) (s : Option ViewData) (r : ViewAnswer)
     → s ≡ single_view start first end t → r ≡ segment_made s → r ≡ segment_made (single_view start first end t)
 single_of start first end t s r e q = q ∙ ap segment_made e
 

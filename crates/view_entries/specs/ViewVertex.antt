@@ -1,13 +1,13 @@
 -- The entry `mask_view_vertex`: its refusals, its answer, and what acceptance gives.
-use Rattle.std.specs.Prelude.{ℕ, not, ◌≡◌, List, [], ◌∷◌, length, ltb, leb, Float}
+use Rattle.std.specs.Prelude.{ℕ, not, ◌≡◌, List, [], ◌∷◌, length, ltb, leb, Float, Option}
 use Rattle.std.proofs.Common.{sym, ◌∙◌}
 use Rattle.std.proofs.Math.Path.{subst}
 use borrow.Author.Tests.{leb-false, ltb-false}
 use Rattle.basis.specs.Number.{all_within}
 use Rattle.basis.specs.Refuse.{Row, row, first_of, answer, length_fault, size_fault, choice_fault}
 use Rattle.basis.specs.RefuseLaws.{clear, length-ok, size_ok}
+use Rattle.outline.specs.declared.point.Vertex.{Vertex}
 use Rattle.view.specs.declared.data.ViewData.{ViewData}
-use Rattle.view.specs.declared.vertex.Found.{Found}
 use Rattle.view.specs.View.{Fit, get_vertex, view_numbers}
 use Rattle.view_entries.specs.declared.input.View.{View}
 use Rattle.view_entries.specs.declared.answer.VertexAnswer.{VertexAnswer}
@@ -44,7 +44,7 @@ module _ (o : List Float) (vc : ℕ) (v : View) where
         reaches = ltb-false vc v.end_index_offset (search ok);
       })
 
-  pub vertex-of : (k : ℕ) (w : ViewData) (f : Found) (r : VertexAnswer) → w ≡ view_data v → f ≡ get_vertex o vc w k → r ≡ vertex_found f → r ≡ vertex_found (get_vertex o vc (view_data v) k)
+  pub vertex-of : (k : ℕ) (w : ViewData) (f : Option Vertex) (r : VertexAnswer) → w ≡ view_data v → f ≡ get_vertex o vc w k → r ≡ vertex_found f → r ≡ vertex_found (get_vertex o vc (view_data v) k)
   vertex-of k w f r e q p = cc
 
 pub ruleset vertex_laws = (vertex-accepted, vertex-of)

@@ -5,9 +5,7 @@ ghost use Rattle.view_entries.specs.Answers.{flat_view, vertex_refused, vertex_f
 
 use crate::input::View;
 use outline::point::{Point, Vertex};
-use view::create::OneSegment;
 use view::data::ViewData;
-use view::vertex::Found;
 
 #[repr(C)]
 #[derive(Clone, Copy)]
@@ -53,16 +51,16 @@ pub(crate) fn vertex_refused(number: u32) -> VertexAnswer
     }
 }
 
-pub(crate) fn vertex_found(f: Found) -> VertexAnswer
+pub(crate) fn vertex_found(f: Option<Vertex>) -> VertexAnswer
     ensures { result ≡ vertex_found f }
 {
     match f {
-        Found::At(v) => VertexAnswer {
+        Some(v) => VertexAnswer {
             refusal: 0,
             found: 1,
             vertex: v,
         },
-        Found::NoVertex => vertex_refused(0),
+        None => vertex_refused(0),
     }
 }
 
@@ -110,11 +108,11 @@ pub(crate) fn view_made(v: ViewData) -> ViewAnswer
     }
 }
 
-pub fn segment_made(s: OneSegment) -> ViewAnswer
+pub fn segment_made(s: Option<ViewData>) -> ViewAnswer
     ensures { result ≡ segment_made s }
 {
     match s {
-        OneSegment::View(v) => view_made(v),
-        OneSegment::Collapsed => view_refused(0),
+        Some(v) => view_made(v),
+        None => view_refused(0),
     }
 }

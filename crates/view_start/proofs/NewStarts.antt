@@ -1,4 +1,5 @@
 -- Laws by which the views from a new start are proved: a callee's answer in place of its definition.
+use Rattle.std.specs.Prelude.{Option, Some}
 use Prim.Native.Nat.{ℕ, ◌-◌, ◌<◌}
 use mathlib.Core.Bool.{Bool, true, false}
 use mathlib.Core.Path.{◌≡◌, ap, ◌∙◌}
@@ -11,8 +12,6 @@ use Rattle.outline.specs.Points.{pos_of}
 use Rattle.outline.specs.Outline.{Segment, outline_at}
 use Rattle.view.specs.declared.data.ViewData.{ViewData}
 use Rattle.view.specs.declared.create.Walk.{Walk}
-use Rattle.view.specs.declared.create.OneSegment.{OneSegment}
-use Rattle.view.specs.declared.create.OneSegment.TheVariants as one
 use Rattle.view.specs.Create.{WalkFit, create_view}
 use Rattle.view_span.specs.declared.span.Ends.{Ends}
 use Rattle.view_span.specs.declared.span.Span.{Span}
@@ -37,11 +36,11 @@ module _ (o : List Float) (vc i : ℕ) (p : Point) (t : Tolerance) (s : Splits) 
   unfolding round_view
   round_by e m v f g q = cc
 
-  pub new-closed : (closed : Bool) (v : ViewData) → closed ≡ true → v ≡ round_view o vc i p t s → one.View v ≡ new_start_view o vc closed i p t s
+  pub new-closed : (closed : Bool) (v : ViewData) → closed ≡ true → v ≡ round_view o vc i p t s → Some v ≡ new_start_view o vc closed i p t s
   unfolding new_start_view
-  new-closed closed v c q = rw c (ap one.View q)
+  new-closed closed v c q = rw c (ap Some q)
 
-  pub new-open : (closed : Bool) (e : Ends) (r : OneSegment) → closed ≡ false → e ≡ last_ends o vc i p → r ≡ slice_view o vc e t s → r ≡ new_start_view o vc closed i p t s
+  pub new-open : (closed : Bool) (e : Ends) (r : Option ViewData) → closed ≡ false → e ≡ last_ends o vc i p → r ≡ slice_view o vc e t s → r ≡ new_start_view o vc closed i p t s
   unfolding new_start_view
   new-open closed e r c f q = rw c (q ∙ ap (λ (x : Ends). slice_view o vc x t s) f)
 

@@ -1,4 +1,5 @@
 -- Laws by which the views between two points are proved: a callee's answer in place of its definition.
+use Rattle.std.specs.Prelude.{Option, Some}
 use Prim.Native.Nat.{ℕ}
 use mathlib.Core.Bool.{Bool, true, false, not}
 use mathlib.Core.Path.{◌≡◌, sym, ap, ◌∙◌}
@@ -13,8 +14,6 @@ use Rattle.outline.specs.Points.{pos_of, points_agree}
 use Rattle.outline.specs.Outline.{Near}
 use Rattle.view.specs.declared.data.ViewData.{ViewData}
 use Rattle.view.specs.declared.create.Walk.{Walk}
-use Rattle.view.specs.declared.create.OneSegment.{OneSegment}
-use Rattle.view.specs.declared.create.OneSegment.TheVariants as one
 use Rattle.view.specs.Create.{near_vertex, create_view}
 use Rattle.view_span.specs.declared.span.Ends.{Ends}
 use Rattle.view_span.specs.declared.span.Span.{Span}
@@ -32,7 +31,7 @@ module _ (o : List Float) (vc : ℕ) (e : Ends) (s : Span) where
   unfolding walk_over
   walk-by p v f = ap (λ (u : Vertex). walk_from e s u p.end_part) f
 
-  pub sliced-walk : (t : Tolerance) (p : Splits) (w : Walk) (r : OneSegment) → (s.traverse_count ≡ 0 → ⊥) → w ≡ walk_over o vc e s p → r ≡ walked_view o vc w t → r ≡ sliced_view o vc e t s p
+  pub sliced-walk : (t : Tolerance) (p : Splits) (w : Walk) (r : Option ViewData) → (s.traverse_count ≡ 0 → ⊥) → w ≡ walk_over o vc e s p → r ≡ walked_view o vc w t → r ≡ sliced_view o vc e t s p
   unfolding sliced_view
   sliced-walk t p w r n f q = rw (ne_eqb s.traverse_count 0 n) (q ∙ ap (λ (x : Walk). walked_view o vc x t) f)
 
@@ -51,11 +50,11 @@ module _ (o : List Float) (vc : ℕ) (w : Walk) (t : Tolerance) where
   unfolding collapses
   collapse-by b r p e f n g q = rw (eq-eqb w.traverse_count 1 e, sym f ∙ not-false b n) (q ∙ ap (λ (x : Point). points_agree t x w.end_intersect) g)
 
-  pub walked-view : (b : Bool) (v : ViewData) → b ≡ collapses o vc w t → b ≡ false → v ≡ create_view o vc w t → one.View v ≡ walked_view o vc w t
+  pub walked-view : (b : Bool) (v : ViewData) → b ≡ collapses o vc w t → b ≡ false → v ≡ create_view o vc w t → Some v ≡ walked_view o vc w t
   unfolding walked_view
-  walked-view b v f n q = rw (sym f ∙ n) (ap one.View q)
+  walked-view b v f n q = rw (sym f ∙ n) (ap Some q)
 
-pub slice-by : (o : List Float) (vc : ℕ) (e : Ends) (t : Tolerance) (p : Splits) (s : Span) (r : OneSegment) → s ≡ span_of o vc e t → r ≡ sliced_view o vc e t s p → r ≡ slice_view o vc e t p
+pub slice-by : (o : List Float) (vc : ℕ) (e : Ends) (t : Tolerance) (p : Splits) (s : Span) (r : Option ViewData) → s ≡ span_of o vc e t → r ≡ sliced_view o vc e t s p → r ≡ slice_view o vc e t p
 unfolding slice_view
 slice-by o vc e t p s r f q = q ∙ ap (λ (x : Span). sliced_view o vc e t x p) f
 

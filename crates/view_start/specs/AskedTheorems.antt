@@ -1,11 +1,10 @@
 -- Which split a view does not depend on, so that the host need not make it. No code is proved by these.
-use Rattle.std.specs.Prelude.{ℕ, true, ◌≡◌, List, Float}
+use Rattle.std.specs.Prelude.{ℕ, true, ◌≡◌, List, Float, Some}
 use Rattle.std.proofs.Math.Path.{refl, sym, ap}
 use Rattle.std.proofs.Common.{◌∙◌, eq-eqb, ne_eqb}
 use Rattle.basis.specs.declared.number.Tolerance.{Tolerance}
 use Rattle.outline.specs.declared.point.Point.{Point}
 use Rattle.outline.specs.Outline.{Segment}
-use Rattle.view.specs.declared.create.OneSegment.TheVariants as one
 use Rattle.view.specs.Create.{near_vertex, bulge_before, create_view}
 use Rattle.view_span.specs.declared.span.Ends.{Ends}
 use Rattle.view_start.specs.declared.slice_points.Splits.{Splits}
@@ -39,4 +38,4 @@ module _ (o : List Float) (vc i : ℕ) (a : Point) (t : Tolerance) (p q : Splits
 
   pub round-part-idle : Segment o vc i → near_vertex o vc (start_of o vc i a t) a t ≡ true → p.start_vertex ≡ q.start_vertex → new_start_view o vc true i a t p ≡ new_start_view o vc true i a t q
   unfolding new_start_view
-  round-part-idle g y f = ap one.View (round-on-vertex o vc i a t p g y ∙ view_fields refl refl f refl refl ∙ sym (round-on-vertex o vc i a t q g y))
+  round-part-idle g y f = ap Some (round-on-vertex o vc i a t p g y ∙ view_fields refl refl f refl refl ∙ sym (round-on-vertex o vc i a t q g y))

@@ -1,13 +1,11 @@
 -- Request K5: the view that starts an outline at a point of it, the Rust's `from_new_start`.
-use Rattle.std.specs.Prelude.{ℕ, ◌-◌, Bool, true, false, cond, List, Float}
+use Rattle.std.specs.Prelude.{ℕ, ◌-◌, Bool, true, false, cond, List, Float, Option, Some}
 use Rattle.basis.specs.declared.number.Tolerance.{Tolerance}
 use Rattle.outline.specs.declared.point.Point.{Point}
 use Rattle.outline.specs.Points.{pos_of}
 use Rattle.outline.specs.Outline.{outline_at}
 use Rattle.view.specs.declared.data.ViewData.{ViewData}
 use Rattle.view.specs.declared.create.Walk.{Walk}
-use Rattle.view.specs.declared.create.OneSegment.{OneSegment}
-use Rattle.view.specs.declared.create.OneSegment.TheVariants as one
 use Rattle.view.specs.Create.{create_view}
 use Rattle.view_span.specs.declared.span.Ends.{Ends}
 use Rattle.view_start.specs.declared.slice_points.Splits.{Splits}
@@ -41,5 +39,5 @@ round_walk vc i p s =
 unfoldable pub round_view : List Float → ℕ → ℕ → Point → Tolerance → Splits → ViewData
 round_view o vc i p t s = create_view o vc (round_walk vc (span_of o vc (round_ends i p) t).start_index p s) t
 
-unfoldable pub new_start_view : List Float → ℕ → Bool → ℕ → Point → Tolerance → Splits → OneSegment
-new_start_view o vc closed i p t s = cond closed (one.View (round_view o vc i p t s)) (slice_view o vc (last_ends o vc i p) t s)
+unfoldable pub new_start_view : List Float → ℕ → Bool → ℕ → Point → Tolerance → Splits → Option ViewData
+new_start_view o vc closed i p t s = cond closed (Some (round_view o vc i p t s)) (slice_view o vc (last_ends o vc i p) t s)

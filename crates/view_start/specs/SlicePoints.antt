@@ -1,12 +1,11 @@
 -- Request K5: the view between two points of an outline, the Rust's `from_slice_points`, "with splits supplied as for slicing".
-use Rattle.std.specs.Prelude.{ℕ, Bool, cond, ◌&&◌, List, eqb, Float}
+use Rattle.std.specs.Prelude.{ℕ, Bool, cond, ◌&&◌, List, eqb, Float, Option, Some, None}
 use Rattle.basis.specs.declared.number.Tolerance.{Tolerance}
 use Rattle.outline.specs.declared.point.Vertex.{Vertex}
 use Rattle.outline.specs.Points.{pos_of, points_agree}
 use Rattle.outline.specs.Outline.{outline_at}
+use Rattle.view.specs.declared.data.ViewData.{ViewData}
 use Rattle.view.specs.declared.create.Walk.{Walk}
-use Rattle.view.specs.declared.create.OneSegment.{OneSegment}
-use Rattle.view.specs.declared.create.OneSegment.TheVariants as one
 use Rattle.view.specs.Create.{near_vertex, create_view, single_view}
 use Rattle.view_span.specs.declared.span.Ends.{Ends}
 use Rattle.view_span.specs.declared.span.Span.{Span}
@@ -38,13 +37,13 @@ collapses o vc w t =
     eqb w.traverse_count 1
     && (near_vertex o vc w.intersect_index w.end_intersect t && points_agree t (pos_of w.updated_start) w.end_intersect)
 
-unfoldable pub walked_view : List Float → ℕ → Walk → Tolerance → OneSegment
-walked_view o vc w t = cond (collapses o vc w t) one.Collapsed (one.View (create_view o vc w t))
+unfoldable pub walked_view : List Float → ℕ → Walk → Tolerance → Option ViewData
+walked_view o vc w t = cond (collapses o vc w t) None (Some (create_view o vc w t))
 
 -- traverse count 0: both points are on one segment, and the end's split is of the running vertex, so that its first part is the view's start; else a walk
-unfoldable pub sliced_view : List Float → ℕ → Ends → Tolerance → Span → Splits → OneSegment
+unfoldable pub sliced_view : List Float → ℕ → Ends → Tolerance → Span → Splits → Option ViewData
 sliced_view o vc e t s p =
     cond (eqb s.traverse_count 0) (single_view s.start_index p.end_part e.end_point t) (walked_view o vc (walk_over o vc e s p) t)
 
-unfoldable pub slice_view : List Float → ℕ → Ends → Tolerance → Splits → OneSegment
+unfoldable pub slice_view : List Float → ℕ → Ends → Tolerance → Splits → Option ViewData
 slice_view o vc e t p = sliced_view o vc e t (span_of o vc e t) p

@@ -1,5 +1,5 @@
 -- Closed examples of every corner of `from_slice_points` and `from_new_start`, computed, each on a small input. The host splits straight segments, as the Rust does.
-use Rattle.std.specs.Prelude.{ℕ, Bool, true, false, ◌≡◌, refl, List, [], ◌∷◌, Float, pos, negsuc}
+use Rattle.std.specs.Prelude.{ℕ, Bool, true, false, ◌≡◌, refl, List, [], ◌∷◌, Float, pos, negsuc, Option, Some, None}
 use Rattle.std.specs.Float.{fin}
 use Rattle.std.specs.Float.Ieee.{of_bits, add, sub, mul, lt}
 use Rattle.basis.specs.Number.{+0, abs_f, agree, alike}
@@ -7,8 +7,7 @@ use Rattle.basis.specs.declared.number.Tolerance.{Tolerance}
 use Rattle.outline.specs.declared.point.Point.{Point}
 use Rattle.outline.specs.Points.{at_point, points_agree, dist_squared}
 use Rattle.outline.specs.Outline.{vertex_at, wrap, outline_at}
-use Rattle.view.specs.declared.create.OneSegment.{OneSegment}
-use Rattle.view.specs.declared.create.OneSegment.TheVariants.{View, Collapsed}
+use Rattle.view.specs.declared.data.ViewData.{ViewData}
 use Rattle.view.specs.Create.{view_of, near_vertex, bulge_before, create_view, single_view}
 use Rattle.view_span.specs.declared.span.Ends.{Ends}
 use Rattle.view_span.specs.declared.span.Span.{Span}
@@ -93,15 +92,15 @@ straight a = record { part = a.from; vertex = at_point a.at +0 }
 abbrev span : Bool → ℕ → Float → ℕ → Float → Span
 span closed i p j q = span_of line 2 (ends_of closed i (at p) j (at q)) fine
 
-abbrev slice_in : List Float → ℕ → Tolerance → Ends → OneSegment
+abbrev slice_in : List Float → ℕ → Tolerance → Ends → Option ViewData
 slice_in o vc t e = slice_view o vc e t (handed_in straight o vc e (span_of o vc e t))
 
-abbrev slice : Bool → ℕ → Float → ℕ → Float → OneSegment
+abbrev slice : Bool → ℕ → Float → ℕ → Float → Option ViewData
 slice closed i p j q = slice_in line 2 fine (ends_of closed i (at p) j (at q))
 
 -- from p on, over so many vertices more, to q
-abbrev view : ℕ → ℕ → Float → Float → OneSegment
-view i offset p q = View (view_of i offset (at_point (at p) +0) +0 (at q))
+abbrev view : ℕ → ℕ → Float → Float → Option ViewData
+view i offset p q = Some (view_of i offset (at_point (at p) +0) +0 (at q))
 
 -- ---- "a start point on the end of its segment moves forward unless an open outline can't"
 
@@ -139,7 +138,7 @@ farther-wraps = (refl, refl)
 abbrev level : Ends
 level = ends_of true 0 (at three) 0 (record { x = +0; y = three })
 
-pub equal-wraps : (span_of line 2 level fine ≡ span_with false 0 2) × (slice_in line 2 fine level ≡ View (view_of 0 2 (at_point (at three) +0) +0 (record { x = +0; y = three })))
+pub equal-wraps : (span_of line 2 level fine ≡ span_with false 0 2) × (slice_in line 2 fine level ≡ Some (view_of 0 2 (at_point (at three) +0) +0 (record { x = +0; y = three })))
 unfolding made
 equal-wraps = (refl, refl)
 
@@ -153,9 +152,9 @@ moved-wraps = (refl, refl)
 
 -- Points that agree do not wrap, though the start is not nearer: the same point, and with t = 1 from 3 to 2.5. There is no view between them.
 pub agreeing-do-not-wrap : (span true 0 one 0 one ≡ span_with false 0 0)
-    × (slice true 0 one 0 one ≡ Collapsed)
+    × (slice true 0 one 0 one ≡ None)
     × (span_of line 2 (ends_of true 0 (at three) 0 (at two_half)) coarse ≡ span_with false 0 0)
-    × (slice_in line 2 coarse (ends_of true 0 (at three) 0 (at two_half)) ≡ Collapsed)
+    × (slice_in line 2 coarse (ends_of true 0 (at three) 0 (at two_half)) ≡ None)
 unfolding made
 agreeing-do-not-wrap = (refl, refl, refl, refl)
 
@@ -170,7 +169,7 @@ open-backward = (refl, refl)
 abbrev close : Bool → Ends
 close closed = ends_of closed 0 (at three) 1 (at three_half)
 
-pub traverse-collapses : (span_of line 2 (close false) coarse ≡ span_with false 0 1) × (slice_in line 2 coarse (close false) ≡ Collapsed) × (slice_in line 2 coarse (close true) ≡ Collapsed)
+pub traverse-collapses : (span_of line 2 (close false) coarse ≡ span_with false 0 1) × (slice_in line 2 coarse (close false) ≡ None) × (slice_in line 2 coarse (close true) ≡ None)
 unfolding made
 traverse-collapses = (refl, refl, refl)
 
@@ -180,7 +179,7 @@ unfolding made
 there_and_back = (refl, refl)
 
 -- It is the updated start that is compared, not the start point. With t = 1: 3.5 moves onto 4, which agrees with 4.75, and 3.5 does not;
-pub updated-agrees : slice_in (three-of four_three) 3 coarse (ends_of true 0 (at three_half) 2 (at four_three)) ≡ Collapsed
+pub updated-agrees : slice_in (three-of four_three) 3 coarse (ends_of true 0 (at three_half) 2 (at four_three)) ≡ None
 unfolding made
 updated-agrees = refl
 
@@ -196,7 +195,7 @@ to-a-vertex = (refl, refl)
 
 -- ---- a new start
 
-abbrev new : Bool → ℕ → Float → OneSegment
+abbrev new : Bool → ℕ → Float → Option ViewData
 new closed i p =
     let e = new_ends line 2 closed i (at p) in
     new_start_view line 2 closed i (at p) fine (handed_in straight line 2 e (span_of line 2 e fine))
@@ -212,8 +211,8 @@ closed-starts = (refl, refl, refl, refl)
 -- An open one to its last vertex, and no view from there.
 pub open-starts : (new false 0 one ≡ view 0 0 one four)
     × (new false 0 +0 ≡ view 0 0 +0 four)
-    × (new false 0 four ≡ Collapsed)
-    × (new false 1 four ≡ Collapsed)
+    × (new false 0 four ≡ None)
+    × (new false 1 four ≡ None)
 unfolding made
 open-starts = (refl, refl, refl, refl)
 

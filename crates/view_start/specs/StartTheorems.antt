@@ -1,5 +1,5 @@
 -- Theorems about `SlicePoints` and `NewStart`, so that a reader can trust them. No code is proved by them.
-use Rattle.std.specs.Prelude.{ℕ, ◌+◌, ◌-◌, ◌<◌, Bool, ◌≡◌, ◌⊎◌, List, eqb, Float}
+use Rattle.std.specs.Prelude.{ℕ, ◌+◌, ◌-◌, ◌<◌, Bool, ◌≡◌, ◌⊎◌, List, eqb, Float, Some, None}
 use Rattle.std.proofs.Math.Bool.{true, false}
 use Rattle.std.proofs.Math.Path.{refl, ap, subst}
 use Rattle.std.proofs.Common.{sym, ◌∙◌, inl, inr}
@@ -19,7 +19,6 @@ use Rattle.outline.specs.Outline.{Whole, Segment, vertex_at, wrap, outline_at}
 use Rattle.outline.specs.OutlineLaws.{wrap-same, wrap-less}
 use Rattle.view.specs.declared.data.ViewData.{ViewData}
 use Rattle.view.specs.declared.create.Walk.{Walk}
-use Rattle.view.specs.declared.create.OneSegment.TheVariants as one
 use Rattle.view.specs.View.{Fit, vertex_of, view_numbers}
 use Rattle.view.specs.Create.{view_of, near_vertex, bulge_before, create_view, single_view, entire_offset, entire_view}
 use Rattle.view.specs.ViewTheorems.{OneBulge, forward-first, forward-inner, forward-last, forward-beyond, create-fits, create-bulges, outline-passes, place-passes, create-numbers, single-fits, single-bulges, single-numbers}
@@ -42,12 +41,12 @@ running-pass q o vc s split whole a b = by-test s.moved (λ m. rw m (outline-pas
 
 module _ (o : List Float) (vc : ℕ) (w : Walk) (t : Tolerance) where
   -- where a walk gives a view, it is `create`'s
-  walked-is : (v : ViewData) → walked_view o vc w t ≡ one.View v → create_view o vc w t ≡ v
+  walked-is : (v : ViewData) → walked_view o vc w t ≡ Some v → create_view o vc w t ≡ v
   unfolding walked_view
-  walked-is v is = by-test (collapses o vc w t) (λ c. let z : one.Collapsed ≡ one.View v = rw c at is in cc) (λ c. let z : one.View (create_view o vc w t) ≡ one.View v = rw c at is in cc)
+  walked-is v is = by-test (collapses o vc w t) (λ c. let z : None ≡ Some v = rw c at is in cc) (λ c. let z : Some (create_view o vc w t) ≡ Some v = rw c at is in cc)
 
-module _ (o : List Float) (vc : ℕ) (e : Ends) (t : Tolerance) (p : Splits) (v : ViewData) (is : slice_view o vc e t p ≡ one.View v) where
-  by-maker : {P : Type 0} → ((s : Span) → s ≡ span_of o vc e t → single_view s.start_index p.end_part e.end_point t ≡ one.View v → P)
+module _ (o : List Float) (vc : ℕ) (e : Ends) (t : Tolerance) (p : Splits) (v : ViewData) (is : slice_view o vc e t p ≡ Some v) where
+  by-maker : {P : Type 0} → ((s : Span) → s ≡ span_of o vc e t → single_view s.start_index p.end_part e.end_point t ≡ Some v → P)
       → ((s : Span) → s ≡ span_of o vc e t → (s.traverse_count ≡ 0 → ⊥) → create_view o vc (walk_over o vc e s p) t ≡ v → P) → P
   unfolding slice_view sliced_view
   by-maker single walk =
@@ -171,11 +170,11 @@ module _ (o : List Float) (vc i : ℕ) (p : Point) (t : Tolerance) (s : Splits) 
       positive {m} e = omega (arith, e)
 
 -- ---- from a new start, open or closed
-module _ (o : List Float) (vc : ℕ) (closed : Bool) (i : ℕ) (p : Point) (t : Tolerance) (s : Splits) (v : ViewData) (is : new_start_view o vc closed i p t s ≡ one.View v) where
-  by-outline : {P : Type 0} → (round_view o vc i p t s ≡ v → P) → (slice_view o vc (last_ends o vc i p) t s ≡ one.View v → P) → P
+module _ (o : List Float) (vc : ℕ) (closed : Bool) (i : ℕ) (p : Point) (t : Tolerance) (s : Splits) (v : ViewData) (is : new_start_view o vc closed i p t s ≡ Some v) where
+  by-outline : {P : Type 0} → (round_view o vc i p t s ≡ v → P) → (slice_view o vc (last_ends o vc i p) t s ≡ Some v → P) → P
   unfolding new_start_view
   by-outline round last =
-      by-test closed (λ c. round (let z : one.View (round_view o vc i p t s) ≡ one.View v = rw c at is in cc)) (λ c. last (rw c at is))
+      by-test closed (λ c. round (let z : Some (round_view o vc i p t s) ≡ Some v = rw c at is in cc)) (λ c. last (rw c at is))
 
   -- What `from_new_start` gives fits the outline again,
   pub new-start-fits : Segment o vc i → Fit o vc v
@@ -231,10 +230,10 @@ module _ (o : List Float) (vc : ℕ) (t : Tolerance) (s : Splits) (whole : Whole
     first = pos_of (outline_at o vc 0)
 
     -- A closed outline: from every segment whose start comes to be vertex 0. That is segment 0, where the start does not move, and the last, whose end it is.
-    pub own-start-closed : (i : ℕ) → Segment o vc i → (span_of o vc (round_ends i first) t).start_index ≡ 0 → new_start_view o vc true i first t s ≡ one.View (entire_view o vc true)
+    pub own-start-closed : (i : ℕ) → Segment o vc i → (span_of o vc (round_ends i first) t).start_index ≡ 0 → new_start_view o vc true i first t s ≡ Some (entire_view o vc true)
     unfolding new_start_view entire_view entire_offset
     own-start-closed i g z =
-        ap one.View
+        ap Some
         (round-on-vertex o vc i first t s g (subst (λ (k : ℕ). near_vertex o vc k first t ≡ true) (sym z) (near-self 0))
         ∙ view_fields z refl keeps (ap (λ (k : ℕ). (outline_at o vc k).bulge) (omega arith)) (ap (λ (u : Vertex). pos_of u) comes_back))
 
@@ -274,8 +273,8 @@ module _ (o : List Float) (vc : ℕ) (t : Tolerance) (s : Splits) (whole : Whole
           (λ e. rw e (ap (λ (u : Vertex). u.bulge) before_last))
 
       -- An open outline: from segment 0, where vertex 1 does not agree with vertex 0, so that the start does not move.
-      pub own-start-open : new_start_view o vc false 0 first t s ≡ one.View (entire_view o vc false)
+      pub own-start-open : new_start_view o vc false 0 first t s ≡ Some (entire_view o vc false)
       unfolding new_start_view slice_view sliced_view walk_over running_vertex walked_view create_view entire_view entire_offset
       own-start-open =
           rw (spans, ne_eqb (vc - 1) 0 (omega arith), stands, near-self (vc - 1))
-          (ap one.View (view_fields refl (omega arith) keeps ends (ap (λ (n : ℕ). pos_of (outline_at o vc n)) (omega arith))))
+          (ap Some (view_fields refl (omega arith) keeps ends (ap (λ (n : ℕ). pos_of (outline_at o vc n)) (omega arith))))

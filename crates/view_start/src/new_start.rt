@@ -9,7 +9,7 @@ use basis::number::Tolerance;
 use outline::point::Point;
 use outline::{point, read};
 use view::create;
-use view::create::{OneSegment, Walk};
+use view::create::Walk;
 use view::data::ViewData;
 use view_span::span;
 use view_span::span::Ends;
@@ -69,12 +69,12 @@ pub fn from_new_start(
     p: Point,
     t: Tolerance,
     s: Splits,
-) -> OneSegment
+) -> Option<ViewData>
     requires { Segment outline.now vc i }
     ensures { result ≡ new_start_view outline.now vc closed i p t s }
 {
     if closed {
-        return OneSegment::View(once_round(outline, vc, i, p, t, s));
+        return Some(once_round(outline, vc, i, p, t, s));
     }
     let e = last_ends(outline, vc, i, p);
     slice_points::from_slice_points(outline, vc, e, t, s)

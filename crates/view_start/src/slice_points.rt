@@ -9,7 +9,8 @@ use basis::number::Tolerance;
 use outline::point::Vertex;
 use outline::{point, read};
 use view::create;
-use view::create::{OneSegment, Walk};
+use view::create::Walk;
+use view::data::ViewData;
 use view_span::span;
 use view_span::span::{Ends, Span};
 
@@ -47,14 +48,14 @@ fn is_collapsed(outline: &[f64], vc: usize, w: Walk, t: Tolerance) -> bool
 }
 
 // The view of a walk, or none where it collapses.
-fn walked(outline: &[f64], vc: usize, w: Walk, t: Tolerance) -> OneSegment
+fn walked(outline: &[f64], vc: usize, w: Walk, t: Tolerance) -> Option<ViewData>
     requires { WalkFit outline.now vc w }
     ensures { result ≡ walked_view outline.now vc w t }
 {
     if is_collapsed(outline, vc, w, t) {
-        return OneSegment::Collapsed;
+        return None;
     }
-    OneSegment::View(create::create(outline, vc, w, t))
+    Some(create::create(outline, vc, w, t))
 }
 
 // The walk over a span that reaches further than its own segment.
@@ -76,7 +77,7 @@ fn walk_over(outline: &[f64], vc: usize, e: Ends, s: Span, p: Splits) -> Walk
 }
 
 // The view over a span: on one segment or along the outline.
-fn sliced(outline: &[f64], vc: usize, e: Ends, t: Tolerance, s: Span, p: Splits) -> OneSegment
+fn sliced(outline: &[f64], vc: usize, e: Ends, t: Tolerance, s: Span, p: Splits) -> Option<ViewData>
     requires { SpanFit outline.now vc e s }
     ensures { result ≡ sliced_view outline.now vc e t s p }
 {
@@ -87,7 +88,7 @@ fn sliced(outline: &[f64], vc: usize, e: Ends, t: Tolerance, s: Span, p: Splits)
 }
 
 // The view from the start point to the end point, or none where nothing lies between them.
-pub fn from_slice_points(outline: &[f64], vc: usize, e: Ends, t: Tolerance, p: Splits) -> OneSegment
+pub fn from_slice_points(outline: &[f64], vc: usize, e: Ends, t: Tolerance, p: Splits) -> Option<ViewData>
     requires { EndsFit outline.now vc e }
     ensures { result ≡ slice_view outline.now vc e t p }
 {

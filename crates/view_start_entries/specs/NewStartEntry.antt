@@ -1,5 +1,5 @@
 -- The entry `mask_from_new_start`: its refusals, its answer, and what acceptance gives.
-use Rattle.std.specs.Prelude.{ℕ, not, ◌≡◌, List, [], ◌∷◌, ◌++◌, length, leb, eqb, Float}
+use Rattle.std.specs.Prelude.{ℕ, not, ◌≡◌, List, [], ◌∷◌, ◌++◌, length, leb, eqb, Float, Option}
 use Rattle.std.proofs.Common.{sym, ap, ◌∙◌}
 use borrow.Author.Tests.{leb-false}
 use Rattle.basis.specs.Number.{all_within}
@@ -9,7 +9,7 @@ use Rattle.basis.specs.RefuseLaws.{clear, length-ok, size_ok}
 use Rattle.outline.specs.declared.point.Point.{Point}
 use Rattle.outline.specs.Points.{point_numbers}
 use Rattle.outline.specs.Outline.{Segment}
-use Rattle.view.specs.declared.create.OneSegment.{OneSegment}
+use Rattle.view.specs.declared.data.ViewData.{ViewData}
 use Rattle.view_entries.specs.declared.input.Split.{Split}
 use Rattle.view_entries.specs.declared.answer.ViewAnswer.{ViewAnswer}
 use Rattle.view_entries.specs.Answers.{view_refused, segment_made}
@@ -45,7 +45,7 @@ module _ (o : List Float) (vc closed i : ℕ) (p : Point) (t : Tolerance) (start
         inside = leb-false vc i (search ok);
       }
 
-  pub new-start-given : (s : Splits) (m : OneSegment) (r : ViewAnswer) → s ≡ splits_of start end → m ≡ new_start_view o vc (eqb closed 1) i p t s → r ≡ segment_made m
+  pub new-start-given : (s : Splits) (m : Option ViewData) (r : ViewAnswer) → s ≡ splits_of start end → m ≡ new_start_view o vc (eqb closed 1) i p t s → r ≡ segment_made m
       → r ≡ segment_made (new_start_view o vc (eqb closed 1) i p t (splits_of start end))
   new-start-given s m r f g q = q ∙ ap segment_made (g ∙ ap (new_start_view o vc (eqb closed 1) i p t) f)
 

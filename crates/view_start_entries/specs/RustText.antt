@@ -1,6 +1,6 @@
 -- The Rust's text, line by line, over any function that splits: `from_slice_points` and `from_new_start` of pline_view.rs, with what they call. `RustTheorems`
 -- says that the definitions of `view_start` are these, where the host splits as it is asked.
-use Rattle.std.specs.Prelude.{ℕ, ◌+◌, ◌-◌, Bool, true, false, not, cond, ◌&&◌, List, leb, eqb, Float}
+use Rattle.std.specs.Prelude.{ℕ, ◌+◌, ◌-◌, Bool, true, false, not, cond, ◌&&◌, List, leb, eqb, Float, Option, Some, None}
 use Rattle.std.specs.Float.Ieee.{lt}
 use Rattle.basis.specs.declared.number.Tolerance.{Tolerance}
 use Rattle.outline.specs.declared.point.Point.{Point}
@@ -8,8 +8,6 @@ use Rattle.outline.specs.declared.point.Vertex.{Vertex}
 use Rattle.outline.specs.Points.{pos_of, points_agree, dist_squared}
 use Rattle.outline.specs.Outline.{vertex_at}
 use Rattle.view.specs.declared.data.ViewData.{ViewData}
-use Rattle.view.specs.declared.create.OneSegment.{OneSegment}
-use Rattle.view.specs.declared.create.OneSegment.TheVariants as one
 use Rattle.view.specs.Create.{view_of}
 use Rattle.view_start.specs.Asked.{Asked, Parts, asked}
 
@@ -34,8 +32,8 @@ module _ (host : Asked → Parts) (o : List Float) (vc : ℕ) (t : Tolerance) wh
   split v1 v2 p = host (asked v1 v2 p)
 
   -- Self::create_on_single_segment(source, start_index, updated_start, end_intersect, pos_equal_eps)
-  unfoldable pub single : ℕ → Vertex → Point → OneSegment
-  single start first end = cond (points_agree t (pos_of first) end) one.Collapsed (one.View (view_of start 0 first first.bulge end))
+  unfoldable pub single : ℕ → Vertex → Point → Option ViewData
+  single start first end = cond (points_agree t (pos_of first) end) None (Some (view_of start 0 first first.bulge end))
 
   -- Self::create(source, start_index, end_intersect, intersect_index, updated_start, traverse_count, pos_equal_eps)
   unfoldable pub create : ℕ → Point → ℕ → Vertex → ℕ → ViewData
@@ -66,13 +64,13 @@ module _ (host : Asked → Parts) (o : List Float) (vc : ℕ) (t : Tolerance) wh
       cond b.at_end (cond (eqb n 0) (split v1 v2 q).part v1) (cond (eqb n 0) (split a v2 q).part a)
 
   -- if traverse_count == 0 .. else if traverse_count == 1 && .. else ..
-  unfoldable pub made : ℕ → Point → ℕ → Vertex → ℕ → OneSegment
+  unfoldable pub made : ℕ → Point → ℕ → Vertex → ℕ → Option ViewData
   made i q j first n =
       cond (eqb n 0) (single i first q)
-      (cond (eqb n 1 && (points_agree t q (pos_of (vertex_at o j)) && points_agree t (pos_of first) q)) one.Collapsed (one.View (create i q j first n)))
+      (cond (eqb n 1 && (points_agree t q (pos_of (vertex_at o j)) && points_agree t (pos_of first) q)) None (Some (create i q j first n)))
 
   -- Self::from_slice_points(source, start_point, start_index, end_point, end_index, pos_equal_eps)
-  unfoldable pub from_slice_points : Bool → Point → ℕ → Point → ℕ → OneSegment
+  unfoldable pub from_slice_points : Bool → Point → ℕ → Point → ℕ → Option ViewData
   from_slice_points closed p i q j =
       let b = begin closed p i j in
       let n = count closed p b.index q j in
@@ -91,6 +89,6 @@ module _ (host : Asked → Parts) (o : List Float) (vc : ℕ) (t : Tolerance) wh
       (view_of i vc parts.vertex parts.part.bulge p)
 
   -- Self::from_new_start(source, start_point, start_index, pos_equal_eps)
-  unfoldable pub from_new_start : Bool → Point → ℕ → OneSegment
+  unfoldable pub from_new_start : Bool → Point → ℕ → Option ViewData
   from_new_start closed p i =
-      cond (not closed) (from_slice_points closed p i (pos_of (vertex_at o (vc - 1))) (vc - 1)) (one.View (around p (moved p i)))
+      cond (not closed) (from_slice_points closed p i (pos_of (vertex_at o (vc - 1))) (vc - 1)) (Some (around p (moved p i)))

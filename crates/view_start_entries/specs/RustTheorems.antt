@@ -1,5 +1,5 @@
 -- The definitions of `view_start` are the Rust's text, where the host splits as it is asked.
-use Rattle.std.specs.Prelude.{ℕ, ◌+◌, ◌-◌, ◌≤◌, ◌<◌, Bool, not, cond, ◌&&◌, ◌≡◌, List, leb, ltb, eqb, Float}
+use Rattle.std.specs.Prelude.{ℕ, ◌+◌, ◌-◌, ◌≤◌, ◌<◌, Bool, not, cond, ◌&&◌, ◌≡◌, List, leb, ltb, eqb, Float, Some}
 use Rattle.std.proofs.Math.Bool.{true, false}
 use Rattle.std.proofs.Math.Path.{refl, ap}
 use Rattle.std.proofs.Common.{sym, ap₂, ◌∙◌, arith}
@@ -13,7 +13,6 @@ use Rattle.outline.specs.Points.{pos_of, points_agree}
 use Rattle.outline.specs.Outline.{Segment, vertex_at, wrap, outline_at}
 use Rattle.outline.specs.OutlineLaws.{wrap-same, wrap-less}
 use Rattle.view.specs.declared.create.Walk.{Walk}
-use Rattle.view.specs.declared.create.OneSegment.TheVariants as one
 use Rattle.view.specs.Create.{near_vertex, bulge_before, create_view, single_view}
 use Rattle.view_span.specs.declared.span.Ends.{Ends}
 use Rattle.view_span.specs.declared.span.Span.{Span}
@@ -186,5 +185,5 @@ module _ (host : Asked → Parts) (o : List Float) (vc : ℕ) (t : Tolerance) wh
     -- `from_new_start` is the Rust's, whatever the host's splits are, where it splits as it is asked.
     pub new-start-is : (closed : Bool) → rust.from_new_start host o vc t closed p i ≡ new_start_view o vc closed i p t (handed_in host o vc (new_ends o vc closed i p) (span_of o vc (new_ends o vc closed i p) t))
     unfolding rust.from_new_start new_start_view
-    new-start-is true = ap one.View (ap (rust.around host o vc t p) moved-is ∙ around-is)
+    new-start-is true = ap Some (ap (rust.around host o vc t p) moved-is ∙ around-is)
     new-start-is false = rw (at-is o vc (vc - 1) (omega arith)) (slice_is false p i (pos_of (outline_at o vc (vc - 1))) (vc - 1) (last-ends o vc i p _ g refl))

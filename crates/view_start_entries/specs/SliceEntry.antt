@@ -1,11 +1,11 @@
 -- The entry `mask_from_slice_points`: its refusals, its answer, and what acceptance gives.
-use Rattle.std.specs.Prelude.{ℕ, ◌≡◌, List, ◌++◌, length, Float}
+use Rattle.std.specs.Prelude.{ℕ, ◌≡◌, List, ◌++◌, length, Float, Option}
 use Rattle.std.proofs.Common.{sym, ap, ◌∙◌}
 use borrow.Author.Tests.{leb-false}
 use Rattle.basis.specs.declared.number.Tolerance.{Tolerance}
 use Rattle.basis.specs.Refuse.{Row, first_of, answer}
 use Rattle.basis.specs.RefuseLaws.{clear, length-ok, size_ok}
-use Rattle.view.specs.declared.create.OneSegment.{OneSegment}
+use Rattle.view.specs.declared.data.ViewData.{ViewData}
 use Rattle.view_entries.specs.declared.input.Split.{Split}
 use Rattle.view_entries.specs.declared.answer.ViewAnswer.{ViewAnswer}
 use Rattle.view_entries.specs.Answers.{view_refused, segment_made}
@@ -38,7 +38,7 @@ module _ (o : List Float) (vc closed : ℕ) (e : Ends) (t : Tolerance) (start en
         ends = leb-false vc e.end_index (search ok);
       }
 
-  pub slice-given : (p : Splits) (s : OneSegment) (r : ViewAnswer) → p ≡ splits_of start end → s ≡ slice_view o vc e t p → r ≡ segment_made s
+  pub slice-given : (p : Splits) (s : Option ViewData) (r : ViewAnswer) → p ≡ splits_of start end → s ≡ slice_view o vc e t p → r ≡ segment_made s
       → r ≡ segment_made (slice_view o vc e t (splits_of start end))
   slice-given p s r f g q = q ∙ ap segment_made (g ∙ ap (slice_view o vc e t) f)
 

@@ -1,5 +1,5 @@
 -- Theorems about the entries for starting anywhere. No code is proved by them.
-use Rattle.std.specs.Prelude.{ℕ, ◌-◌, Bool, true, false, not, ◌≡◌, List, eqb, Float}
+use Rattle.std.specs.Prelude.{ℕ, ◌-◌, Bool, true, false, not, ◌≡◌, List, eqb, Float, Some}
 use Rattle.std.proofs.Math.Path.{refl, ap}
 use Rattle.std.proofs.Common.{sym, ◌∙◌, arith, le-ltb}
 use Rattle.std.proofs.lemmas.Bool.{lt-leb, not-false}
@@ -12,7 +12,6 @@ use Rattle.basis.specs.RefuseLaws.{clear, none-clear, ok-length, ok-size, answer
 use Rattle.outline.specs.declared.point.Point.{Point}
 use Rattle.outline.specs.Points.{point_numbers, vertex_numbers}
 use Rattle.view.specs.declared.data.ViewData.{ViewData}
-use Rattle.view.specs.declared.create.OneSegment.TheVariants as one
 use Rattle.view.specs.View.{Fit, view_numbers}
 use Rattle.view_entries.specs.declared.input.Split.{Split}
 use Rattle.view_entries.specs.Answers.{flat_view, view_refused, segment_made}
@@ -54,7 +53,7 @@ unfolding all_of
 end-passes e a = simp (all-at within (ends_numbers e) 2 +0 a (omega arith), all-at within (ends_numbers e) 3 +0 a (omega arith))
 
 pub slice-accepted-again : (o : List Float) (vc closed : ℕ) (e : Ends) (t : Tolerance) (start end : Split) (v : ViewData) → slice_refusal o vc closed e t start end ≡ 0
-    → slice_view o vc e t (splits_of start end) ≡ one.View v → view_vertex_refusal o vc (flat_view v) ≡ 0
+    → slice_view o vc e t (splits_of start end) ≡ Some v → view_vertex_refusal o vc (flat_view v) ≡ 0
 unfolding slice_refusal
 slice-accepted-again o vc closed e t start end v z is =
     let ok = clear (slice_rows o vc closed e t start end) tt z in
@@ -67,7 +66,7 @@ slice-accepted-again o vc closed e t start end v z is =
     (slice-numbers o vc e t (splits_of start end) v is within f.whole numbers (vertex-passes start first) (part-passes end last) (end-passes e points))
 
 pub new-start-accepted-again : (o : List Float) (vc closed i : ℕ) (p : Point) (t : Tolerance) (start end : Split) (v : ViewData) → new_start_refusal o vc closed i p t start end ≡ 0
-    → new_start_view o vc (eqb closed 1) i p t (splits_of start end) ≡ one.View v → view_vertex_refusal o vc (flat_view v) ≡ 0
+    → new_start_view o vc (eqb closed 1) i p t (splits_of start end) ≡ Some v → view_vertex_refusal o vc (flat_view v) ≡ 0
 unfolding new_start_refusal
 new-start-accepted-again o vc closed i p t start end v z is =
     let ok = clear (new_start_rows o vc closed i p t start end) tt z in

@@ -1,4 +1,3 @@
-use Prim.Native.Nat.{◌-◌}
 use Rattle.candidate.proofs.Seeking.{seeking}
 use borrow.Author.Rules.{rules}
 use Rattle.candidate.proofs.next.traverse_count.Goals as goal

@@ -1,4 +1,3 @@
-use Prim.Native.Nat.{◌-◌}
 use borrow.Author.Rules.{rules}
 use Rattle.view.proofs.Listing.{list-more, listing}
 use Rattle.view.proofs.list.write_vertices.Goals as goal

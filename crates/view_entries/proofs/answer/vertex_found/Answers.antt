@@ -2,10 +2,10 @@ use mathlib.Core.Path.{sym, ap, ◌∙◌}
 use Rattle.view_entries.specs.Answers.{vertex_found}
 use Rattle.view_entries.proofs.answer.vertex_found.Goals as goal
 
-pub returns-in-At : goal.returns-in-At
+pub returns-in-Some : goal.returns-in-Some
 unfolding vertex_found
-returns-in-At c = ap vertex_found (sym c.in-At.is)
+returns-in-Some c = ap vertex_found (sym c.in-Some.is)
 
-pub returns-in-NoVertex : goal.returns-in-NoVertex
+pub returns-in-None : goal.returns-in-None
 unfolding vertex_found
-returns-in-NoVertex c = c.vertex_refused.ensures ∙ ap vertex_found (sym c.in-NoVertex.is)
+returns-in-None c = c.vertex_refused.ensures ∙ ap vertex_found (sym c.in-None.is)
