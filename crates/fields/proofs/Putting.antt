@@ -1,32 +1,35 @@
--- The loop of `put`: what is left to write from p on, over what is written, is the whole.
+-- The loop of `put`: what is left to write after i bytes, over what is written, is the whole.
 use Prim.Native.Nat.{ℕ, suc, ◌+◌, ◌-◌, ◌%◌, ◌/◌, ◌≤◌, ◌<◌}
 use mathlib.Core.Path.{◌≡◌, refl, ◌∙◌}
 use mathlib.Core.List.{List}
 use native.Mathlib.Omega.{arith}
-use native.Mathlib.Numerals.{add-one}
 use lib.ListN.{length, set, length-set}
 use lib.Seq.{sets}
 use Rattle.fields.specs.Fields.{bytes_of}
 
-pub record Putting (l : List ℕ) (at w v : ℕ) (l' : List ℕ) (p x left : ℕ) : Type 0 where
-  pub state : sets l' p (bytes_of left x) ≡ sets l at (bytes_of w v)
-  pub inside : p + left ≤ length l
+pub record Putting (l : List ℕ) (at w v : ℕ) (l' : List ℕ) (i x : ℕ) : Type 0 where
+  pub state : sets l' (at + i) (bytes_of (w - i) x) ≡ sets l at (bytes_of w v)
+  pub inside : at + w ≤ length l
   pub long : length l' ≡ length l
 
-pub putting-none : (l : List ℕ) (at w v : ℕ) → at + w ≤ length l → Putting l at w v l at v w
-putting-none l at w v h = record { state = refl; inside = h; long = refl }
+pub putting-none : (l : List ℕ) (at w v : ℕ) → at + w ≤ length l → Putting l at w v l 0 v
+putting-none l at w v h =
+    let p : at + 0 ≡ at = omega arith in
+    let q : w - 0 ≡ w = omega arith in
+    record { state = rw (p, q); inside = h; long = refl }
 
-pub putting-more : {l : List ℕ} {at w v : ℕ} {l' : List ℕ} {p x left : ℕ} (y : ℕ)
-    → Putting l at w v l' p x left → 0 < left → y ≡ x % 256 → Putting l at w v (set l' p y) (p + 1) (x / 256) (left - 1)
+pub putting-more : {l : List ℕ} {at w v : ℕ} {l' : List ℕ} {i x : ℕ} (y : ℕ)
+    → Putting l at w v l' i x → i < w → y ≡ x % 256 → Putting l at w v (set l' (at + i) y) (i + 1) (x / 256)
 unfolding bytes_of
-putting-more {l} {at} {w} {v} {l'} {p} {x} {left} y g h e =
-    let k : left ≡ suc (left - 1) = omega arith in
+putting-more {l} {at} {w} {v} {l'} {i} {x} y g h e =
+    let k : w - i ≡ suc (w - (i + 1)) = omega arith in
+    let p : at + (i + 1) ≡ suc (at + i) = omega arith in
     record {
-      state = rw (add-one, e) (rw k at g.state);
-      inside = omega (arith, g.inside);
-      long = length-set l' p y ∙ g.long;
+      state = rw (p, e) (rw k at g.state);
+      inside = g.inside;
+      long = length-set l' (at + i) y ∙ g.long;
     }
 
-pub putting-end : {l : List ℕ} {at w v : ℕ} {l' : List ℕ} {p x left : ℕ} → Putting l at w v l' p x left → left ≤ 0 → l' ≡ sets l at (bytes_of w v)
+pub putting-end : {l : List ℕ} {at w v : ℕ} {l' : List ℕ} {i x : ℕ} → Putting l at w v l' i x → w ≤ i → l' ≡ sets l at (bytes_of w v)
 unfolding bytes_of
-putting-end {left = left} g h = let e : left ≡ 0 = omega arith in rw e at g.state
+putting-end {w = w} {i = i} g h = let e : w - i ≡ 0 = omega arith in rw e at g.state

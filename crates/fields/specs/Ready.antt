@@ -1,5 +1,5 @@
 -- What the functions on fields and rows require, and what a field's value is known to be.
-use Rattle.std.specs.Prelude.{ℕ, ◌+◌, ◌*◌, ◌^◌, ◌≤◌, ◌<◌, not, ◌≡◌, List, [], ◌∷◌, T, length, get_or, drop, Float}
+use Rattle.std.specs.Prelude.{ℕ, ◌+◌, ◌*◌, ◌^◌, ◌≤◌, ◌<◌, not, ◌≡◌, List, [], ◌∷◌, T, length, get_or, take, drop, Float}
 use Rattle.std.proofs.lemmas.List.Edits.{sets}
 use Rattle.std.specs.Float.{nan}
 use Rattle.std.specs.Float.Ieee.{is_nan}
@@ -69,6 +69,17 @@ pub record RowsFrom (n from : ℕ) (ws : List ℕ) (stride k m at : ℕ) : Type 
 pub record CopyAt (n from count m to : ℕ) : Type 0 where
   pub source : from + count ≤ n
   pub target : to + count ≤ m
+
+-- R says which element of ys may stand for the element of xs at its place
+pub data Each {A B : Type 0} (R : A → B → Type 0) : List A → List B → Type 0 where
+  each-none : Each R [] []
+  each-one : {x : A} {y : B} {xs : List A} {ys : List B} → R x y → Each R xs ys → Each R (x ∷ xs) (y ∷ ys)
+
+-- so many elements of src from `from` on were copied to l from `to` on, each as R says
+pub record CopiedBy {A B : Type 0} (R : A → B → Type 0) (src : List A) (from count : ℕ) (l : List B) (to : ℕ) (l' : List B) : Type 0 where
+  pub items : List B
+  pub each : Each R (take count (drop from src)) items
+  pub state : l' ≡ sets l to items
 
 -- no number of a list is a NaN
 abbrev pub NoNan : List Float → Type 0

@@ -1,8 +1,8 @@
 // Values copied, and numbers to and from their bit patterns.
-ghost use Rattle.std.specs.Prelude.{◌≡◌, map, length, take, drop};
+ghost use Rattle.std.specs.Prelude.{◌≡◌, ℕ, map, length, take, drop, slice_get};
 ghost use Rattle.std.proofs.lemmas.List.Edits.{sets};
 ghost use Rattle.fields.specs.Fields.{num_of, bits_of};
-ghost use Rattle.fields.specs.Ready.{CopyAt, BitsAt, Number};
+ghost use Rattle.fields.specs.Ready.{CopyAt, CopiedBy, BitsAt, Number};
 
 // The number of a bit pattern; +infinity for a pattern of a NaN.
 pub fn number(pattern: usize) -> f64
@@ -21,41 +21,41 @@ pub fn bits(x: f64) -> usize
     f64::to_bits(x) as usize
 }
 
+// Copies elements, each as `change` gives it.
+fn copy_by<T: Copy, U: Copy, F: Fn(T) -> U>(
+    source: &[T],
+    from: usize,
+    count: usize,
+    out: &mut [U],
+    to: usize,
+    change: F,
+)
+    requires places { CopyAt (length source.now) from count (length out.old) to }
+    requires taken { (i : ℕ) (x : T) → slice_get source.now i ≡ Some x → F.pre change x }
+    ensures { CopiedBy (F.post change) source.now from count out.old to out.new }
+{
+    for j in 0..count {
+        out[to + j] = change(source[from + j]);
+    }
+}
+
 pub fn copy(source: &[usize], from: usize, count: usize, out: &mut [usize], to: usize)
     requires { CopyAt (length source.now) from count (length out.old) to }
     ensures { out.new ≡ sets out.old to (take count (drop from source.now)) }
 {
-    let mut j = 0;
-    while j < count {
-        let i = from + j;
-        let k = to + j;
-        out[k] = source[i];
-        j += 1;
-    }
+    out[to..to + count].copy_from_slice(&source[from..from + count]);
 }
 
 pub fn copy_numbers(source: &[usize], from: usize, count: usize, out: &mut [f64], to: usize)
     requires { CopyAt (length source.now) from count (length out.old) to }
     ensures { out.new ≡ sets out.old to (map num_of (take count (drop from source.now))) }
 {
-    let mut j = 0;
-    while j < count {
-        let i = from + j;
-        let k = to + j;
-        out[k] = number(source[i]);
-        j += 1;
-    }
+    copy_by(source, from, count, out, to, number);
 }
 
 pub fn copy_bits(source: &[f64], from: usize, count: usize, out: &mut [usize], to: usize)
     requires { BitsAt source.now from count (length out.old) to }
     ensures { out.new ≡ sets out.old to (map bits_of (take count (drop from source.now))) }
 {
-    let mut j = 0;
-    while j < count {
-        let i = from + j;
-        let k = to + j;
-        out[k] = bits(source[i]);
-        j += 1;
-    }
+    copy_by(source, from, count, out, to, bits);
 }

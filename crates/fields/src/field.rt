@@ -7,7 +7,7 @@ ghost use Rattle.fields.specs.Ready.{FieldAt, SpaceAt, ByteAt, Value};
 pub fn wide(b: u8) -> usize
     ensures { (result ≡ b) × (result < 256) }
 {
-    b as usize
+    usize::from(b)
 }
 
 // Where byte i of a field of `width` bytes stands, counted from the lowest: the lowest comes first.
@@ -19,16 +19,14 @@ fn byte_at(at: usize, width: usize, i: usize) -> usize
 }
 
 // The value of the `width` bytes from `at` on.
+// Widths vary from field to field, so no `from_le_bytes` of one type serves.
 pub fn get(bytes: &[u8], at: usize, width: usize) -> usize
     requires { FieldAt bytes.now at width }
     ensures { Value bytes.now at width result }
 {
     let mut v = 0;
-    let mut i = width;
-    while i > 0 {
-        i -= 1;
-        let p = byte_at(at, width, i);
-        v = wide(bytes[p]) + 256 * v;
+    for i in (0..width).rev() {
+        v = wide(bytes[byte_at(at, width, i)]) + 256 * v;
     }
     v
 }
@@ -44,13 +42,9 @@ pub fn put(bytes: &mut [u8], at: usize, width: usize, value: usize)
     requires { SpaceAt bytes.old at width }
     ensures { bytes.new ≡ sets bytes.old at (bytes_of width value) }
 {
-    let mut p = at;
     let mut x = value;
-    let mut left = width;
-    while left > 0 {
-        bytes[p] = low(x);
+    for i in 0..width {
+        bytes[at + i] = low(x);
         x = x / 256;
-        p += 1;
-        left -= 1;
     }
 }

@@ -12,13 +12,9 @@ pub fn read_shape(bytes: &[u8], at: usize, widths: &[usize], values: &mut [usize
     ensures { ShapeRead bytes.now at widths.now values.old values.new to }
 {
     let mut p = at;
-    let mut i = 0;
-    while i < widths.len() {
-        let width = widths[i];
-        let q = to + i;
-        values[q] = field::get(bytes, p, width);
-        p += width;
-        i += 1;
+    for (i, width) in widths.iter().enumerate() {
+        values[to + i] = field::get(bytes, p, *width);
+        p += *width;
     }
 }
 
@@ -35,14 +31,14 @@ pub fn read_rows(
     requires { RowsAt (length bytes.now) at widths.now stride count (length values.old) to }
     ensures { values.new ≡ sets values.old to (unpack (rows count widths.now) (drop at bytes.now)) }
 {
-    let mut p = at;
-    let mut q = to;
-    let mut left = count;
-    while left > 0 {
-        read_shape(bytes, p, widths, values, q);
-        p += stride;
-        q += widths.len();
-        left -= 1;
+    for row in 0..count {
+        read_shape(
+            bytes,
+            at + row * stride,
+            widths,
+            values,
+            to + row * widths.len(),
+        );
     }
 }
 
@@ -52,14 +48,9 @@ pub fn write_shape(values: &[usize], from: usize, widths: &[usize], bytes: &mut 
     ensures { bytes.new ≡ sets bytes.old at (pack widths.now (drop from values.now)) }
 {
     let mut p = at;
-    let mut i = 0;
-    while i < widths.len() {
-        let width = widths[i];
-        let q = from + i;
-        let value = values[q];
-        field::put(bytes, p, width, value);
-        p += width;
-        i += 1;
+    for (i, width) in widths.iter().enumerate() {
+        field::put(bytes, p, *width, values[from + i]);
+        p += *width;
     }
 }
 
@@ -76,13 +67,13 @@ pub fn write_rows(
     requires { RowsFrom (length values.now) from widths.now stride count (length bytes.old) at }
     ensures { bytes.new ≡ sets bytes.old at (pack (rows count widths.now) (drop from values.now)) }
 {
-    let mut p = at;
-    let mut q = from;
-    let mut left = count;
-    while left > 0 {
-        write_shape(values, q, widths, bytes, p);
-        p += stride;
-        q += widths.len();
-        left -= 1;
+    for row in 0..count {
+        write_shape(
+            values,
+            from + row * widths.len(),
+            widths,
+            bytes,
+            at + row * stride,
+        );
     }
 }

@@ -1,11 +1,6 @@
-use Rattle.fields.proofs.Copying.{copying-none, copying-more, copying-end}
+use Rattle.fields.specs.Fields.{num_of}
+use Rattle.fields.proofs.Copying.{copied-map}
 use Rattle.fields.proofs.copy.copy_numbers.Goals as goal
 
-pub loop-j-init : goal.loop-j-init
-loop-j-init c = copying-none _ _ _ _ _ _ c.requires
-
-pub loop-j-preserved : goal.loop-j-preserved
-loop-j-preserved c = copying-more 0 _ c.loop-j.invariant c.loop-j-test.true c.number.ensures
-
 pub returns : goal.returns
-returns c = copying-end c.loop-j.invariant c.loop-j-test.false
+returns c = copied-map num_of c.copy_by.ensures

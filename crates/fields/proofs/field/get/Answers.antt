@@ -1,5 +1,5 @@
 use native.Mathlib.Omega.{arith}
-use Rattle.fields.proofs.Getting.{getting-none, getting-fits, getting-at, getting-end}
+use Rattle.fields.proofs.Getting.{getting-none, getting-fits, getting-at}
 use Rattle.fields.proofs.field.get.Goals as goal
 
 pub loop-i-init : goal.loop-i-init
@@ -12,7 +12,4 @@ pub overflow_add-v : goal.overflow_add-v
 overflow_add-v c = omega (arith, getting-fits _ _ _ _ _ c.loop-i.invariant c.loop-i-test.true _ c.wide.ensures.1)
 
 pub loop-i-preserved : goal.loop-i-preserved
-loop-i-preserved c = getting-at _ _ _ _ _ c.loop-i.invariant c.loop-i-test.true _ _ c.byte_at-p.ensures c.wide.ensures.0 c.wide.ensures.1
-
-pub returns : goal.returns
-returns c = getting-end _ _ _ _ _ c.loop-i-test.false c.loop-i.invariant
+loop-i-preserved c = getting-at _ _ _ _ _ c.loop-i.invariant c.loop-i-test.true _ _ c.byte_at.ensures c.wide.ensures.0 c.wide.ensures.1

@@ -1,10 +1,7 @@
-use borrow.Author.Rules.{rules}
+use Rattle.std.proofs.Common.{rules}
 use native.Mathlib.Omega.{arith}
-use Rattle.fields.proofs.Shaping.{reading-none, reading-field, reading-more, reading-end}
+use Rattle.fields.proofs.Shaping.{reading-field, reading-more, reading-end}
 use Rattle.fields.proofs.shape.read_shape.Goals as goal
-
-pub loop-i-init : goal.loop-i-init
-loop-i-init c = search (rules, reading-none)
 
 pub get-requires : goal.get-requires
 get-requires c = search (rules, reading-field)

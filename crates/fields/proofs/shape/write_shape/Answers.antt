@@ -1,10 +1,7 @@
-use borrow.Author.Rules.{rules}
+use Rattle.std.proofs.Common.{rules}
 use native.Mathlib.Omega.{arith}
-use Rattle.fields.proofs.Shaping.{writing-none, writing-inside, writing_more, writing-end}
+use Rattle.fields.proofs.Shaping.{writing-inside, writing_more, writing-end}
 use Rattle.fields.proofs.shape.write_shape.Goals as goal
-
-pub loop-i-init : goal.loop-i-init
-loop-i-init c = search (rules, writing-none)
 
 pub put-requires : goal.put-requires
 put-requires c = search (rules, writing-inside)

@@ -1,9 +1,0 @@
-use Rattle.fields.proofs.Copying.{Copying}
-use Prim.Native.Nat.{ℕ, ◌-◌}
-use Rattle.fields.proofs.copy.copy.Given as goal
-
-abbrev pub invariant-loop-j : goal.invariant-loop-j
-invariant-loop-j l = Copying (λ (x : ℕ). x) l.source l.from l.count l.initial.out l.to l.out l.j
-
-abbrev pub decreases-loop-j : goal.decreases-loop-j
-decreases-loop-j l = l.count - l.j
