@@ -119,6 +119,14 @@ pub record Few (most : ℕ) (g : Given) (x : Lists) : Type 0 where
   pub fit : StitchFit g x
   pub few : g.slices ≤ most
 
+-- working lists for at most `most` slices: so many numbers for their start points, so many lists of cells, so many links
+pub record Sized (most numbers held links : ℕ) : Type 0 where
+  pub few : most ≤ most_slices
+  pub points : numbers ≡ 2 * most
+  pub small : held ≤ 4096
+  pub long : 0 < held → held + most + most ≤ links
+  pub short : links ≤ 8192
+
 -- a table for the slices' start points, and their marks: nothing has been visited. Links for so many lists, which hold no slice
 pub record Tabled (g : Given) (points : List Float) (visited : List Bool) (link : List ℕ) (held : ℕ) (x : Lists) : Type 0 where
   pub fit : StitchFit g x

@@ -1,10 +1,10 @@
 // Document 01: "A chain starts at the lowest unvisited slice." Each slice has its turn, in ascending number.
-ghost use Rattle.stitch_run.specs.Stitch.{given};
+ghost use Rattle.stitch_run.specs.Stitch.{given_of};
 ghost use Rattle.stitch.specs.Lent.{lists, TurnFit, Turned, TurnsFit, AllTurned};
 
 use stitch_chain::rounds;
 use stitch_layout::layout::Layout;
-use stitch_run::plan::Plan;
+use stitch_run::plan::Slices;
 use stitch_tally::tally;
 use stitch_tally::tally::Tally;
 
@@ -17,18 +17,14 @@ fn take_turn(
     chain: &mut [usize],
     chain_ends: &mut [usize],
     chain_how: &mut [usize],
-    outline1: &[f64],
-    outline2: &[f64],
-    slice_at: &[usize],
-    slice: &[f64],
+    s: &Slices,
     points: &[f64],
     layout: Layout,
-    p: Plan,
     w: Tally,
     i: usize,
 ) -> Tally
-    requires { TurnFit (given outline1.now outline2.now slice_at.now slice.now p) i points.now layout visited.old link.old w (lists room.old ends.old chain.old chain_ends.old chain_how.old) }
-    ensures { Turned (given outline1.now outline2.now slice_at.now slice.now p) i points.now layout (lists room.old ends.old chain.old chain_ends.old chain_how.old) result visited.new link.new (lists room.new ends.new chain.new chain_ends.new chain_how.new) }
+    requires { TurnFit (given_of s.now) i points.now layout visited.old link.old w (lists room.old ends.old chain.old chain_ends.old chain_how.old) }
+    ensures { Turned (given_of s.now) i points.now layout (lists room.old ends.old chain.old chain_ends.old chain_how.old) result visited.new link.new (lists room.new ends.new chain.new chain_ends.new chain_how.new) }
 {
     if visited[i] {
         return w;
@@ -39,13 +35,9 @@ fn take_turn(
         link,
         &mut room[a..],
         chain,
-        outline1,
-        outline2,
-        slice_at,
-        slice,
+        s,
         points,
         layout,
-        p,
         i,
         w.rounds,
     );
@@ -62,16 +54,12 @@ pub fn take_turns(
     chain: &mut [usize],
     chain_ends: &mut [usize],
     chain_how: &mut [usize],
-    outline1: &[f64],
-    outline2: &[f64],
-    slice_at: &[usize],
-    slice: &[f64],
+    s: &Slices,
     points: &[f64],
     layout: Layout,
-    p: Plan,
 ) -> Tally
-    requires { TurnsFit (given outline1.now outline2.now slice_at.now slice.now p) points.now layout visited.old link.old (lists room.old ends.old chain.old chain_ends.old chain_how.old) }
-    ensures { AllTurned (given outline1.now outline2.now slice_at.now slice.now p) (lists room.old ends.old chain.old chain_ends.old chain_how.old) result (lists room.new ends.new chain.new chain_ends.new chain_how.new) }
+    requires { TurnsFit (given_of s.now) points.now layout visited.old link.old (lists room.old ends.old chain.old chain_ends.old chain_how.old) }
+    ensures { AllTurned (given_of s.now) (lists room.old ends.old chain.old chain_ends.old chain_how.old) result (lists room.new ends.new chain.new chain_ends.new chain_how.new) }
 {
     let mut w = Tally {
         done: 0,
@@ -79,13 +67,10 @@ pub fn take_turns(
         chains: 0,
         rounds: 0,
     };
-    let mut i = 0;
-    while i < p.slices {
+    for i in 0..s.plan.slices {
         w = take_turn(
-            visited, link, room, ends, chain, chain_ends, chain_how, outline1, outline2, slice_at,
-            slice, points, layout, p, w, i,
+            visited, link, room, ends, chain, chain_ends, chain_how, s, points, layout, w, i,
         );
-        i += 1;
     }
     w
 }

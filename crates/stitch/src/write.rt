@@ -22,11 +22,8 @@ pub fn room_need(slice_at: &[usize], count: usize) -> usize
         return 0;
     }
     let mut sum = 1;
-    let mut i = 0;
-    while i < count {
-        let a = CODE_WIDTH * i + 3;
-        sum += slice_at[a] + 1;
-        i += 1;
+    for i in 0..count {
+        sum += slice_at[CODE_WIDTH * i + 3] + 1;
     }
     sum
 }

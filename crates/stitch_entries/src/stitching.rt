@@ -16,7 +16,7 @@ use slice::edition;
 use stitch_faults::faults;
 use stitch_faults::faults::Lengths;
 use stitch_lists::write;
-use stitch_run::plan::Plan;
+use stitch_run::plan::{Plan, Slices};
 
 // Numbers 1 to 8.
 fn input_refusal(
@@ -98,9 +98,14 @@ pub fn stitched(
     if number != 0 {
         return answer::stitch_refused(number);
     }
-    answer::stitch_given(write::write_stitch(
-        outline1, outline2, slice_at, slice, p, room, ends, chain, chain_ends, chain_how,
-    ))
+    let s = Slices {
+        outline1,
+        outline2,
+        slice_at,
+        slice,
+        plan: p,
+    };
+    answer::stitch_given(write::write_stitch(&s, room, ends, chain, chain_ends, chain_how))
 }
 
 // The slices stitched into closed loops. Each slice must have the edition of its outline.

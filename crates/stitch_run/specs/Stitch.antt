@@ -12,6 +12,7 @@ use Rattle.select.specs.declared.class.Starts.{Starts}
 use Rattle.select.specs.Select.{select_of}
 use Rattle.stitch_vertices.specs.Vertices.{add_view, drop_last}
 use Rattle.stitch_run.specs.declared.plan.Plan.{Plan}
+use Rattle.stitch_run.specs.declared.plan.Slices.{Slices}
 use Rattle.stitch_run.specs.Run.{Rules, Chain, Ending, closed, too_small, no_candidate, no_selection, run, slices_of, rounds_of, order_of}
 
 -- What a call has: both outlines with their counts; the slices, as a list of codes, a list of numbers and a count; where their classes start;
@@ -43,6 +44,10 @@ given o1 o2 at numbers p =
       selector = p.selector;
       tolerance = p.tolerance;
     }
+
+-- the same of the struct in which the code hands them on
+abbrev pub given_of : Slices → Given
+given_of s = given s.outline1.now s.outline2.now s.slice_at.now s.slice.now s.plan
 
 -- a plan of its numbers, in the order in which an entry has them
 abbrev pub plan_of : ℕ → ℕ → ℕ → Starts → ℕ → Tolerance → Plan

@@ -1,3 +1,3 @@
 #![tactic(auto)]
-// The run of a stitch, as data. Its definitions say what a stitch is, its theorems are demand 3, and its one struct holds a call's numbers. This crate has no function.
+// The run of a stitch, as data. Its definitions say what a stitch is, its theorems are demand 3, and its structs hold what is handed to a call. This crate has no function.
 pub mod plan;

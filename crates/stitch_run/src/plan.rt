@@ -1,4 +1,4 @@
-// The numbers of a call, beside its lists: made at its entry and handed on as one.
+// What is handed to a call: made at its entry and handed on as one.
 use basis::number::Tolerance;
 use select::class::Starts;
 
@@ -11,4 +11,14 @@ pub struct Plan {
     pub starts: Starts,
     pub selector: u32,
     pub tolerance: Tolerance,
+}
+
+// The lists of a call with its numbers: both outlines, the slices' codes, the slices' numbers.
+#[derive(Clone, Copy)]
+pub struct Slices<'a> {
+    pub outline1: &'a [f64],
+    pub outline2: &'a [f64],
+    pub slice_at: &'a [usize],
+    pub slice: &'a [f64],
+    pub plan: Plan,
 }

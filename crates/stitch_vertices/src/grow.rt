@@ -48,11 +48,9 @@ pub fn extend_remove_repeat(
 {
     let count = view.end_index_offset + 2;
     let mut m = n;
-    let mut k = 0;
-    while k < count {
+    for k in 0..count {
         let v = vertex::vertex_of(outline, vc, view, k);
         m = add_or_replace_vertex(room, m, v, t);
-        k += 1;
     }
     m
 }

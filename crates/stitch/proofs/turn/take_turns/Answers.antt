@@ -1,5 +1,4 @@
 use borrow.Author.Rules.{rules}
-use Prim.Native.Nat.{◌-◌}
 use Rattle.stitch.proofs.Writing.{turns-turn, turning}
 use Rattle.stitch.proofs.turn.take_turns.Goals as goal
 

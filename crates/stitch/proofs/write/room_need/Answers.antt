@@ -1,5 +1,4 @@
 use borrow.Author.Rules.{rules}
-use Prim.Native.Nat.{◌-◌}
 use Rattle.stitch.proofs.Writing.{sum-offset, summing}
 use Rattle.stitch.proofs.write.room_need.Goals as goal
 
@@ -9,11 +8,11 @@ returns-then-count-eq0 c = search (rules, summing)
 pub loop-i-init : goal.loop-i-init
 loop-i-init c = search (rules, summing)
 
-pub overflow_add-sum : goal.overflow_add-sum
-overflow_add-sum c = let h = sum-offset _ _ _ c.requires c.loop-i-test.true in search rules
-
 pub overflow_add-sum-in-loop-i : goal.overflow_add-sum-in-loop-i
 overflow_add-sum-in-loop-i c = let h = sum-offset _ _ _ c.requires c.loop-i-test.true in search rules
+
+pub overflow_add-sum-in-loop-i-2 : goal.overflow_add-sum-in-loop-i-2
+overflow_add-sum-in-loop-i-2 c = let h = sum-offset _ _ _ c.requires c.loop-i-test.true in search rules
 
 pub loop-i-preserved : goal.loop-i-preserved
 loop-i-preserved c = search (rules, summing)

@@ -1,5 +1,4 @@
 use borrow.Author.Rules.{rules}
-use Prim.Native.Nat.{◌-◌}
 use Rattle.stitch_slices.proofs.Slicing.{pointing}
 use Rattle.stitch_slices.proofs.slices.fill_points.Goals as goal
 

@@ -1,5 +1,4 @@
 use borrow.Author.Rules.{rules}
-use Prim.Native.Nat.{◌-◌}
 use Rattle.stitch_vertices.proofs.Growing.{extending}
 use Rattle.stitch_vertices.proofs.grow.extend_remove_repeat.Goals as goal
 
