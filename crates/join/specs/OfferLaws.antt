@@ -1,6 +1,6 @@
 -- Every slice that a round of a closed chain chose was offered to what the chain had built. Over any rules whose selector answers among the candidates.
 use Prim.Native.Nat.{ℕ, zero, suc, ◌<◌, ◌≤◌}
-use Rattle.std.specs.Prelude.{Bool, cond, eqb}
+use Rattle.std.specs.Prelude.{Bool, cond, eqb, Option, Some, None}
 use Rattle.std.proofs.Math.Bool.{true, false}
 use Rattle.std.proofs.Math.Path.{◌≡◌, refl, ap, subst}
 use Rattle.std.proofs.Common.{sym, ◌∙◌, arith, eqb-true}
@@ -8,8 +8,6 @@ use mathlib.Core.List.{List, [], ◌∷◌, ◌++◌, Memᴰ}
 use Rattle.std.proofs.Math.ListN.{get_or}
 use Rattle.basis.specs.Choice.{and_right}
 use Rattle.basis.specs.All.{All, all_snoc}
-use Rattle.select.specs.declared.best.Selected.{Selected}
-use Rattle.select.specs.declared.best.Selected.TheVariants.{Slice, NoSlice}
 use Rattle.stitch_run.specs.Run.{Rules, Ending, closed, too_small, no_candidate, no_selection, Next, onto, ends, Round, Chain, Underway, Stitched}
 use Rattle.stitch_run.specs.Run.{free, candidate, candidates_of, taken, answered, asked, next_of, round_of, opened, onward, ended, walk, chain_from, added, begun, turn, turns, run, order_of}
 use Rattle.stitch_run.specs.Demand3.{first_slice}
@@ -54,10 +52,10 @@ module _ {C : Type 0} (R : Rules C) (among : Among R) where
   by-taken first k j true t e q = eqb-true k first e ∙ q.1
   by-taken first k j false t e q = q
 
-  by-answered : (w : Underway C) (j : ℕ) (s : Selected) → Chose w.first (answered R w.first w.built s) j → s ≡ Slice j
+  by-answered : (w : Underway C) (j : ℕ) (s : Option ℕ) → Chose w.first (answered R w.first w.built s) j → s ≡ Some j
   unfolding answered taken
-  by-answered w j NoSlice q = absurd (let e : no_selection ≡ closed = q.0 in let z : ◌≡◌ {A = ℕ} 0 1 = cc in omega arith)
-  by-answered w j (Slice k) q = ap Slice (by-taken w.first k j (eqb k w.first) (R.tiny w.built) refl q)
+  by-answered w j None q = absurd (let e : no_selection ≡ closed = q.0 in let z : ◌≡◌ {A = ℕ} 0 1 = cc in omega arith)
+  by-answered w j (Some k) q = ap Some (by-taken w.first k j (eqb k w.first) (R.tiny w.built) refl q)
 
   by-asked : (w : Underway C) (j : ℕ) (l : List ℕ) → Chose w.first (asked R w.first w.current w.built l) j → Memᴰ j l
   unfolding asked

@@ -4,6 +4,7 @@ use native.Mathlib.Omega.{arith}
 use mathlib.Core.Bool.{Bool, ◌&&◌}
 use mathlib.Core.List.{List}
 use mathlib.Core.Path.{◌≡◌, refl, ap, ◌∙◌}
+use Rattle.std.specs.Prelude.{Option}
 use lib.Ieee.{Float, binary64, add, sub, le}
 use Rattle.basis.specs.Choice.{and_assoc}
 use Rattle.basis.specs.Number.{in_span}
@@ -18,7 +19,6 @@ use Rattle.stitch_layout.specs.declared.layout.Query.{Query}
 use Rattle.stitch_layout.specs.Slices.{x_of, y_of}
 use Rattle.stitch_links.specs.Looks.{query_of}
 use Rattle.stitch_links.specs.Hung.{hung-fit}
-use Rattle.stitch_answer.specs.declared.answer.Answer.{Answer}
 use Rattle.stitch_answer.specs.Answer.{near_end, answer_of, offered_of, Ready, Grouped, Asking, Answered}
 
 module _ (points : List Float) (visited : List Bool) (first g : ℕ) (end : Point) (t : Tolerance) where
@@ -43,7 +43,7 @@ module _ (points : List Float) (visited : List Bool) (link : List ℕ) (w : Layo
         classed = record { two = a.hung.laid.two; over = a.hung.laid.over };
       })
 
-  pub asking-answered : (current : ℕ) (link' : List ℕ) (r : Answer) → Grouped points visited w q p.selector p.starts current link' r → Answered points visited link' w first current end p r
+  pub asking-answered : (current : ℕ) (link' : List ℕ) (r : Option (Option ℕ)) → Grouped points visited w q p.selector p.starts current link' r → Answered points visited link' w first current end p r
   asking-answered current link' r k =
       let s = rw e at k in
       record {

@@ -1,11 +1,13 @@
 -- What the selector answers for an end: over the candidates in ascending number, and by three looks.
-use Rattle.std.specs.Prelude.{ℕ, ◌*◌, ◌<◌, Bool, true, false, cond, ◌&&◌, List, [], ◌∷◌, ◌≡◌, eqb, leb, Float}
+use Rattle.std.specs.Prelude.{ℕ, ◌*◌, ◌<◌, Bool, true, false, cond, ◌&&◌, List, [], ◌∷◌, ◌≡◌, eqb, Float, Option, Some, None}
+use Rattle.std.specs.Bool.{then_some}
 use Rattle.basis.specs.declared.number.Tolerance.{Tolerance}
 use Rattle.outline.specs.declared.point.Point.{Point}
 use Rattle.outline.specs.Points.{in_box}
 use Rattle.outline.specs.Outline.{point_at}
 use Rattle.select.specs.declared.class.Starts.{Starts}
-use Rattle.select.specs.declared.best.Selected.TheVariants.{Slice, NoSlice}
+use Rattle.select.specs.declared.class.Class.{Class}
+use Rattle.select.specs.declared.class.Class.TheVariants.{OfOne, OfTwo, OverlapOfOne, OverlapOfTwo}
 use Rattle.select.specs.Select.{no_number, Known, select_of}
 use Rattle.stitch_run.specs.declared.plan.Plan.{Plan}
 use Rattle.stitch_run.specs.Run.{free, passing}
@@ -15,8 +17,6 @@ use Rattle.stitch_layout.specs.Slices.{group_of, home_of, starts_in, meets_of}
 use Rattle.stitch_layout.specs.Links.{Linked}
 use Rattle.stitch_links.specs.Ready.{ScanFit, Lookable}
 use Rattle.stitch_links.specs.Hung.{Hung}
-use Rattle.stitch_answer.specs.declared.answer.Answer.{Answer}
-use Rattle.stitch_answer.specs.declared.answer.Answer.TheVariants.{NoCandidate, Asked}
 
 -- slice j is a candidate of the end
 abbrev pub near_end : List Float → List Bool → ℕ → Point → Tolerance → ℕ → Bool
@@ -27,25 +27,34 @@ has_any [] = false
 has_any (j ∷ l) = true
 
 -- no candidate, or what the selector answers among them
-unfoldable pub answer_of : ℕ → Starts → ℕ → List ℕ → Answer
-answer_of selector s current l = cond (has_any l) (Asked (select_of selector s current l)) NoCandidate
+unfoldable pub answer_of : ℕ → Starts → ℕ → List ℕ → Option (Option ℕ)
+answer_of selector s current l = then_some (has_any l) (select_of selector s current l)
 
 -- the same of the candidates of an end, for a plan
-abbrev pub answer_at : List Float → List Bool → ℕ → ℕ → Point → Plan → Answer
+abbrev pub answer_at : List Float → List Bool → ℕ → ℕ → Point → Plan → Option (Option ℕ)
 answer_at points visited first current end p = answer_of p.selector p.starts current (passing (near_end points visited first end p.tolerance) p.slices)
 
 -- ---- by three looks: the group to look for first, by the current slice's class, the other, and overlaps
 
-abbrev pub group_first : ℕ → ℕ
-group_first class = cond (eqb class 0) 1 (cond (eqb class 2) 1 0)
+abbrev pub group_first : Class → ℕ
+group_first OfOne = 1
+group_first OfTwo = 0
+group_first OverlapOfOne = 1
+group_first OverlapOfTwo = 0
+
+abbrev pub is_overlap : Class → Bool
+is_overlap OfOne = false
+is_overlap OfTwo = false
+is_overlap OverlapOfOne = true
+is_overlap OverlapOfTwo = true
 
 -- overlaps that follow overlaps are not selected by NotXor
-abbrev pub refused_of : ℕ → ℕ → Bool
-refused_of selector class = eqb selector 1 && leb 2 class
+abbrev pub refused_of : ℕ → Class → Bool
+refused_of selector class = eqb selector 1 && is_overlap class
 
 -- a of the group that is looked for first, b of the other, o of the overlaps
-unfoldable pub in_order : Bool → ℕ → ℕ → ℕ → Answer
-in_order refused a b o = cond (eqb a no_number) (cond (eqb b no_number) (cond (eqb o no_number) NoCandidate (cond refused (Asked NoSlice) (Asked (Slice o)))) (Asked (Slice b))) (Asked (Slice a))
+unfoldable pub in_order : Bool → ℕ → ℕ → ℕ → Option (Option ℕ)
+in_order refused a b o = cond (eqb a no_number) (cond (eqb b no_number) (cond (eqb o no_number) None (cond refused (Some None) (Some (Some o)))) (Some (Some b))) (Some (Some a))
 
 -- slice j passes, and is of a group
 abbrev pub in_group : (ℕ → Bool) → Layout → ℕ → ℕ → Bool
@@ -69,7 +78,7 @@ pub record Ready (points : List Float) (visited : List Bool) (w : Layout) (q : Q
   pub known : Known selector
   pub classed : Classed w s
 
-pub record Grouped (points : List Float) (visited : List Bool) (w : Layout) (q : Query) (selector : ℕ) (s : Starts) (current : ℕ) (link : List ℕ) (r : Answer) : Type 0 where
+pub record Grouped (points : List Float) (visited : List Bool) (w : Layout) (q : Query) (selector : ℕ) (s : Starts) (current : ℕ) (link : List ℕ) (r : Option (Option ℕ)) : Type 0 where
   pub is : r ≡ answer_of selector s current (passing (offered_of points visited q) w.count)
   pub linked : Linked (free visited q.first) (home_of points w) (meets_of points w) w.lists w.count link
 
@@ -81,6 +90,6 @@ pub record Asking (points : List Float) (visited : List Bool) (link : List ℕ) 
   pub hung : Hung points visited first w link p.slices p.starts
   pub some : 0 < w.lists
 
-pub record Answered (points : List Float) (visited : List Bool) (link : List ℕ) (w : Layout) (first current : ℕ) (end : Point) (p : Plan) (r : Answer) : Type 0 where
+pub record Answered (points : List Float) (visited : List Bool) (link : List ℕ) (w : Layout) (first current : ℕ) (end : Point) (p : Plan) (r : Option (Option ℕ)) : Type 0 where
   pub is : r ≡ answer_at points visited first current end p
   pub hung : Hung points visited first w link p.slices p.starts

@@ -1,5 +1,5 @@
 -- The lowest of each group, and the lowest of all.
-use Rattle.std.specs.Prelude.{ℕ, zero, suc, ◌-◌, ◌≤◌, ◌<◌, Bool, true, false, not, cond, ◌&&◌, ◌≡◌, eqb, ltb}
+use Rattle.std.specs.Prelude.{ℕ, zero, suc, ◌≤◌, ◌<◌, Bool, true, false, not, cond, ◌&&◌, ◌≡◌, eqb, ltb, Option, Some, None}
 use Rattle.std.proofs.Common.{arith, true≢false, sym, ◌∙◌}
 use mathlib.Core.List.{List, [], ◌∷◌, ◌++◌, append-nil}
 use Rattle.std.proofs.Math.Path.{refl}
@@ -7,9 +7,8 @@ use borrow.Author.Tests.{ltb-true, ltb-false, eqb-true, eqb-false, ne_eqb}
 use Rattle.basis.specs.Sizes.{most_slices}
 use Rattle.stitch_run.specs.Run.{passing}
 use Rattle.basis.specs.Choice.{by-test, clash, and_left, and_right}
-use Rattle.select.specs.declared.best.Selected.{Selected}
-use Rattle.select.specs.declared.best.Selected.TheVariants.{Slice, NoSlice}
 use Rattle.select.specs.Select.{no_number, first_that, or_else}
+use Rattle.select.specs.SelectLaws.{first_more}
 use Rattle.stitch_layout.specs.declared.layout.Layout.{Layout}
 use Rattle.stitch_layout.specs.Slices.{group_of}
 use Rattle.stitch_links.specs.Looks.{lowest_of}
@@ -17,13 +16,8 @@ use Rattle.stitch_links.specs.BlockLaws.{lowest-at, lowest-found}
 use Rattle.stitch_answer.specs.Answer.{has_any, in_group}
 
 -- ---- the first of a list, and the lowest number
-abbrev pub selected_of : ℕ → Selected
-selected_of r = cond (eqb r no_number) NoSlice (Slice r)
-
-first_more : (q : ℕ → Bool) (l : List ℕ) (j : ℕ) → first_that q (l ++ (j ∷ [])) ≡ or_else (first_that q l) (cond (q j) (Slice j) NoSlice)
-unfolding first_that or_else
-first_more q [] j = refl
-first_more q (i ∷ l) j = by-test (q i) (λ e. rw e) (λ e. rw e (first_more q l j))
+abbrev pub selected_of : ℕ → Option ℕ
+selected_of r = cond (eqb r no_number) None (Some r)
 
 pub first-lowest : (p q : ℕ → Bool) (n : ℕ) → n ≤ most_slices → first_that q (passing p n) ≡ selected_of (lowest_of (λ j. p j && q j) n)
 unfolding passing lowest_of

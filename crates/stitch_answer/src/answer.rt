@@ -3,48 +3,37 @@ ghost use Rattle.std.specs.Prelude.{◌≡◌};
 ghost use Rattle.stitch_answer.specs.Answer.{group_first, refused_of, grouped, Ready, Grouped, Asking, Answered};
 
 use outline::point::Point;
-use select::best::{NO_NUMBER, Selected};
+use select::best::NO_NUMBER;
 use select::class;
-use select::class::Starts;
+use select::class::{Class, Starts};
 use stitch_layout::layout::{Layout, Query};
 use stitch_links::look;
 use stitch_run::plan::Plan;
 
-// The selector is asked where there is a candidate.
-#[derive(Clone, Copy)]
-pub enum Answer {
-    NoCandidate,
-    Asked(Selected),
-}
+// What the selector answers, a slice or none, where it is asked: where there is a candidate.
+pub type Answer = Option<Option<usize>>;
 
 // After outline 1 or an overlap of it, outline 2 is looked for first.
-fn group_first(class: usize) -> usize
+fn group_first(class: Class) -> usize
     ensures { result ≡ group_first class }
 {
-    if class == 0 {
-        return 1;
+    match class {
+        Class::OfOne | Class::OverlapOfOne => 1,
+        Class::OfTwo | Class::OverlapOfTwo => 0,
     }
-    if class == 2 { 1 } else { 0 }
 }
 
 // NotXor selects no overlap after an overlap.
-fn is_refused(selector: u32, class: usize) -> bool
+fn is_refused(selector: u32, class: Class) -> bool
     ensures { result ≡ refused_of selector class }
 {
-    selector == 1 && 2 <= class
+    selector == 1 && matches!(class, Class::OverlapOfOne | Class::OverlapOfTwo)
 }
 
 fn of_group(q: Query, group: usize) -> Query
     ensures { result ≡ grouped q group }
 {
-    Query {
-        left: q.left,
-        right: q.right,
-        bottom: q.bottom,
-        top: q.top,
-        group,
-        first: q.first,
-    }
+    Query { group, ..q }
 }
 
 // The candidates of a box, and among them the selector's answer. The query's own group is not looked at.
@@ -66,20 +55,20 @@ fn by_groups(
     let g = group_first(class);
     let a = look::lowest(points, visited, link, w, of_group(q, g), c);
     if a != NO_NUMBER {
-        return Answer::Asked(Selected::Slice(a));
+        return Some(Some(a));
     }
     let b = look::lowest(points, visited, link, w, of_group(q, 1 - g), c);
     if b != NO_NUMBER {
-        return Answer::Asked(Selected::Slice(b));
+        return Some(Some(b));
     }
     let o = look::lowest(points, visited, link, w, of_group(q, 2), c);
     if o == NO_NUMBER {
-        return Answer::NoCandidate;
+        return None;
     }
     if is_refused(selector, class) {
-        return Answer::Asked(Selected::NoSlice);
+        return Some(None);
     }
-    Answer::Asked(Selected::Slice(o))
+    Some(Some(o))
 }
 
 // The candidates of an end, and the selector's answer after the slice that was joined last.

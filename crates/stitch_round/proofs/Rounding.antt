@@ -10,14 +10,11 @@ use Rattle.outline.specs.declared.point.Point.{Point}
 use Rattle.outline.specs.declared.point.Vertex.{Vertex}
 use Rattle.outline.specs.Points.{pos_of, in_box}
 use Rattle.outline.specs.Outline.{vertex_at}
-use Rattle.select.specs.declared.best.Selected.{Selected}
-use Rattle.select.specs.declared.best.Selected.TheVariants.{Slice, NoSlice}
+use Rattle.std.specs.Prelude.{Option, Some, None}
 use Rattle.stitch_vertices.specs.Held.{chain_of}
 use Rattle.stitch_vertices.specs.RestLaws.{chain_length, chain-last}
 use Rattle.stitch_run.specs.declared.plan.Plan.{Plan}
 use Rattle.stitch_layout.specs.declared.layout.Layout.{Layout}
-use Rattle.stitch_answer.specs.declared.answer.Answer.{Answer}
-use Rattle.stitch_answer.specs.declared.answer.Answer.TheVariants.{NoCandidate, Asked}
 use Rattle.stitch_answer.specs.Answer.{near_end, answer_of, answer_at, Asking, Answered}
 use Rattle.stitch_round.specs.declared.step.Step.{Step}
 use Rattle.stitch_round.specs.declared.step.Step.TheVariants.{Onto, Ends}
@@ -27,28 +24,13 @@ use Rattle.stitch_run.specs.TallyLaws.{passing-same}
 use Rattle.stitch_round.specs.Ready.{told_of, step_of, comes_to, RoundFit, standing, Rounded}
 use Rattle.stitch_slices.specs.Ready.{Points}
 
--- the outcome of each answer
-module _ (n first : ℕ) (a : Answer) where
-  pub step-none : a ≡ NoCandidate → Ends 2 ≡ comes_to n first a
-  unfolding how_of
-  step-none e = ap (comes_to n first) (sym e)
-
-  pub step-no : (z : Selected) → a ≡ Asked z → z ≡ NoSlice → Ends 3 ≡ comes_to n first a
-  unfolding how_of
-  step-no z e f = ap (λ (y : Selected). comes_to n first (Asked y)) (sym f) ∙ ap (comes_to n first) (sym e)
-
-  pub step-chosen : (z : Selected) (j : ℕ) (r : Step) → a ≡ Asked z → z ≡ Slice j → r ≡ step_of n first j → r ≡ comes_to n first a
-  step-chosen z j r e f q = q ∙ ap (λ (y : Selected). comes_to n first (Asked y)) (sym f) ∙ ap (comes_to n first) (sym e)
-
-pub ruleset stepping = (step-none, step-no, step-chosen)
-
 module _ (points : List Float) (visited : List Bool) (link : List ℕ) (w : Layout) (room : List Float) (n first : ℕ) (p : Plan) (f : RoundFit points visited link w room n first p) where
   -- what a look by lists of cells needs
   pub round-asking : (w.lists ≡ 0 → ⊥) → Asking points visited link w first p
   round-asking h = record { scan = f.scan; selectors = f.selectors; hung = f.hung; some = omega arith }
 
   -- what the callees answer, in place of their definitions
-  module _ (current : ℕ) (v : Vertex) (e : Point) (a : v ≡ vertex_at room (n - 1)) (b : e ≡ pos_of v) (r : Answer) where
+  module _ (current : ℕ) (v : Vertex) (e : Point) (a : v ≡ vertex_at room (n - 1)) (b : e ≡ pos_of v) (r : Option (Option ℕ)) where
     pub round-scanned : r ≡ answer_at points visited first current e p → Answered points visited link w first current (pos_of (vertex_at room (n - 1))) p r
     round-scanned h = record { is = rw (b, a) at h; hung = f.hung }
 
@@ -79,10 +61,10 @@ module _ (points : List Float) (visited : List Bool) (room : List Float) (n firs
       go true false = refl
       go false b = refl
 
-  answered-is : (z : Selected) → comes_to n first (Asked z) ≡ told_of (answered (rules_of g) first (chain_of room n) z)
+  answered-is : (z : Option ℕ) → comes_to n first (Some z) ≡ told_of (answered (rules_of g) first (chain_of room n) z)
   unfolding answered how_of
-  answered-is (Slice j) = taken_is j
-  answered-is NoSlice = refl
+  answered-is (Some j) = taken_is j
+  answered-is None = refl
 
   asked_is : (l : List ℕ) → comes_to n first (answer_of p.selector p.starts current l) ≡ told_of (asked (rules_of g) first current (chain_of room n) l)
   unfolding asked answer_of rules_of how_of
@@ -93,7 +75,7 @@ module _ (points : List Float) (visited : List Bool) (room : List Float) (n firs
   unfolding next_of
   next-is = rw candidates-met (asked_is (passing (near_end points visited first end p.tolerance) p.slices))
 
-pub round_is : (points : List Float) (visited : List Bool) (link link' : List ℕ) (w : Layout) (room : List Float) (n first current : ℕ) (p : Plan) (a : Answer) (r : Step)
+pub round_is : (points : List Float) (visited : List Bool) (link link' : List ℕ) (w : Layout) (room : List Float) (n first current : ℕ) (p : Plan) (a : Option (Option ℕ)) (r : Step)
     → RoundFit points visited link w room n first p → Answered points visited link' w first current (pos_of (vertex_at room (n - 1))) p a → r ≡ comes_to n first a
     → Rounded points visited link' w room n first current p r
 round_is points visited link link' w room n first current p a r f k e =

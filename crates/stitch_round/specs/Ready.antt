@@ -1,21 +1,19 @@
 -- What a caller has shown, and what the functions leave: one record for each contract.
-use Rattle.std.specs.Prelude.{ℕ, ◌*◌, ◌≤◌, ◌<◌, Bool, cond, eqb, ltb, ◌≡◌, List, [], length, Float}
+use Rattle.std.specs.Prelude.{ℕ, ◌*◌, ◌≤◌, ◌<◌, Bool, cond, eqb, ltb, ◌≡◌, List, [], length, Float, Option, Some, None}
+use Rattle.std.specs.Bool.{then_some}
 use Rattle.outline.specs.declared.point.Vertex.{Vertex}
 use Rattle.select.specs.declared.class.Starts.{Starts}
-use Rattle.select.specs.declared.best.Selected.TheVariants.{Slice, NoSlice}
+use Rattle.select.specs.declared.best.Best.{Best}
 use Rattle.select.specs.declared.table.Choices.{Choices}
-use Rattle.select.specs.Select.{Scanned}
+use Rattle.select.specs.Select.{best_of}
 use Rattle.stitch_vertices.specs.Held.{chain_of}
 use Rattle.stitch_run.specs.declared.plan.Plan.{Plan}
-use Rattle.stitch_round.specs.declared.scan.Seen.{Seen}
 use Rattle.stitch_round.specs.declared.step.Step.{Step}
 use Rattle.stitch_round.specs.declared.step.Step.TheVariants.{Onto, Ends}
 use Rattle.stitch_layout.specs.declared.layout.Layout.{Layout}
 use Rattle.stitch_links.specs.Ready.{Marked, ScanFit}
 use Rattle.stitch_layout.specs.Ready.{There}
 use Rattle.stitch_links.specs.Hung.{Hung}
-use Rattle.stitch_answer.specs.declared.answer.Answer.{Answer}
-use Rattle.stitch_answer.specs.declared.answer.Answer.TheVariants.{NoCandidate, Asked}
 use Rattle.stitch_answer.specs.Answer.{has_any}
 use Rattle.stitch_run.specs.Run.{Next, onto, ends, closed, too_small, no_candidate, no_selection, Underway, passing, next_of}
 use Rattle.stitch_run.specs.Stitch.{given, rules_of, how_of}
@@ -31,10 +29,9 @@ pub record Scannable (points : List Float) (visited : List Bool) (p : Plan) : Ty
   pub scan : ScanFit points visited p.slices
   pub selectors : p.selector < 2
 
--- the numbers below n that pass were met: whether there was any, and of each choice the first that suits
-pub record Met (p : ℕ → Bool) (s : Starts) (c : Choices) (n : ℕ) (r : Seen) : Type 0 where
-  pub any : r.any ≡ has_any (passing p n)
-  pub best : Scanned c s (passing p n) r.best
+-- the numbers below n that pass were met: where there was any, of each choice the first that suits
+pub record Met (p : ℕ → Bool) (s : Starts) (c : Choices) (n : ℕ) (r : Option Best) : Type 0 where
+  pub is : r ≡ then_some (has_any (passing p n)) (best_of c s (passing p n))
 
 -- ---- a round
 
@@ -48,10 +45,10 @@ unfoldable pub step_of : ℕ → ℕ → ℕ → Step
 step_of n first j = cond (eqb j first) (cond (ltb n 3) (Ends (how_of too_small)) (Ends (how_of closed))) (Onto j)
 
 -- what the selector answered, for a chain of n vertices
-abbrev pub comes_to : ℕ → ℕ → Answer → Step
-comes_to n first NoCandidate = Ends (how_of no_candidate)
-comes_to n first (Asked (Slice j)) = step_of n first j
-comes_to n first (Asked NoSlice) = Ends (how_of no_selection)
+abbrev pub comes_to : ℕ → ℕ → Option (Option ℕ) → Step
+comes_to n first None = Ends (how_of no_candidate)
+comes_to n first (Some (Some j)) = step_of n first j
+comes_to n first (Some None) = Ends (how_of no_selection)
 
 pub record RoundFit (points : List Float) (visited : List Bool) (link : List ℕ) (w : Layout) (room : List Float) (n first : ℕ) (p : Plan) : Type 0 where
   pub scan : ScanFit points visited p.slices

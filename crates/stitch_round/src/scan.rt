@@ -19,13 +19,6 @@ use stitch_answer::answer::Answer;
 use stitch_links::look;
 use stitch_run::plan::Plan;
 
-// What a scan has met: whether any candidate, and of each choice the first that suits.
-#[derive(Clone, Copy)]
-struct Seen {
-    any: bool,
-    best: Best,
-}
-
 // A start point joins an end: it is in the closed box around it.
 fn joins(start: Point, end: Point, t: Tolerance) -> bool
     ensures { result ≡ in_box t end start }
@@ -56,7 +49,7 @@ fn is_candidate(
     look::is_free(visited, first, j) && is_near(points, end, t, j)
 }
 
-// The candidates of an end, in ascending number.
+// Of each choice the first that suits among the candidates of an end, in ascending number; None where there is no candidate.
 fn scan(
     points: &[f64],
     visited: &[bool],
@@ -66,24 +59,18 @@ fn scan(
     starts: Starts,
     choices: Choices,
     count: usize,
-) -> Seen
+) -> Option<Best>
     requires { ScanFit points.now visited.now count }
     ensures { Met (near_end points.now visited.now first end t) starts choices count result }
 {
-    let mut any = false;
-    let mut best = best::none_yet();
-    let mut j = 0;
-    while j < count {
-        if !is_candidate(points, visited, first, end, t, j) {
-            j += 1;
-            continue;
+    let mut met = None;
+    for j in 0..count {
+        if is_candidate(points, visited, first, end, t, j) {
+            let best = met.unwrap_or(best::none_yet());
+            met = Some(best::offer(best, choices, j, class::class_of(starts, j)));
         }
-        let class = class::class_of(starts, j);
-        best = best::offer(best, choices, j, class);
-        any = true;
-        j += 1;
     }
-    Seen { any, best }
+    met
 }
 
 // What the selector answers among them, after the slice that was joined last.
@@ -99,10 +86,15 @@ pub(crate) fn answer_of(
     ensures { result ≡ answer_at points.now visited.now first current end p }
 {
     let choices = table::choices_of(p.selector, p.starts, current);
-    let t = p.tolerance;
-    let seen = scan(points, visited, first, end, t, p.starts, choices, p.slices);
-    if !seen.any {
-        return Answer::NoCandidate;
-    }
-    Answer::Asked(best::chosen(seen.best))
+    let met = scan(
+        points,
+        visited,
+        first,
+        end,
+        p.tolerance,
+        p.starts,
+        choices,
+        p.slices,
+    )?;
+    Some(best::chosen(met))
 }

@@ -1,3 +1,4 @@
+#![tactic(auto, unfolding(crate::specs::Ready::step_of, stitch_run::specs::Stitch::how_of))]
 // A round: the candidates of the chain's last vertex, the selector's answer, and the outcome.
 ghost use Rattle.std.specs.Prelude.{◌≡◌, ◌-◌};
 ghost use Rattle.outline.specs.Points.{pos_of};
@@ -7,14 +8,13 @@ ghost use Rattle.stitch_round.specs.Ready.{step_of, comes_to, RoundFit, Rounded}
 
 use crate::scan;
 use outline::{point, read};
-use select::best::Selected;
 use stitch_answer::answer;
 use stitch_answer::answer::Answer;
 use stitch_layout::layout::Layout;
 use stitch_run::plan::Plan;
 use stitch_tally::tally::{CLOSED, NO_CANDIDATE, NO_SELECTION, TOO_SMALL};
 
-// The outcome of a round: another slice is joined, or the chain ends.
+// The outcome of a round: another slice is joined, or the chain ends. No Result: a closed chain is no error, and both carry a number.
 #[derive(Clone, Copy)]
 pub enum Step {
     Onto(usize),
@@ -26,25 +26,23 @@ fn taken(n: usize, first: usize, j: usize) -> Step
     ensures { result ≡ step_of n first j }
 {
     if j != first {
-        return Step::Onto(j);
+        Step::Onto(j)
+    } else if n < 3 {
+        Step::Ends(TOO_SMALL)
+    } else {
+        Step::Ends(CLOSED)
     }
-    if n < 3 {
-        return Step::Ends(TOO_SMALL);
-    }
-    Step::Ends(CLOSED)
 }
 
 // No candidate, or no slice selected, discards the chain.
 fn step_of(n: usize, first: usize, answer: Answer) -> Step
     ensures { result ≡ comes_to n first answer }
 {
-    let Answer::Asked(selected) = answer else {
-        return Step::Ends(NO_CANDIDATE);
-    };
-    let Selected::Slice(j) = selected else {
-        return Step::Ends(NO_SELECTION);
-    };
-    taken(n, first, j)
+    match answer {
+        None => Step::Ends(NO_CANDIDATE),
+        Some(None) => Step::Ends(NO_SELECTION),
+        Some(Some(j)) => taken(n, first, j),
+    }
 }
 
 // What the selector answers for the last vertex of a chain of n vertices: by lists of cells, or by a scan where the slices are on no lists.

@@ -1,7 +1,7 @@
 -- Slices that stand in line: each ends where the next begins, and none ends where the first begins. Then all of them come into one chain. Over any rules.
 use Prim.Native.Nat.{ℕ, zero, suc, ◌+◌, ◌≤◌, ◌<◌}
 use Rattle.std.proofs.Math.Bool.{true, false}
-use Rattle.std.specs.Prelude.{not, ◌&&◌, ◌||◌, ◌≡◌, eqb, ltb, set, replicate}
+use Rattle.std.specs.Prelude.{not, ◌&&◌, ◌||◌, ◌≡◌, eqb, ltb, set, replicate, Some}
 use Rattle.std.proofs.Math.Path.{refl, sym, ap, subst}
 use Rattle.std.proofs.Common.{◌∙◌, ⊎_elim}
 use mathlib.Core.List.Memᴰ
@@ -13,7 +13,6 @@ use Rattle.std.proofs.Math.Dec.{leb}
 use Rattle.std.proofs.Math.ListN.{length, get_or, length-set, length-replicate, get_or-replicate}
 use Rattle.std.proofs.Math.Seq.{get_or-set_same, get_or-set_other}
 use Rattle.basis.specs.All.{all-mem}
-use Rattle.select.specs.declared.best.Selected.TheVariants.{Slice}
 use Rattle.stitch_run.specs.Run.{Rules, Next, onto, ends, no_candidate, Underway, Finished, Stitched, free, candidate, candidates_of, taken, answered, asked, next_of}
 use Rattle.stitch_run.specs.Run.{opened, onward, ended, walk, chain_from, added, begun, turn, turns, run, passing}
 use Rattle.select.specs.SelectTheorems.{Ascending}
@@ -27,7 +26,7 @@ pub record InLine {C : Type 0} (R : Rules C) (m : ℕ) (build : ℕ → C) : Typ
   -- every slice but the first is offered
   pub offers : (i j : ℕ) → j < suc m → R.offers (build i) j ≡ ltb 0 j
   -- and the lowest of any slices is selected
-  pub selects : (current j : ℕ) (l : List ℕ) → current < suc m → ((k : ℕ) → Memᴰ k (j ∷ l) → k < suc m) → R.select current (j ∷ l) ≡ Slice j
+  pub selects : (current j : ℕ) (l : List ℕ) → current < suc m → ((k : ℕ) → Memᴰ k (j ∷ l) → k < suc m) → R.select current (j ∷ l) ≡ Some j
 
 module _ {C : Type 0} (R : Rules C) (m : ℕ) (build : ℕ → C) (line : InLine R m build) where
   -- ---- a chain under way that has joined slice i last
@@ -61,10 +60,10 @@ module _ {C : Type 0} (R : Rules C) (m : ℕ) (build : ℕ → C) (line : InLine
   asked-next i current b [] d a h k = absurd (Memᴰ.not-nil k)
   asked-next i current b (c ∷ l) d a h k = rw (line.selects current c l d (λ j q. (h j q).1)) (⊎_elim here there (Memᴰ.cases_cons k))
     where
-      here : suc i ≡ c → answered R 0 b (Slice c) ≡ onto (suc i)
+      here : suc i ≡ c → answered R 0 b (Some c) ≡ onto (suc i)
       here e = rw (sym e, ne_eqb (suc i) 0 (λ q. omega arith))
 
-      there : Memᴰ (suc i) l → answered R 0 b (Slice c) ≡ onto (suc i)
+      there : Memᴰ (suc i) l → answered R 0 b (Some c) ≡ onto (suc i)
       there q = absurd (omega (arith, ltb-true i c (h c (Memᴰ.head refl)).0, all-mem (λ j. c < j) l (suc i) a.0 q))
 
   next-onto : (i : ℕ) (w : Underway C) → At i w → i < m → next_of R w ≡ onto (suc i)

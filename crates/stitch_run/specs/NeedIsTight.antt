@@ -1,6 +1,6 @@
 -- The need is tight: for every number of slices there is a stitch whose one chain really holds as many vertices as the need says.
 use Prim.Native.Nat.{ℕ, zero, suc, ◌+◌, ◌*◌, ◌≤◌, ◌<◌}
-use Rattle.std.specs.Prelude.{Bool, false, ◌≡◌, ltb, length, get_or, Float}
+use Rattle.std.specs.Prelude.{Bool, false, ◌≡◌, ltb, length, get_or, Float, Some, None}
 use Rattle.std.proofs.Math.Path.{refl, sym, ap}
 use Rattle.std.proofs.Common.{◌∙◌, not-suc-le-zero, le_of_suc-le-suc, mul-suc, arith, lt-ltb, length-append, get_or-append-add}
 use mathlib.Core.List.{List, [], ◌∷◌, ◌++◌, Memᴰ}
@@ -14,7 +14,8 @@ use Rattle.view.specs.View.{vertex_of}
 use Rattle.slice.specs.declared.data.Codes.{Codes}
 use Rattle.slice.specs.declared.data.Shape.{Shape}
 use Rattle.slice.specs.Slice.{code_width, shape_width, view_of, codes_at, shape_at}
-use Rattle.select.specs.declared.best.Selected.TheVariants.{Slice, NoSlice}
+use Rattle.select.specs.declared.class.Class.TheVariants.{OfOne}
+use Rattle.select.specs.declared.table.Choice.TheVariants.{One, Two}
 use Rattle.select.specs.Select.{class_of, preference_of, suits_of, first_that, or_else, choose, choices_of, pick_of, select_of}
 use Rattle.stitch_vertices.specs.Vertices.{add_view, drop_last}
 use Rattle.stitch_run.specs.Run.{Chain}
@@ -144,20 +145,20 @@ module _ (m : ℕ) where
       ∙ sym (lt-ltb 0 (suc j) (omega arith))
 
   -- all are of outline 1, so OrAnd selects the lowest
-  class-one : (k : ℕ) → k < suc m → class_of g.starts k ≡ 0
+  class-one : (k : ℕ) → k < suc m → class_of g.starts k ≡ OfOne
   unfolding class_of
   class-one k h = rw (lt-ltb k (suc m) h)
 
-  first-none : (p : ℕ → Bool) (l : List ℕ) → ((k : ℕ) → Memᴰ k l → p k ≡ false) → first_that p l ≡ NoSlice
+  first-none : (p : ℕ → Bool) (l : List ℕ) → ((k : ℕ) → Memᴰ k l → p k ≡ false) → first_that p l ≡ None
   unfolding first_that
   first-none p [] h = refl
   first-none p (j ∷ l) h = rw (h j (Memᴰ.head refl)) (first-none p l (λ k q. h k (Memᴰ.tail q)))
 
-  selects : (current j : ℕ) (l : List ℕ) → current < suc m → ((k : ℕ) → Memᴰ k (j ∷ l) → k < suc m) → select_of 0 g.starts current (j ∷ l) ≡ Slice j
+  selects : (current j : ℕ) (l : List ℕ) → current < suc m → ((k : ℕ) → Memᴰ k (j ∷ l) → k < suc m) → select_of 0 g.starts current (j ∷ l) ≡ Some j
   unfolding select_of pick_of choices_of choose preference_of suits_of or_else
   selects current j l c h =
-      let two : choose g.starts 2 (j ∷ l) ≡ NoSlice = first-none (λ k. suits_of 2 (class_of g.starts k)) (j ∷ l) (λ k q. ap (suits_of 2) (class-one k (h k q))) in
-      let one : choose g.starts 1 (j ∷ l) ≡ Slice j = unfold first_that in rw (class-one j (h j (Memᴰ.head refl))) in
+      let two : choose g.starts Two (j ∷ l) ≡ None = first-none (λ k. suits_of Two (class_of g.starts k)) (j ∷ l) (λ k q. ap (suits_of Two) (class-one k (h k q))) in
+      let one : choose g.starts One (j ∷ l) ≡ Some j = unfold first_that in rw (class-one j (h j (Memᴰ.head refl))) in
       rw (class-one current c, two, one)
 
   in-line : InLine (rules_of g) m build

@@ -1,8 +1,6 @@
 -- Document 01, "Stitching": the run of a stitch as data, over any rules. C is what a chain has built so far; nothing here looks into it.
-use Rattle.std.specs.Prelude.{ℕ, zero, suc, Bool, true, false, not, cond, ◌&&◌, ◌||◌, eqb, get_or, set, replicate}
+use Rattle.std.specs.Prelude.{ℕ, zero, suc, Bool, true, false, not, cond, ◌&&◌, ◌||◌, eqb, get_or, set, replicate, Option, Some, None}
 use mathlib.Core.List.{List, [], ◌∷◌, ◌++◌, map, flat_map}
-use Rattle.select.specs.declared.best.Selected.{Selected}
-use Rattle.select.specs.declared.best.Selected.TheVariants.{Slice, NoSlice}
 
 -- What a stitch is run by.
 pub record Rules (C : Type 0) : Type 0 where
@@ -17,7 +15,7 @@ pub record Rules (C : Type 0) : Type 0 where
   -- this slice's start is a candidate of the chain's last vertex
   pub offers : C → ℕ → Bool
   -- the selector's answer, for the current slice and the candidates
-  pub select : ℕ → List ℕ → Selected
+  pub select : ℕ → List ℕ → Option ℕ
 
 -- "how it ended (closed, too small, no candidate, no slice selected)"
 pub data Ending : Type 0 where
@@ -86,9 +84,9 @@ module _ {C : Type 0} (R : Rules C) where
   taken first b j = cond (eqb j first) (ends (cond (R.tiny b) too_small closed)) (onto j)
 
   -- "a selector that answers no slice, discards the chain"
-  unfoldable pub answered : ℕ → C → Selected → Next
-  answered first b (Slice j) = taken first b j
-  answered first b NoSlice = ends no_selection
+  unfoldable pub answered : ℕ → C → Option ℕ → Next
+  answered first b (Some j) = taken first b j
+  answered first b None = ends no_selection
 
   -- "No candidate [..] discards the chain": the selector is not asked
   unfoldable pub asked : ℕ → ℕ → C → List ℕ → Next

@@ -1,6 +1,6 @@
 -- What holds of every run, at each moment of it. The rules may be any whose selector answers among the candidates.
 use Prim.Native.Nat.{ℕ, zero, suc, ◌+◌, ◌≤◌, ◌<◌}
-use Rattle.std.specs.Prelude.{Bool, cond, ◌≡◌, eqb, length, set}
+use Rattle.std.specs.Prelude.{Bool, cond, ◌≡◌, eqb, length, set, Option, Some, None}
 use Rattle.std.proofs.Math.Bool.{true, false}
 use Rattle.std.proofs.Math.Path.{refl, ap, subst}
 use Rattle.std.proofs.Common.{sym, ◌∙◌, not-suc-le-zero, arith, get_or-set_same}
@@ -9,8 +9,6 @@ use Rattle.std.proofs.Math.ListN.{get_or, length-append, length-map}
 use Rattle.std.proofs.Math.Seq.{get_or-set_other}
 use Rattle.basis.specs.Choice.{code_of}
 use Rattle.basis.specs.All.{All, all-imp, all_snoc}
-use Rattle.select.specs.declared.best.Selected.{Selected}
-use Rattle.select.specs.declared.best.Selected.TheVariants.{Slice, NoSlice}
 use Rattle.stitch_run.specs.Run.{Rules, Ending, closed, too_small, Next, onto, ends, Chain, Underway, Finished, Stitched}
 use Rattle.stitch_run.specs.Run.{free, candidate, candidates_of, taken, answered, asked, next_of, round_of, opened, onward, ended}
 use Rattle.stitch_run.specs.Run.{walk, chain_from, added, begun, turn, turns, run, slices_of, rounds_of, order_of}
@@ -28,7 +26,7 @@ never e j q = let z : ◌≡◌ {A = ℕ} 0 1 = cc in omega arith
 
 -- the selector answers only among the candidates
 abbrev pub Among : {C : Type 0} → Rules C → Type 0
-Among R = (current : ℕ) (candidates : List ℕ) (j : ℕ) → R.select current candidates ≡ Slice j → Memᴰ j candidates
+Among R = (current : ℕ) (candidates : List ℕ) (j : ℕ) → R.select current candidates ≡ Some j → Memᴰ j candidates
 
 -- the slices of a chain under way, the current one last
 abbrev pub placed : {C : Type 0} → Underway C → List ℕ
@@ -43,10 +41,10 @@ module _ {C : Type 0} (R : Rules C) (among : Among R) where
   by-taken w j k true e q = absurd (never _ j q)
   by-taken w j k false e q = (cc, e)
 
-  by-answered : (w : Underway C) (j : ℕ) (s : Selected) → answered R w.first w.built s ≡ onto j → (s ≡ Slice j) × (eqb j w.first ≡ false)
+  by-answered : (w : Underway C) (j : ℕ) (s : Option ℕ) → answered R w.first w.built s ≡ onto j → (s ≡ Some j) × (eqb j w.first ≡ false)
   unfolding answered taken
-  by-answered w j NoSlice q = absurd (never _ j q)
-  by-answered w j (Slice k) q = let t = by-taken w j k (eqb k w.first) refl q in (cc t.0, rw t.0 at t.1)
+  by-answered w j None q = absurd (never _ j q)
+  by-answered w j (Some k) q = let t = by-taken w j k (eqb k w.first) refl q in (cc t.0, rw t.0 at t.1)
 
   by-asked : (w : Underway C) (j : ℕ) (l : List ℕ) → asked R w.first w.current w.built l ≡ onto j → Memᴰ j l × (eqb j w.first ≡ false)
   unfolding asked

@@ -1,6 +1,5 @@
 use native.Mathlib.Omega.{arith}
 use Rattle.basis.specs.Choice.{told-yes, told-no}
-use Prim.Native.Nat.{◌-◌}
 use Rattle.stitch_links.specs.LoopLaws.{seeking-none, onward, seeking-skip, seeking-pass, last-inside, last-further, seeking-on, seeking-found, seeking-end}
 use Rattle.stitch_layout.specs.PuttingLaws.{there}
 use Rattle.stitch_links.proofs.look.first_on.Goals as goal

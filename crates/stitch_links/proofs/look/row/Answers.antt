@@ -1,5 +1,4 @@
 use native.Mathlib.Omega.{arith}
-use Prim.Native.Nat.{◌-◌}
 use Rattle.stitch_links.proofs.RowLaws.{swept-row, swept-list, swept-up, row-end}
 use Rattle.stitch_links.proofs.look.row.Goals as goal
 

@@ -1,6 +1,5 @@
 use mathlib.Core.Path.{refl}
 use native.Mathlib.Omega.{arith}
-use Prim.Native.Nat.{◌-◌}
 use Rattle.stitch_links.proofs.RowLaws.{swept-rows, swept-on, rows_end}
 use Rattle.stitch_links.proofs.look.search.Goals as goal
 
