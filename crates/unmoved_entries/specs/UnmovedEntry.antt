@@ -6,7 +6,7 @@ use borrow.Author.Tests.{leb-false, ltb-false, not-false}
 use Rattle.basis.specs.Choice.{code_of}
 use Rattle.basis.specs.Number.{all_within}
 use Rattle.basis.specs.Refuse.{Row, row, first_of, first_from, answer, length_fault, size_fault, choice_fault}
-use Rattle.basis.specs.RefuseLaws.{clear, first-from, then-rows, length-ok, size_ok}
+use Rattle.basis.specs.RefuseLaws.{clear, stop-rows, go-rows, length-ok, size_ok}
 use Rattle.view.specs.declared.data.ViewData.{ViewData}
 use Rattle.view.specs.View.{vertex_count, view_numbers}
 use Rattle.unmoved.specs.Unmoved.{first_moved, BothFit}
@@ -52,9 +52,14 @@ unmoved_answer o1 vc1 o2 vc2 v =
     answer unmoved_refused (unmoved_refusal o1 vc1 o2 vc2 v) (unmoved_given (first_moved o1 vc1 o2 vc2 (view_data v)) (vertex_count (view_data v)))
 
 module _ (o1 : List Float) (vc1 : ℕ) (o2 : List Float) (vc2 : ℕ) (v : View) where
-  pub unmoved-rows : (p n : ℕ) → p ≡ first_from 0 (value_rows o1 vc1 o2 vc2 v) → n ≡ first_from p (index_rows vc1 vc2 v) → n ≡ unmoved_refusal o1 vc1 o2 vc2 v
+  -- the first part has a number, or the second is looked at
+  pub unmoved-stops : (p : ℕ) → p ≡ first_from 0 (value_rows o1 vc1 o2 vc2 v) → (p ≡ 0 → ⊥) → p ≡ unmoved_refusal o1 vc1 o2 vc2 v
   unfolding unmoved_refusal
-  unmoved-rows p n e q = first-from (unmoved_rows o1 vc1 o2 vc2 v) n tt (then-rows n p 0 (value_rows o1 vc1 o2 vc2 v) (index_rows vc1 vc2 v) q e)
+  unmoved-stops p e h = stop-rows (value_rows o1 vc1 o2 vc2 v) (index_rows vc1 vc2 v) p tt e h
+
+  pub unmoved-goes : (p n : ℕ) → p ≡ first_from 0 (value_rows o1 vc1 o2 vc2 v) → p ≡ 0 → n ≡ first_from 0 (index_rows vc1 vc2 v) → n ≡ unmoved_refusal o1 vc1 o2 vc2 v
+  unfolding unmoved_refusal
+  unmoved-goes p n e z q = go-rows (value_rows o1 vc1 o2 vc2 v) (index_rows vc1 vc2 v) p n tt tt e z q
 
   pub unmoved-accepted : (number : ℕ) (w : ViewData) → number ≡ unmoved_refusal o1 vc1 o2 vc2 v → number ≡ 0 → w ≡ view_data v → BothFit o1 vc1 o2 vc2 w
   unfolding unmoved_refusal
@@ -85,4 +90,4 @@ module _ (o1 : List Float) (vc1 : ℕ) (o2 : List Float) (vc2 : ℕ) (v : View) 
       → r ≡ unmoved_given (first_moved o1 vc1 o2 vc2 (view_data v)) (vertex_count (view_data v))
   unmoved_of w first r e q p = p ∙ ap (λ (n : ℕ). unmoved_given n (vertex_count w)) q ∙ ap (λ (u : ViewData). unmoved_given (first_moved o1 vc1 o2 vc2 u) (vertex_count u)) e
 
-pub ruleset unmoved_laws = (unmoved-rows, unmoved-accepted, unmoved_of)
+pub ruleset unmoved_laws = (unmoved-stops, unmoved-goes, unmoved-accepted, unmoved_of)

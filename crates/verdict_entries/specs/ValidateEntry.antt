@@ -1,11 +1,14 @@
 -- The entry `mask_validate_for_source`: its refusals, its answer, and what acceptance gives.
 -- "Here those faults are verdicts, so this entry gives neither 2 (too short) nor 7, nor 6 on an outline that is too short."
 -- K3: it compares the view's edition with the outline's. 14 comes before any verdict, on an outline that is too short too.
-use Rattle.std.specs.Prelude.{ℕ, zero, suc, ◌≤◌, ◌<◌, Bool, false, not, ◌&&◌, ◌≡◌, length, leb, eqb, Float}
+use Rattle.std.specs.Prelude.{ℕ, zero, suc, ◌≤◌, ◌<◌, Bool, false, not, ◌&&◌, ◌≡◌, length, leb, eqb, Float, Result}
 use Rattle.std.proofs.Math.Path.{refl}
 use Rattle.std.proofs.Common.{sym, ap, subst, ◌∙◌, arith, leb-false, le-leb}
 use mathlib.Core.List.{List, [], ◌∷◌, ◌++◌}
 use Rattle.basis.specs.Number.{all_within}
+use Rattle.basis.specs.declared.refuse.Refusal.{Refusal}
+use Rattle.basis.specs.declared.refuse.Refusal.TheVariants.{Edition}
+use Rattle.basis.specs.Refusals.{when, found}
 use Rattle.basis.specs.Refuse.{Row, row, first_of, answer, or_else, length_fault, long_fault, choice_fault}
 use Rattle.basis.specs.RefuseLaws.{Clear, clear, none-clear, clear-left, first_found, first-later, length-ok, long_ok}
 use Rattle.view.specs.declared.data.ViewData.{ViewData}
@@ -14,6 +17,7 @@ use Rattle.view.specs.View.{view_numbers}
 use Rattle.verdict.specs.Validate.{Asked, verdict_of}
 use Rattle.view_entries.specs.declared.input.View.{View}
 use Rattle.verdict_answer.specs.declared.answer.VerdictAnswer.{VerdictAnswer}
+use Rattle.view_entries.specs.LookLaws.{found-when}
 use Rattle.view_entries.specs.Inputs.{view_data}
 use Rattle.verdict_answer.specs.VerdictAnswers.{verdict_refused, verdict_given}
 
@@ -92,6 +96,20 @@ module _ (o : List Float) (vc : ℕ) (v : View) (start_on end_on : ℕ) where
         go : (number : ℕ) → number ≡ first_of s → r ≡ or_else number (not (eqb view_edition edition)) 14 → r ≡ first_of (s ++ t)
         go zero e q = q ∙ sym (first-later s t (clear s tt (sym e)))
         go (suc k) e q = q ∙ e ∙ sym (first_found s t (λ z. absurd (omega (arith, e, z))))
+
+    -- the same as the code looks: a number of theirs stays,
+    pub ask-found : (number : ℕ) → number ≡ ask_refusal o vc v start_on end_on → (number ≡ 0 → ⊥) → number ≡ validate_refusal o vc edition v view_edition start_on end_on
+    unfolding ask_refusal validate_refusal
+    ask-found number e h = e ∙ sym (first_found (ask_rows o vc v start_on end_on) (edition_rows edition view_edition) (λ z. h (e ∙ z)))
+
+    -- and where they found none it is 14 or none
+    pub edition-looked : (number : ℕ) (w : Result Unit Refusal) → number ≡ ask_refusal o vc v start_on end_on → number ≡ 0 → w ≡ when (not (eqb view_edition edition)) Edition
+        → found w ≡ validate_refusal o vc edition v view_edition start_on end_on
+    unfolding ask_refusal validate_refusal first_of
+    edition-looked number w e z q =
+        ap found q
+        ∙ found-when (not (eqb view_edition edition)) Edition
+        ∙ sym (first-later (ask_rows o vc v start_on end_on) (edition_rows edition view_edition) (clear (ask_rows o vc v start_on end_on) tt (sym e ∙ z)))
 
     -- where this entry accepts, the verdict may be given
     pub validate-accepted : (number : ℕ) (w : ViewData) → number ≡ validate_refusal o vc edition v view_edition start_on end_on → number ≡ 0 → w ≡ view_data v → Asked o vc w

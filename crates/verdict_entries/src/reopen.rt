@@ -1,3 +1,4 @@
+#![tactic(auto, unfolding(crate::specs::ReopenEntry::new_edition))]
 // Reopening: the verdict whatever the editions, and the edition that the slice has from then on.
 ghost use Rattle.std.specs.Prelude.{◌≡◌};
 ghost use Rattle.verdict_entries.specs.ReopenEntry.{new_edition, reopen_refused, reopen_answer};
@@ -6,7 +7,7 @@ use crate::validate;
 use verdict::validate::validate_for_source;
 use verdict_answer::answer;
 use verdict_answer::answer::ReopenAnswer;
-use view_entries::input;
+use view::data::ViewData;
 use view_entries::input::View;
 
 // The outline's edition where the verdict is 7, valid; else the slice keeps its own.
@@ -34,17 +35,18 @@ pub fn entry(
 ) -> ReopenAnswer
     ensures { result ≡ reopen_answer outline.now vc edition view view_edition start_on_segment end_on_segment }
 {
-    let number = validate::ask_refusal(outline, vc, view, start_on_segment, end_on_segment);
-    if number != 0 {
-        return refused(number);
+    match validate::ask_refusal(outline, vc, view, start_on_segment, end_on_segment) {
+        Err(refusal) => refused(refusal.number()),
+        Ok(()) => {
+            let v = ViewData::from(view);
+            let a = answer::verdict_given(validate_for_source(
+                outline,
+                vc,
+                v,
+                start_on_segment == 1,
+                end_on_segment == 1,
+            ));
+            answer::reopen_record(a, new_edition(a.verdict, edition, view_edition))
+        }
     }
-    let v = input::view_data(view);
-    let a = answer::verdict_given(validate_for_source(
-        outline,
-        vc,
-        v,
-        start_on_segment == 1,
-        end_on_segment == 1,
-    ));
-    answer::reopen_record(a, new_edition(a.verdict, edition, view_edition))
 }

@@ -1,11 +1,15 @@
+#![tactic(auto, unfolding(basis::specs::Refuse::first_of, crate::specs::ValidateEntry::ask_refusal, crate::specs::ValidateEntry::start_fault))]
 // The entry `mask_validate_for_source`, and the refusals that it shares with `mask_reopen`.
 ghost use Rattle.std.specs.Prelude.{◌≡◌};
+ghost use Rattle.basis.specs.Refusals.{found};
 ghost use Rattle.verdict_entries.specs.ValidateEntry.{start_fault, ask_refusal, validate_refusal, validate_answer};
 
+use basis::refuse::Refusal;
 use basis::{number, refuse, sizes};
 use verdict::validate;
 use verdict_answer::answer;
 use verdict_answer::answer::VerdictAnswer;
+use view::data::ViewData;
 use view_entries::input;
 use view_entries::input::View;
 
@@ -17,17 +21,23 @@ fn bad_start(start: usize, vc: usize) -> bool
 }
 
 // What a verdict asks for, whatever the editions.
-pub(crate) fn ask_refusal(outline: &[f64], vc: usize, v: View, start_on: u32, end_on: u32) -> u32
-    ensures { result ≡ ask_refusal outline.now vc v start_on end_on }
+pub(crate) fn ask_refusal(
+    outline: &[f64],
+    vc: usize,
+    v: View,
+    start_on: u32,
+    end_on: u32,
+) -> Result<(), Refusal>
+    ensures { found result ≡ ask_refusal outline.now vc v start_on end_on }
 {
-    let r = refuse::or_else(0, refuse::bad_length(outline.len(), 3, vc), 1);
-    let r = refuse::or_else(r, sizes::MOST_VERTICES < vc, 2);
-    let r = refuse::or_else(r, refuse::bad_choice(v.inverted_direction), 3);
-    let r = refuse::or_else(r, refuse::bad_choice(start_on), 3);
-    let r = refuse::or_else(r, refuse::bad_choice(end_on), 3);
-    let r = refuse::or_else(r, !number::all_in_range(outline), 5);
-    let r = refuse::or_else(r, input::bad_view_numbers(v), 5);
-    refuse::or_else(r, bad_start(v.start_index, vc), 6)
+    refuse::when(refuse::bad_length(outline.len(), 3, vc), Refusal::Length)?;
+    refuse::when(sizes::MOST_VERTICES < vc, Refusal::Outline)?;
+    refuse::when(refuse::bad_choice(v.inverted_direction), Refusal::Code)?;
+    refuse::when(refuse::bad_choice(start_on), Refusal::Code)?;
+    refuse::when(refuse::bad_choice(end_on), Refusal::Code)?;
+    refuse::when(!number::all_in_range(outline), Refusal::Number)?;
+    refuse::when(input::bad_view_numbers(v), Refusal::Number)?;
+    refuse::when(bad_start(v.start_index, vc), Refusal::Index)
 }
 
 // The same, then 14: the view was cut from another edition of the outline.
@@ -39,11 +49,11 @@ fn refusal(
     view_edition: u32,
     start_on: u32,
     end_on: u32,
-) -> u32
-    ensures { result ≡ validate_refusal outline.now vc edition v view_edition start_on end_on }
+) -> Result<(), Refusal>
+    ensures { found result ≡ validate_refusal outline.now vc edition v view_edition start_on end_on }
 {
-    let r = ask_refusal(outline, vc, v, start_on, end_on);
-    refuse::or_else(r, view_edition != edition, 14)
+    ask_refusal(outline, vc, v, start_on, end_on)?;
+    refuse::when(view_edition != edition, Refusal::Edition)
 }
 
 // The verdict on view data over an outline, with the host's answers whether the start and the end lie on their segments.
@@ -58,7 +68,7 @@ pub fn entry(
 ) -> VerdictAnswer
     ensures { result ≡ validate_answer outline.now vc edition view view_edition start_on_segment end_on_segment }
 {
-    let number = refusal(
+    match refusal(
         outline,
         vc,
         edition,
@@ -66,16 +76,17 @@ pub fn entry(
         view_edition,
         start_on_segment,
         end_on_segment,
-    );
-    if number != 0 {
-        return answer::verdict_refused(number);
+    ) {
+        Err(refusal) => answer::verdict_refused(refusal.number()),
+        Ok(()) => {
+            let v = ViewData::from(view);
+            answer::verdict_given(validate::validate_for_source(
+                outline,
+                vc,
+                v,
+                start_on_segment == 1,
+                end_on_segment == 1,
+            ))
+        }
     }
-    let v = input::view_data(view);
-    answer::verdict_given(validate::validate_for_source(
-        outline,
-        vc,
-        v,
-        start_on_segment == 1,
-        end_on_segment == 1,
-    ))
 }

@@ -1,11 +1,11 @@
 -- The flat answers of the entries. "A refusal returns its number and zero counts": all other fields are 0 or +0.
 use Rattle.std.specs.Prelude.{ℕ, Option, Some, None}
-use Rattle.basis.specs.Choice.{code_of}
 use Rattle.basis.specs.Number.{+0}
 use Rattle.outline.specs.declared.point.Point.{Point}
 use Rattle.outline.specs.declared.point.Vertex.{Vertex}
 use Rattle.view.specs.declared.data.ViewData.{ViewData}
 use Rattle.view_entries.specs.declared.input.View.{View}
+use Rattle.view_entries.specs.Inputs.{flat_view}
 use Rattle.view_entries.specs.declared.answer.VertexAnswer.{VertexAnswer}
 use Rattle.view_entries.specs.declared.answer.ViewAnswer.{ViewAnswer}
 
@@ -40,17 +40,6 @@ vertex_found None = vertex_refused 0
 
 abbrev pub view_refused : ℕ → ViewAnswer
 view_refused n = record { refusal = n; found = 0; view = no_view }
-
-abbrev pub flat_view : ViewData → View
-flat_view v =
-    record {
-      start_index = v.start_index;
-      end_index_offset = v.end_index_offset;
-      updated_start = v.updated_start;
-      updated_end_bulge = v.updated_end_bulge;
-      end_point = v.end_point;
-      inverted_direction = code_of v.inverted_direction;
-    }
 
 unfoldable pub view_made : ViewData → ViewAnswer
 view_made v = record { refusal = 0; found = 1; view = flat_view v }

@@ -1,5 +1,6 @@
 -- What hosts hand in by value, as the library's own data.
 use Rattle.std.specs.Prelude.{ℕ, List, ◌++◌, eqb, Float}
+use Rattle.basis.specs.Choice.{code_of}
 use Rattle.outline.specs.declared.point.Point.{Point}
 use Rattle.outline.specs.declared.point.Vertex.{Vertex}
 use Rattle.outline.specs.Points.{point_numbers, vertex_numbers}
@@ -18,6 +19,18 @@ view_data v =
       updated_end_bulge = v.updated_end_bulge;
       end_point = v.end_point;
       inverted_direction = eqb v.inverted_direction 1;
+    }
+
+-- the same as hosts take it
+abbrev pub flat_view : ViewData → View
+flat_view v =
+    record {
+      start_index = v.start_index;
+      end_index_offset = v.end_index_offset;
+      updated_start = v.updated_start;
+      updated_end_bulge = v.updated_end_bulge;
+      end_point = v.end_point;
+      inverted_direction = code_of v.inverted_direction;
     }
 
 -- what `create` is given, from the entry's parameters: of the split it uses the first part's bulge

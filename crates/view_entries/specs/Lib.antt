@@ -1,5 +1,6 @@
 pub mod Inputs
 pub mod Answers
+pub mod LookLaws
 pub mod ViewVertex
 pub mod ViewVertices
 pub mod CreateEntry

@@ -1,10 +1,13 @@
 -- The entry `mask_view_vertices`: all vertices of a view in one call. Vertex k is what `mask_view_vertex` answers for k.
-use Rattle.std.specs.Prelude.{ℕ, ◌+◌, ◌*◌, ◌≤◌, ◌<◌, ◌≡◌, List, [], ◌∷◌, ◌++◌, length, ltb, Float}
+use Rattle.std.specs.Prelude.{ℕ, ◌+◌, ◌*◌, ◌≤◌, ◌<◌, ◌≡◌, List, [], ◌∷◌, ◌++◌, length, ltb, Float, Result}
 use Rattle.std.proofs.Math.Path.{refl, sym, subst}
 use Rattle.std.proofs.Common.{ap, ◌∙◌}
 use borrow.Author.Tests.{lt-ltb, le-ltb, ltb-false}
 use Rattle.basis.specs.Number.{+0}
 use Rattle.basis.specs.Room.{room_of}
+use Rattle.basis.specs.declared.refuse.Refusal.{Refusal}
+use Rattle.basis.specs.declared.refuse.Refusal.TheVariants.{Room}
+use Rattle.basis.specs.Refusals.{when, found}
 use Rattle.basis.specs.Refuse.{Row, row, first_of, answer}
 use Rattle.basis.specs.RefuseLaws.{clear, none-clear, clear-left, clear-right, first_found, first-later, answer-no, answer-yes}
 use Rattle.basis.specs.declared.answer.CountAnswer.{CountAnswer}
@@ -12,6 +15,7 @@ use Rattle.basis.specs.Answers.{count_refused, counted}
 use Rattle.view.specs.declared.data.ViewData.{ViewData}
 use Rattle.view.specs.View.{Fit, vertex_count, view_vertices, ListFit}
 use Rattle.view_entries.specs.declared.input.View.{View}
+use Rattle.view_entries.specs.LookLaws.{found-when}
 use Rattle.view_entries.specs.Inputs.{view_data}
 use Rattle.view_entries.specs.ViewVertex.{view_vertex_rows, view_vertex_refusal, vertex-accepted}
 
@@ -47,15 +51,11 @@ module _ (o : List Float) (vc : ℕ) (v : View) (len r : ℕ) (e : r ≡ view_ve
     unfolding view_vertex_refusal view_vertices_refusal
     later = first-later (view_vertex_rows o vc v) (list_room_rows v len) (clear (view_vertex_rows o vc v) tt (sym e ∙ z))
 
-    pub list-short : len < 3 * vertex_count (view_data v) → 9 ≡ view_vertices_refusal o vc v len
+    pub list-room : (w : Result Unit Refusal) → w ≡ when (ltb len (3 * vertex_count (view_data v))) Room → found w ≡ view_vertices_refusal o vc v len
     unfolding first_of
-    list-short h = sym (later ∙ rw (lt-ltb len (3 * vertex_count (view_data v)) h))
+    list-room w q = ap found q ∙ found-when (ltb len (3 * vertex_count (view_data v))) Room ∙ sym later
 
-    pub list-enough : 3 * vertex_count (view_data v) ≤ len → 0 ≡ view_vertices_refusal o vc v len
-    unfolding first_of
-    list-enough h = sym (later ∙ rw (le-ltb len (3 * vertex_count (view_data v)) h))
-
-pub ruleset list_rows = (list-found, list-shaped, list-short, list-enough)
+pub ruleset list_rows = (list-found, list-shaped, list-room)
 
 module _ (o : List Float) (vc : ℕ) (v : View) (room : List Float) (n : ℕ) (e : n ≡ view_vertices_refusal o vc v (length room)) where
   pub list-accepted : (w : ViewData) → n ≡ 0 → w ≡ view_data v → ListFit o vc w room

@@ -1,7 +1,6 @@
 // What the entries answer: flat structs, by value. On a refusal all but its number is 0.
 ghost use Rattle.std.specs.Prelude.{◌≡◌};
-ghost use Rattle.basis.specs.Choice.{code_of};
-ghost use Rattle.view_entries.specs.Answers.{flat_view, vertex_refused, vertex_found, view_refused, view_made, segment_made};
+ghost use Rattle.view_entries.specs.Answers.{vertex_refused, vertex_found, view_refused, view_made, segment_made};
 
 use crate::input::View;
 use outline::point::{Point, Vertex};
@@ -75,36 +74,13 @@ pub fn view_refused(number: u32) -> ViewAnswer
     }
 }
 
-// A yes/no code.
-pub fn choice(yes: bool) -> u32
-    ensures { result ≡ code_of yes }
-{
-    if yes { 1 } else { 0 }
-}
-
-// The view's data as hosts take it.
-fn flat_view(v: ViewData) -> View
-    ensures { result ≡ flat_view v }
-{
-    let first = v.updated_start;
-    let end = v.end_point;
-    View {
-        start_index: v.start_index,
-        end_index_offset: v.end_index_offset,
-        updated_start: first,
-        updated_end_bulge: v.updated_end_bulge,
-        end_point: end,
-        inverted_direction: choice(v.inverted_direction),
-    }
-}
-
 pub(crate) fn view_made(v: ViewData) -> ViewAnswer
     ensures { result ≡ view_made v }
 {
     ViewAnswer {
         refusal: 0,
         found: 1,
-        view: flat_view(v),
+        view: View::from(v),
     }
 }
 

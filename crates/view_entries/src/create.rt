@@ -1,6 +1,8 @@
+#![tactic(auto, unfolding(basis::specs::Refuse::first_of, crate::specs::CreateEntry::create_refusal, crate::specs::CreateEntry::traverse_fault))]
 // The entry `mask_create`: its refusals and its answer.
 ghost use Rattle.std.specs.Prelude.{◌≡◌};
 ghost use Rattle.basis.specs.Number.{tolerance_of};
+ghost use Rattle.basis.specs.Refusals.{found};
 ghost use Rattle.view_entries.specs.Inputs.{walk_of};
 ghost use Rattle.view_entries.specs.CreateEntry.{create_refusal, create_answer, traverse_fault};
 
@@ -8,6 +10,7 @@ use crate::answer::ViewAnswer;
 use crate::input::Split;
 use crate::{answer, input};
 use basis::number::Tolerance;
+use basis::refuse::Refusal;
 use basis::{number, refuse};
 use outline::point::{Point, Vertex};
 use view::create;
@@ -20,27 +23,26 @@ fn bad_traverse(count: usize, vc: usize) -> bool
     count == 0 || vc < count
 }
 
-fn refusal(outline: &[f64], vc: usize, w: Walk, t: Tolerance, split: Split) -> u32
-    ensures { result ≡ create_refusal outline.now vc w t split }
+fn refusal(outline: &[f64], vc: usize, w: Walk, t: Tolerance, split: Split) -> Result<(), Refusal>
+    ensures { found result ≡ create_refusal outline.now vc w t split }
 {
-    let r = refuse::or_else(0, refuse::bad_length(outline.len(), 3, vc), 1);
-    let r = refuse::or_else(r, refuse::bad_size(vc), 2);
-    let r = refuse::or_else(r, !number::in_tolerance(t), 4);
-    let r = refuse::or_else(r, !number::all_in_range(outline), 5);
-    let r = refuse::or_else(r, input::bad_walk_numbers(w, split), 5);
-    let r = refuse::or_else(r, vc <= w.start_index, 6);
-    let r = refuse::or_else(r, vc <= w.intersect_index, 6);
-    refuse::or_else(r, bad_traverse(w.traverse_count, vc), 7)
+    refuse::when(refuse::bad_length(outline.len(), 3, vc), Refusal::Length)?;
+    refuse::when(refuse::bad_size(vc), Refusal::Outline)?;
+    refuse::when(!number::in_tolerance(t), Refusal::Tolerance)?;
+    refuse::when(!number::all_in_range(outline), Refusal::Number)?;
+    refuse::when(input::bad_walk_numbers(w, split), Refusal::Number)?;
+    refuse::when(vc <= w.start_index, Refusal::Index)?;
+    refuse::when(vc <= w.intersect_index, Refusal::Index)?;
+    refuse::when(bad_traverse(w.traverse_count, vc), Refusal::Count)
 }
 
 fn made(outline: &[f64], vc: usize, w: Walk, t: Tolerance, split: Split) -> ViewAnswer
     ensures { result ≡ create_answer outline.now vc w t split }
 {
-    let number = refusal(outline, vc, w, t, split);
-    if number != 0 {
-        return answer::view_refused(number);
+    match refusal(outline, vc, w, t, split) {
+        Err(refusal) => answer::view_refused(refusal.number()),
+        Ok(()) => answer::view_made(create::create(outline, vc, w, t)),
     }
-    answer::view_made(create::create(outline, vc, w, t))
 }
 
 // The view that walks from its start over `traverse_count` segments to an end on the segment at `intersect_index`.

@@ -3,7 +3,7 @@ ghost use Rattle.std.specs.Prelude.{◌≡◌, not, ◌++◌};
 ghost use Rattle.basis.specs.Number.{all_within};
 ghost use Rattle.outline.specs.Points.{point_numbers, vertex_numbers};
 ghost use Rattle.view.specs.View.{view_numbers};
-ghost use Rattle.view_entries.specs.Inputs.{view_data, walk_numbers};
+ghost use Rattle.view_entries.specs.Inputs.{view_data, flat_view, walk_numbers};
 
 use basis::number;
 use outline::point::{Point, Vertex};
@@ -30,18 +30,34 @@ pub struct Split {
 }
 
 // The view's data: 1 is inverted.
-pub fn view_data(v: View) -> ViewData
-    ensures { result ≡ view_data v }
-{
-    let first = v.updated_start;
-    let end = v.end_point;
-    ViewData {
-        start_index: v.start_index,
-        end_index_offset: v.end_index_offset,
-        updated_start: first,
-        updated_end_bulge: v.updated_end_bulge,
-        end_point: end,
-        inverted_direction: v.inverted_direction == 1,
+impl From<View> for ViewData {
+    ghost from_gives = { λ v result. result ≡ view_data v };
+
+    fn from(v: View) -> ViewData {
+        ViewData {
+            start_index: v.start_index,
+            end_index_offset: v.end_index_offset,
+            updated_start: v.updated_start,
+            updated_end_bulge: v.updated_end_bulge,
+            end_point: v.end_point,
+            inverted_direction: v.inverted_direction == 1,
+        }
+    }
+}
+
+// The view's data as hosts take it.
+impl From<ViewData> for View {
+    ghost from_gives = { λ v result. result ≡ flat_view v };
+
+    fn from(v: ViewData) -> View {
+        View {
+            start_index: v.start_index,
+            end_index_offset: v.end_index_offset,
+            updated_start: v.updated_start,
+            updated_end_bulge: v.updated_end_bulge,
+            end_point: v.end_point,
+            inverted_direction: u32::from(v.inverted_direction),
+        }
     }
 }
 

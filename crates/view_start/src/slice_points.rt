@@ -88,7 +88,13 @@ fn sliced(outline: &[f64], vc: usize, e: Ends, t: Tolerance, s: Span, p: Splits)
 }
 
 // The view from the start point to the end point, or none where nothing lies between them.
-pub fn from_slice_points(outline: &[f64], vc: usize, e: Ends, t: Tolerance, p: Splits) -> Option<ViewData>
+pub fn from_slice_points(
+    outline: &[f64],
+    vc: usize,
+    e: Ends,
+    t: Tolerance,
+    p: Splits,
+) -> Option<ViewData>
     requires { EndsFit outline.now vc e }
     ensures { result ≡ slice_view outline.now vc e t p }
 {

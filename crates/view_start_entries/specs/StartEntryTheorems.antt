@@ -14,7 +14,8 @@ use Rattle.outline.specs.Points.{point_numbers, vertex_numbers}
 use Rattle.view.specs.declared.data.ViewData.{ViewData}
 use Rattle.view.specs.View.{Fit, view_numbers}
 use Rattle.view_entries.specs.declared.input.Split.{Split}
-use Rattle.view_entries.specs.Answers.{flat_view, view_refused, segment_made}
+use Rattle.view_entries.specs.Inputs.{flat_view}
+use Rattle.view_entries.specs.Answers.{view_refused, segment_made}
 use Rattle.view_entries.specs.ViewVertex.{view_vertex_rows, view_vertex_refusal}
 use Rattle.view_span.specs.declared.span.Ends.{Ends}
 use Rattle.view_span.specs.Span.{ends_of, span_of}

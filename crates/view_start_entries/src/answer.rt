@@ -1,8 +1,8 @@
+#![tactic(auto, unfolding(crate::specs::Answers::span_told))]
 // What the span's entry answers: a flat struct, by value. On a refusal all but its number is 0.
 ghost use Rattle.std.specs.Prelude.{◌≡◌};
 ghost use Rattle.view_start_entries.specs.Answers.{span_refused, span_told};
 
-use view_entries::answer;
 use view_span::span::Span;
 
 #[repr(C)]
@@ -30,7 +30,7 @@ pub(crate) fn span_told(s: Span) -> SpanAnswer
 {
     SpanAnswer {
         refusal: 0,
-        moved: answer::choice(s.moved),
+        moved: u32::from(s.moved),
         start_index: s.start_index,
         traverse_count: s.traverse_count,
     }

@@ -1,11 +1,14 @@
+#![tactic(auto, unfolding(basis::specs::Refuse::first_of, crate::specs::StartRows::back_fault))]
 // The refusals that the three entries share, a table in parts, and the library's own data made of what hosts hand in.
 ghost use Rattle.std.specs.Prelude.{◌≡◌, not, ◌++◌};
 ghost use Rattle.basis.specs.Number.{all_within};
-ghost use Rattle.basis.specs.Refuse.{first_from};
+ghost use Rattle.basis.specs.Refuse.{first_of};
+ghost use Rattle.basis.specs.Refusals.{found};
 ghost use Rattle.outline.specs.Points.{point_numbers};
 ghost use Rattle.view_start_entries.specs.StartRows.{splits_of, ends_numbers, split_numbers, back_fault, shape_rows, split_rows, index_rows};
 
 use basis::number::Tolerance;
+use basis::refuse::Refusal;
 use basis::{number, refuse};
 use outline::point::Point;
 use view_entries::input::Split;
@@ -16,13 +19,10 @@ use view_start::slice_points::Splits;
 pub(crate) fn splits_of(start: Split, end: Split) -> Splits
     ensures { result ≡ splits_of start end }
 {
-    let before = start.updated_start;
-    let vertex = start.split_vertex;
-    let part = end.updated_start;
     Splits {
-        start_bulge: before.bulge,
-        start_vertex: vertex,
-        end_part: part,
+        start_bulge: start.updated_start.bulge,
+        start_vertex: start.split_vertex,
+        end_part: end.updated_start,
     }
 }
 
@@ -62,30 +62,34 @@ fn runs_back(e: Ends) -> bool
 }
 
 // Numbers 1 to 4, and 5 of the outline.
-pub(crate) fn shape_refusal(outline: &[f64], vc: usize, closed: u32, t: Tolerance) -> u32
-    ensures { result ≡ first_from 0 (shape_rows outline.now vc closed t) }
+pub(crate) fn shape_refusal(
+    outline: &[f64],
+    vc: usize,
+    closed: u32,
+    t: Tolerance,
+) -> Result<(), Refusal>
+    ensures { found result ≡ first_of (shape_rows outline.now vc closed t) }
 {
-    let r = refuse::or_else(0, refuse::bad_length(outline.len(), 3, vc), 1);
-    let r = refuse::or_else(r, refuse::bad_size(vc), 2);
-    let r = refuse::or_else(r, refuse::bad_choice(closed), 3);
-    let r = refuse::or_else(r, !number::in_tolerance(t), 4);
-    refuse::or_else(r, !number::all_in_range(outline), 5)
+    refuse::when(refuse::bad_length(outline.len(), 3, vc), Refusal::Length)?;
+    refuse::when(refuse::bad_size(vc), Refusal::Outline)?;
+    refuse::when(refuse::bad_choice(closed), Refusal::Code)?;
+    refuse::when(!number::in_tolerance(t), Refusal::Tolerance)?;
+    refuse::when(!number::all_in_range(outline), Refusal::Number)
 }
 
 // Number 5, of the splits.
-pub(crate) fn split_refusal(r: u32, start: Split, end: Split) -> u32
-    ensures { result ≡ first_from r (split_rows start end) }
+pub(crate) fn split_refusal(start: Split, end: Split) -> Result<(), Refusal>
+    ensures { found result ≡ first_of (split_rows start end) }
 {
-    let r = refuse::or_else(r, bad_split(start), 5);
-    refuse::or_else(r, bad_split(end), 5)
+    refuse::when(bad_split(start), Refusal::Number)?;
+    refuse::when(bad_split(end), Refusal::Number)
 }
 
 // Numbers 6 and 15.
-pub(crate) fn index_refusal(r: u32, vc: usize, e: Ends) -> u32
-    ensures { result ≡ first_from r (index_rows vc e) }
+pub(crate) fn index_refusal(vc: usize, e: Ends) -> Result<(), Refusal>
+    ensures { found result ≡ first_of (index_rows vc e) }
 {
-    let back = runs_back(e);
-    let r = refuse::or_else(r, vc <= e.start_index, 6);
-    let r = refuse::or_else(r, vc <= e.end_index, 6);
-    refuse::or_else(r, back, 15)
+    refuse::when(vc <= e.start_index, Refusal::Index)?;
+    refuse::when(vc <= e.end_index, Refusal::Index)?;
+    refuse::when(runs_back(e), Refusal::Backward)
 }

@@ -1,11 +1,14 @@
+#![tactic(auto, using(basis::specs::RefusalLaws::looks), unfolding(basis::specs::Refuse::first_of, crate::specs::NewStartEntry::new_start_refusal))]
 // The entry `mask_from_new_start`.
 ghost use Rattle.std.specs.Prelude.{◌≡◌};
 ghost use Rattle.basis.specs.Number.{tolerance_of};
+ghost use Rattle.basis.specs.Refusals.{found};
 ghost use Rattle.view_start_entries.specs.NewStartEntry.{new_start_refusal, new_start_answer};
 
 use crate::faults;
 use basis::number::Tolerance;
 use basis::refuse;
+use basis::refuse::Refusal;
 use outline::point::Point;
 use view_entries::answer;
 use view_entries::answer::ViewAnswer;
@@ -21,13 +24,13 @@ fn refusal(
     t: Tolerance,
     start: Split,
     end: Split,
-) -> u32
-    ensures { result ≡ new_start_refusal outline.now vc closed i p t start end }
+) -> Result<(), Refusal>
+    ensures { found result ≡ new_start_refusal outline.now vc closed i p t start end }
 {
-    let r = faults::shape_refusal(outline, vc, closed, t);
-    let r = refuse::or_else(r, faults::bad_point(p), 5);
-    let r = faults::split_refusal(r, start, end);
-    refuse::or_else(r, vc <= i, 6)
+    faults::shape_refusal(outline, vc, closed, t)?;
+    refuse::when(faults::bad_point(p), Refusal::Number)?;
+    faults::split_refusal(start, end)?;
+    refuse::when(vc <= i, Refusal::Index)
 }
 
 fn made(
@@ -42,12 +45,13 @@ fn made(
 ) -> ViewAnswer
     ensures { result ≡ new_start_answer outline.now vc closed i p t start end }
 {
-    let number = refusal(outline, vc, closed, i, p, t, start, end);
-    if number != 0 {
-        return answer::view_refused(number);
+    match refusal(outline, vc, closed, i, p, t, start, end) {
+        Err(refusal) => answer::view_refused(refusal.number()),
+        Ok(()) => {
+            let s = faults::splits_of(start, end);
+            answer::segment_made(new_start::from_new_start(outline, vc, closed == 1, i, p, t, s))
+        }
     }
-    let s = faults::splits_of(start, end);
-    answer::segment_made(new_start::from_new_start(outline, vc, closed == 1, i, p, t, s))
 }
 
 // The view that starts a closed outline at a point of it and goes once round, or leads from a point of an open one to its last vertex; none where that point is the last vertex.

@@ -1,12 +1,15 @@
+#![tactic(auto, using(basis::specs::RefusalLaws::looks), unfolding(basis::specs::Refuse::first_of, crate::specs::SliceEntry::slice_refusal))]
 // The entry `mask_from_slice_points`.
 ghost use Rattle.std.specs.Prelude.{◌≡◌, eqb};
 ghost use Rattle.basis.specs.Number.{tolerance_of};
+ghost use Rattle.basis.specs.Refusals.{found};
 ghost use Rattle.view_span.specs.Span.{ends_of};
 ghost use Rattle.view_start_entries.specs.SliceEntry.{slice_refusal, slice_answer};
 
 use crate::faults;
 use basis::number::Tolerance;
 use basis::refuse;
+use basis::refuse::Refusal;
 use outline::point::Point;
 use view_entries::answer;
 use view_entries::answer::ViewAnswer;
@@ -22,13 +25,13 @@ fn refusal(
     t: Tolerance,
     start: Split,
     end: Split,
-) -> u32
-    ensures { result ≡ slice_refusal outline.now vc closed e t start end }
+) -> Result<(), Refusal>
+    ensures { found result ≡ slice_refusal outline.now vc closed e t start end }
 {
-    let r = faults::shape_refusal(outline, vc, closed, t);
-    let r = refuse::or_else(r, faults::bad_points(e), 5);
-    let r = faults::split_refusal(r, start, end);
-    faults::index_refusal(r, vc, e)
+    faults::shape_refusal(outline, vc, closed, t)?;
+    refuse::when(faults::bad_points(e), Refusal::Number)?;
+    faults::split_refusal(start, end)?;
+    faults::index_refusal(vc, e)
 }
 
 fn made(
@@ -42,12 +45,13 @@ fn made(
 ) -> ViewAnswer
     ensures { result ≡ slice_answer outline.now vc closed e t start end }
 {
-    let number = refusal(outline, vc, closed, e, t, start, end);
-    if number != 0 {
-        return answer::view_refused(number);
+    match refusal(outline, vc, closed, e, t, start, end) {
+        Err(refusal) => answer::view_refused(refusal.number()),
+        Ok(()) => {
+            let p = faults::splits_of(start, end);
+            answer::segment_made(slice_points::from_slice_points(outline, vc, e, t, p))
+        }
     }
-    let p = faults::splits_of(start, end);
-    answer::segment_made(slice_points::from_slice_points(outline, vc, e, t, p))
 }
 
 // The view from a point on one segment to a point on another, or none where nothing lies between them.

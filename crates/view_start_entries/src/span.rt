@@ -1,6 +1,8 @@
+#![tactic(auto, using(basis::specs::RefusalLaws::looks), unfolding(basis::specs::Refuse::first_of, crate::specs::SpanEntry::span_refusal))]
 // The entry `mask_slice_span`.
 ghost use Rattle.std.specs.Prelude.{◌≡◌, eqb};
 ghost use Rattle.basis.specs.Number.{tolerance_of};
+ghost use Rattle.basis.specs.Refusals.{found};
 ghost use Rattle.view_span.specs.Span.{ends_of};
 ghost use Rattle.view_start_entries.specs.SpanEntry.{span_refusal, span_answer};
 
@@ -8,26 +10,26 @@ use crate::answer::SpanAnswer;
 use crate::{answer, faults};
 use basis::number::Tolerance;
 use basis::refuse;
+use basis::refuse::Refusal;
 use outline::point::Point;
 use view_span::span;
 use view_span::span::Ends;
 
-fn refusal(outline: &[f64], vc: usize, closed: u32, e: Ends, t: Tolerance) -> u32
-    ensures { result ≡ span_refusal outline.now vc closed e t }
+fn refusal(outline: &[f64], vc: usize, closed: u32, e: Ends, t: Tolerance) -> Result<(), Refusal>
+    ensures { found result ≡ span_refusal outline.now vc closed e t }
 {
-    let r = faults::shape_refusal(outline, vc, closed, t);
-    let r = refuse::or_else(r, faults::bad_points(e), 5);
-    faults::index_refusal(r, vc, e)
+    faults::shape_refusal(outline, vc, closed, t)?;
+    refuse::when(faults::bad_points(e), Refusal::Number)?;
+    faults::index_refusal(vc, e)
 }
 
 fn told(outline: &[f64], vc: usize, closed: u32, e: Ends, t: Tolerance) -> SpanAnswer
     ensures { result ≡ span_answer outline.now vc closed e t }
 {
-    let number = refusal(outline, vc, closed, e, t);
-    if number != 0 {
-        return answer::span_refused(number);
+    match refusal(outline, vc, closed, e, t) {
+        Err(refusal) => answer::span_refused(refusal.number()),
+        Ok(()) => answer::span_told(span::span_of(outline, vc, e, t)),
     }
-    answer::span_told(span::span_of(outline, vc, e, t))
 }
 
 // The segment that the view between two points starts on, and how many segments further on it ends: what the host has to split.

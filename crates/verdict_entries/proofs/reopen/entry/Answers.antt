@@ -1,14 +1,15 @@
+use Rattle.basis.specs.RefusalLaws.{looks}
 use Rattle.basis.specs.RefuseLaws.{answers}
 use Rattle.verdict_entries.specs.ValidateEntry.{ask_laws}
 use Rattle.verdict_entries.specs.ReopenEntry.{reopen_laws}
 use borrow.Author.Rules.{rules}
 use Rattle.verdict_entries.proofs.reopen.entry.Goals as goal
 
-pub returns-then-number-ne0 : goal.returns-then-number-ne0
-returns-then-number-ne0 c = search (rules, answers)
+pub returns-in-Err : goal.returns-in-Err
+returns-in-Err c = search (rules, answers, looks)
 
 pub validate_for_source-requires : goal.validate_for_source-requires
-validate_for_source-requires c = search (rules, ask_laws)
+validate_for_source-requires c = search (rules, ask_laws, looks)
 
-pub returns : goal.returns
-returns c = search (rules, answers, ask_laws, reopen_laws)
+pub returns-in-Ok : goal.returns-in-Ok
+returns-in-Ok c = search (rules, answers, ask_laws, reopen_laws, looks)

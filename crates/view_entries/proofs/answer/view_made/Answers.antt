@@ -3,4 +3,4 @@ use Rattle.view_entries.proofs.answer.view_made.Goals as goal
 
 pub returns : goal.returns
 unfolding view_made
-returns c = rw c.flat_view.ensures
+returns c = rw c.from.ensures

@@ -1,13 +1,14 @@
+use Rattle.basis.specs.RefusalLaws.{looks}
 use Rattle.basis.specs.RefuseLaws.{answers}
 use Rattle.view_entries.specs.CreateEntry.{create_laws}
 use borrow.Author.Rules.{rules}
 use Rattle.view_entries.proofs.create.made.Goals as goal
 
-pub returns-then-number-ne0 : goal.returns-then-number-ne0
-returns-then-number-ne0 c = search (rules, answers, create_laws)
+pub returns-in-Err : goal.returns-in-Err
+returns-in-Err c = search (rules, answers, create_laws, looks)
 
 pub create-requires : goal.create-requires
-create-requires c = search (rules, answers, create_laws)
+create-requires c = search (rules, answers, create_laws, looks)
 
-pub returns : goal.returns
-returns c = search (rules, answers, create_laws)
+pub returns-in-Ok : goal.returns-in-Ok
+returns-in-Ok c = search (rules, answers, create_laws, looks)

@@ -1,13 +1,14 @@
+use Rattle.basis.specs.RefusalLaws.{looks}
 use Rattle.basis.specs.RefuseLaws.{answers}
 use Rattle.view_entries.specs.EntireEntry.{entire_laws}
 use borrow.Author.Rules.{rules}
 use Rattle.view_entries.proofs.entire.entry.Goals as goal
 
-pub returns-then-number-ne0 : goal.returns-then-number-ne0
-returns-then-number-ne0 c = search (rules, answers, entire_laws)
+pub returns-in-Err : goal.returns-in-Err
+returns-in-Err c = search (rules, answers, entire_laws, looks)
 
 pub from_entire_pline-requires : goal.from_entire_pline-requires
-from_entire_pline-requires c = search (rules, answers, entire_laws)
+from_entire_pline-requires c = search (rules, answers, entire_laws, looks)
 
-pub returns : goal.returns
-returns c = search (rules, answers, entire_laws)
+pub returns-in-Ok : goal.returns-in-Ok
+returns-in-Ok c = search (rules, answers, entire_laws, looks)

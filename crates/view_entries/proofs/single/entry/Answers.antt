@@ -1,10 +1,11 @@
+use Rattle.basis.specs.RefusalLaws.{looks}
 use Rattle.basis.specs.RefuseLaws.{answers}
 use Rattle.view_entries.specs.SingleEntry.{single_laws}
 use borrow.Author.Rules.{rules}
 use Rattle.view_entries.proofs.single.entry.Goals as goal
 
-pub returns-then-number-ne0 : goal.returns-then-number-ne0
-returns-then-number-ne0 c = search (rules, answers, single_laws)
+pub returns-in-Err : goal.returns-in-Err
+returns-in-Err c = search (rules, answers, single_laws, looks)
 
-pub returns : goal.returns
-returns c = search (rules, answers, single_laws)
+pub returns-in-Ok : goal.returns-in-Ok
+returns-in-Ok c = search (rules, answers, single_laws, looks)

@@ -1,13 +1,14 @@
+use Rattle.basis.specs.RefusalLaws.{looks}
 use Rattle.basis.specs.RefuseLaws.{answers}
 use Rattle.view_entries.specs.ViewVertex.{vertex_laws}
 use borrow.Author.Rules.{rules}
 use Rattle.view_entries.proofs.view_vertex.entry.Goals as goal
 
-pub returns-then-number-ne0 : goal.returns-then-number-ne0
-returns-then-number-ne0 c = search (rules, answers, vertex_laws)
+pub returns-in-Err : goal.returns-in-Err
+returns-in-Err c = search (rules, answers, vertex_laws, looks)
 
 pub get_vertex-requires : goal.get_vertex-requires
-get_vertex-requires c = search (rules, answers, vertex_laws)
+get_vertex-requires c = search (rules, answers, vertex_laws, looks)
 
-pub returns : goal.returns
-returns c = search (rules, answers, vertex_laws)
+pub returns-in-Ok : goal.returns-in-Ok
+returns-in-Ok c = search (rules, answers, vertex_laws, looks)

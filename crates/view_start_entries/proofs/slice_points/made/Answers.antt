@@ -1,13 +1,14 @@
 use Rattle.view_start_entries.specs.SliceEntry.{slice_laws}
+use Rattle.basis.specs.RefusalLaws.{looks}
 use Rattle.basis.specs.RefuseLaws.{answers}
 use borrow.Author.Rules.{rules}
 use Rattle.view_start_entries.proofs.slice_points.made.Goals as goal
 
-pub returns-then-number-ne0 : goal.returns-then-number-ne0
-returns-then-number-ne0 c = search (rules, answers, slice_laws)
+pub returns-in-Err : goal.returns-in-Err
+returns-in-Err c = search (rules, answers, slice_laws, looks)
 
 pub from_slice_points-requires : goal.from_slice_points-requires
-from_slice_points-requires c = search (rules, answers, slice_laws)
+from_slice_points-requires c = search (rules, answers, slice_laws, looks)
 
-pub returns : goal.returns
-returns c = search (rules, answers, slice_laws)
+pub returns-in-Ok : goal.returns-in-Ok
+returns-in-Ok c = search (rules, answers, slice_laws, looks)

@@ -1,25 +1,11 @@
-use Rattle.view_start_entries.specs.SpanEntry.{span_refusal}
-use Rattle.view_start_entries.proofs.Rows.{ones}
-use Rattle.basis.specs.RefuseLaws.{parts}
-use borrow.Author.Rules.{rules}
+use Rattle.std.proofs.Common.{rules, ◌++◌}
+use Rattle.basis.specs.RefusalLaws.{looks, found-some}
+use Rattle.view_start_entries.specs.StartRows.{index_rows}
+use Rattle.view_start_entries.specs.SpanEntry.{point_rows, span_refusal}
+use Rattle.view_start_entries.proofs.Rows.{part-found}
 use Rattle.view_start_entries.proofs.span.refusal.Goals as goal
 
-pub shape_refusal-r-requires : goal.shape_refusal-r-requires
+pub returns-in_err-shape_refusal : goal.returns-in_err-shape_refusal
 unfolding span_refusal
-shape_refusal-r-requires c = search rules
-
-pub bad_points-requires : goal.bad_points-requires
-unfolding span_refusal
-bad_points-requires c = search rules
-
-pub or_else-r-requires : goal.or_else-r-requires
-unfolding span_refusal
-or_else-r-requires c = search rules
-
-pub index_refusal-requires : goal.index_refusal-requires
-unfolding span_refusal
-index_refusal-requires c = search rules
-
-pub returns : goal.returns
-unfolding span_refusal
-returns c = search (parts, ones) depth 14
+returns-in_err-shape_refusal c =
+    part-found _ (point_rows c.args.e ++ index_rows c.args.vc c.args.e) _ _ c.shape_refusal.ensures (found-some _ _ c.in_err-shape_refusal.was) (search (rules, looks))
