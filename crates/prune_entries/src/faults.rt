@@ -1,9 +1,11 @@
 // The refusals of `mask_prune`, part by part of their table. Each row has a way out of its own: an accepted call then keeps no number on the way.
 ghost use Rattle.std.specs.Prelude.{◌≡◌, ◌++◌};
 ghost use Rattle.basis.specs.Refuse.{first_from};
+ghost use Rattle.basis.specs.Refusals.{found};
 ghost use Rattle.prune_entries.specs.PruneRows.{cand_list_rows, lap_list_rows, call_rows, answer_rows, code_rows, number_rows, lap_start_rows, start_rows, reach_rows, index_rows, number_index_rows, room_rows};
 ghost use Rattle.slice.specs.Ready.{Countable};
 
+use basis::refuse::Refusal;
 use basis::sizes::{MOST_CANDIDATES, MOST_LAPS};
 use basis::{items, number, refuse};
 use prune::call::Call;
@@ -224,10 +226,22 @@ pub(crate) fn content_refusal(
 }
 
 // Number 9: the three lists are too short for so many slices.
+#[tactic(auto, unfolding(basis::specs::Refuse::first_from, basis::specs::Refuse::or_else))]
+fn room_refusal(need: usize, at: usize, slice: usize, edition: usize) -> Result<(), Refusal>
+    requires { Countable need }
+    ensures { found result ≡ first_from 0 (room_rows need at slice edition) }
+{
+    slice::faults::room_refusal(need, at, slice)?;
+    editions::room_refusal(need, edition)
+}
+
+// The same as a number.
 pub fn lent_refusal(need: usize, at: usize, slice: usize, edition: usize) -> u32
     requires { Countable need }
     ensures { result ≡ first_from 0 (room_rows need at slice edition) }
 {
-    let r = slice::faults::room_refusal(0, need, at, slice);
-    editions::room_refusal(r, need, edition)
+    match room_refusal(need, at, slice, edition) {
+        Err(refusal) => refusal.number(),
+        Ok(()) => 0,
+    }
 }

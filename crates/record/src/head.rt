@@ -1,6 +1,7 @@
 // The head of a record: its frame, its numbers, and what is refused by them.
 ghost use Rattle.std.specs.Prelude.{◌≡◌};
 ghost use Rattle.basis.specs.Refuse.{first_of, first_from};
+ghost use Rattle.basis.specs.Refusals.{found};
 ghost use Rattle.basis.specs.Number.{tolerance_of};
 ghost use Rattle.fields.specs.Fields.{num_of};
 ghost use Rattle.record.specs.Record.{mark_ok, number_in, form_in, frame_rows, second_in, head_at, length_of, taken_rows, count_rows, room_rows};
@@ -9,6 +10,7 @@ ghost use Rattle.record_form.specs.Ready.{FormOk};
 
 use basis::number::Tolerance;
 use basis::refuse;
+use basis::refuse::Refusal;
 use fields::{copy, field, shape};
 use record_form::form;
 use record_form::form::Version;
@@ -172,12 +174,27 @@ pub fn count_refusal(bytes: usize, p: Plan, v: Version) -> u32
 }
 
 // Number 9: a lent list is too short for what is read.
-pub fn room_refusal(found: u32, p: Plan, l: Lengths) -> u32
+#[tactic(auto, unfolding(basis::specs::Refuse::first_from, basis::specs::Refuse::or_else))]
+fn room_refused(p: Plan, l: Lengths) -> Result<(), Refusal>
     requires { Counts p }
-    ensures { result ≡ first_from found (room_rows p l) }
+    ensures { found result ≡ first_from 0 (room_rows p l) }
 {
-    let r = refuse::or_else(found, l.outline1 < 3 * p.vc1, 9);
-    let r = refuse::or_else(r, l.outline2 < 3 * p.vc2, 9);
-    let r = slice::faults::room_refusal(r, p.slices, l.slice_at, l.slice);
-    slice::edition::room_refusal(r, p.slices, l.slice_edition)
+    refuse::when(l.outline1 < 3 * p.vc1, Refusal::Room)?;
+    refuse::when(l.outline2 < 3 * p.vc2, Refusal::Room)?;
+    slice::faults::room_refusal(p.slices, l.slice_at, l.slice)?;
+    slice::edition::room_refusal(p.slices, l.slice_edition)
+}
+
+// The same, where nothing was found so far.
+pub fn room_refusal(r: u32, p: Plan, l: Lengths) -> u32
+    requires { Counts p }
+    ensures { result ≡ first_from r (room_rows p l) }
+{
+    if r != 0 {
+        return r;
+    }
+    match room_refused(p, l) {
+        Err(refusal) => refusal.number(),
+        Ok(()) => 0,
+    }
 }

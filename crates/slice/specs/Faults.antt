@@ -1,5 +1,5 @@
 -- Document 01's refusals of slices: the faults of one slice, and the rows of a table over lists of them.
-use Rattle.std.specs.Prelude.{ℕ, ◌*◌, ◌/◌, Bool, not, List, [], ◌∷◌, length, ltb, leb}
+use Rattle.std.specs.Prelude.{ℕ, ◌*◌, ◌/◌, Bool, not, ◌≡◌, List, [], ◌∷◌, length, ltb, leb}
 use Rattle.basis.specs.Each.{each_to, choices_known}
 use Rattle.basis.specs.Refuse.{Row, row, length_fault, source_fault, count_for}
 use Rattle.slice.specs.declared.data.Codes.{Codes}
@@ -24,6 +24,10 @@ offset_inside vc1 vc2 c = leb c.offset (count_for vc1 vc2 c.source)
 -- the test passes for every slice in the list of codes
 unfoldable pub each_slice : (Codes → Bool) → List ℕ → Bool
 each_slice q at = each_to (λ i. q (codes_at at i)) (length at / code_width)
+
+-- whatever a test answers of a slice is q of it
+pub record Tests (answers : Codes → Bool → Type 0) (q : Codes → Bool) : Type 0 where
+  pub told : (c : Codes) (b : Bool) → answers c b → b ≡ q c
 
 abbrev pub sources_known : List ℕ → Bool
 sources_known at = each_slice source_known at

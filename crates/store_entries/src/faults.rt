@@ -1,8 +1,11 @@
+#![tactic(auto, unfolding(basis::specs::Refuse::first_from, basis::specs::Refuse::or_else))]
 // The refusals of the store's entries, part by part of their tables. Each part goes on from what was found so far.
 ghost use Rattle.std.specs.Prelude.{◌≡◌};
 ghost use Rattle.basis.specs.Refuse.{first_from};
-ghost use Rattle.store_entries.specs.StoreRows.{store_rows, number_rows, slice_rows, room_rows, party_rows};
+ghost use Rattle.basis.specs.Refusals.{found};
+ghost use Rattle.store_entries.specs.StoreRows.{store_rows, slice_rows, room_rows, party_rows};
 
+use basis::refuse::Refusal;
 use basis::{number, refuse};
 
 // How many places the store has.
@@ -25,20 +28,26 @@ pub(crate) fn store_refusal(r: u32, held: usize, at: usize, shape: usize, editio
     refuse::or_else(r, refuse::bad_length(edition, 1, PLACES), 1)
 }
 
-// Number 5 of the slice that is put.
-fn number_refusal(r: u32, put_shape: &[f64]) -> u32
-    ensures { result ≡ first_from r (number_rows put_shape.now) }
+// Numbers 1, 3 and 5 of the slice that is put.
+fn slice_refused(put_at: &[usize], put_shape: &[f64]) -> Result<(), Refusal>
+    ensures { found result ≡ first_from 0 (slice_rows put_at.now put_shape.now) }
 {
-    refuse::or_else(r, !number::all_in_range(put_shape), 5)
+    slice::faults::list_refusal(put_at.len(), put_shape.len(), 1)?;
+    slice::faults::code_refusal(put_at)?;
+    refuse::when(!number::all_in_range(put_shape), Refusal::Number)
 }
 
-// Numbers 1, 3 and 5 of the slice that is put.
+// The same, where nothing was found so far.
 pub(crate) fn slice_refusal(r: u32, put_at: &[usize], put_shape: &[f64]) -> u32
     ensures { result ≡ first_from r (slice_rows put_at.now put_shape.now) }
 {
-    let r = slice::faults::list_refusal(r, put_at.len(), put_shape.len(), 1);
-    let r = slice::faults::code_refusal(r, put_at);
-    number_refusal(r, put_shape)
+    if r != 0 {
+        return r;
+    }
+    match slice_refused(put_at, put_shape) {
+        Err(refusal) => refusal.number(),
+        Ok(()) => 0,
+    }
 }
 
 // Number 9: a list lent for the answer is too short for a slice in every place of a party.

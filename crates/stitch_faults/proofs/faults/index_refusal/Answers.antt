@@ -1,20 +1,16 @@
-use Rattle.basis.specs.Refuse.{first_from}
-use Rattle.basis.specs.RefuseLaws.{rows}
-use borrow.Author.Rules.{rules}
+use Rattle.std.specs.Prelude.{ℕ, zero, suc, ◌≡◌, refl, List}
+use Rattle.std.proofs.Common.{rules, sym, ◌∙◌, ap}
+use Rattle.basis.specs.Refuse.{Row, first_from}
+use Rattle.basis.specs.RefuseLaws.{found-stays}
+use Rattle.basis.specs.RefusalLaws.{looks}
 use Rattle.stitch_faults.proofs.faults.index_refusal.Goals as goal
 
-pub index_refusal-r-requires : goal.index_refusal-r-requires
-unfolding first_from
-index_refusal-r-requires c = search rules
+stays : (k : ℕ) (t : List Row) → (k ≡ 0 → ⊥) → k ≡ first_from k t
+stays zero t h = absurd (h refl)
+stays (suc k) t h = sym (found-stays k t)
 
-pub bad_starts-requires : goal.bad_starts-requires
-unfolding first_from
-bad_starts-requires c = search rules
+goes : (k m n : ℕ) (t : List Row) → k ≡ 0 → m ≡ first_from 0 t → m ≡ n → n ≡ first_from k t
+goes k m n t z e f = sym f ∙ e ∙ ap (λ (j : ℕ). first_from j t) (sym z)
 
-pub or_else-requires : goal.or_else-requires
-unfolding first_from
-or_else-requires c = search rules
-
-pub returns : goal.returns
-unfolding first_from
-returns c = search rows depth 24
+pub returns-then-r-ne0 : goal.returns-then-r-ne0
+returns-then-r-ne0 c = stays _ _ c.if-r-ne0.true
