@@ -9,6 +9,9 @@ use Rattle.prune.specs.declared.mode.Part.{Part}
 use Rattle.prune.specs.declared.mode.Parts.{Parts}
 use Rattle.prune.specs.declared.counts.Ends.{Ends}
 use Rattle.prune.specs.declared.counts.Pruned.{Pruned}
+use Rattle.prune.specs.declared.lists.Cands as lent_cands
+use Rattle.prune.specs.declared.lists.Overlaps as lent_laps
+use Rattle.prune.specs.declared.lists.Handed.{Handed}
 
 -- ---- what is there
 
@@ -40,6 +43,16 @@ pub record Given : Type 0 where
 
 abbrev pub given : Call → Cands → Cands → Overlaps → Given
 given call first second laps = record { call = call; first = first; second = second; laps = laps }
+
+-- the same, of the references that a function is handed
+abbrev pub cands_in : lent_cands.Cands → Cands
+cands_in c = cands c.at.now c.shape.now c.edition.now c.inside.now
+
+abbrev pub laps_in : lent_laps.Overlaps → Overlaps
+laps_in l = overlaps l.at.now l.shape.now l.edition.now
+
+abbrev pub held : Handed → Given
+held g = given g.call (cands_in g.first) (cands_in g.second) (laps_in g.laps)
 
 abbrev pub call_of : ℕ → ℕ → ℕ → ℕ → ℕ → ℕ → ℕ → Call
 call_of mode opposing vc1 vc2 count1 count2 laps =

@@ -4,6 +4,7 @@ ghost use Rattle.prune.specs.Prune.{need_of};
 ghost use Rattle.prune.specs.Ready.{Few};
 
 // The mode and the yes/no code of opposing directions, the outlines' vertex counts, how many candidates each has, how many overlaps there are.
+// The first two stay numbers: the entries of `mask` fill them in as C hands them over.
 #[derive(Clone, Copy)]
 pub struct Call {
     pub mode: u32,

@@ -1,3 +1,4 @@
+#![tactic(auto, unfolding(crate::specs::Prune::cand_codes, crate::specs::Prune::lap_inverted, crate::specs::Prune::lap_codes))]
 // The codes of the slices that candidates and overlaps become.
 ghost use Rattle.std.specs.Prelude.{◌≡◌};
 ghost use Rattle.prune.specs.Prune.{cand_codes, lap_inverted, lap_codes};

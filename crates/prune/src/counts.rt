@@ -1,3 +1,4 @@
+#![tactic(auto, unfolding(crate::specs::Prune::pruned_at))]
 // How many slices there are, and where their classes begin.
 ghost use Rattle.std.specs.Prelude.{◌≡◌};
 ghost use Rattle.prune.specs.Prune.{pruned_at};

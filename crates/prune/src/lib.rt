@@ -3,4 +3,5 @@
 pub mod call;
 pub mod codes;
 pub mod counts;
+pub mod lists;
 pub mod mode;

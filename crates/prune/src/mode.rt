@@ -1,3 +1,4 @@
+#![tactic(auto, unfolding(crate::specs::Prune::wanted_of, crate::specs::Prune::turned_of, crate::specs::Prune::first_part, crate::specs::Prune::second_part, crate::specs::Prune::parts_of))]
 // Document 01, "Pruning": the table of modes.
 ghost use Rattle.std.specs.Prelude.{◌≡◌};
 ghost use Rattle.prune.specs.Prune.{wanted_of, turned_of, first_part, second_part, parts_of};
@@ -34,31 +35,16 @@ pub struct Parts {
 fn wanted_of(mode: u32) -> Wanted
     ensures { result ≡ wanted_of mode }
 {
-    if mode == 0 {
-        return Wanted {
-            keep1: OUTSIDE,
-            keep2: OUTSIDE,
-            opposing: false,
-        };
-    }
-    if mode == 1 {
-        return Wanted {
-            keep1: INSIDE,
-            keep2: INSIDE,
-            opposing: false,
-        };
-    }
-    if mode == 2 {
-        return Wanted {
-            keep1: OUTSIDE,
-            keep2: INSIDE,
-            opposing: true,
-        };
-    }
+    let (keep1, keep2, opposing) = match mode {
+        0 => (OUTSIDE, OUTSIDE, false),
+        1 => (INSIDE, INSIDE, false),
+        2 => (OUTSIDE, INSIDE, true),
+        _ => (INSIDE, OUTSIDE, true),
+    };
     Wanted {
-        keep1: INSIDE,
-        keep2: OUTSIDE,
-        opposing: true,
+        keep1,
+        keep2,
+        opposing,
     }
 }
 
@@ -66,10 +52,7 @@ fn wanted_of(mode: u32) -> Wanted
 fn turned(wanted: bool, own: bool) -> usize
     ensures { result ≡ turned_of wanted own }
 {
-    if wanted {
-        return if own { 0 } else { 1 };
-    }
-    if own { 1 } else { 0 }
+    usize::from(wanted != own)
 }
 
 // Outline 1: its slices are inverted where the wanted direction differs.

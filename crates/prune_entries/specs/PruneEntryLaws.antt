@@ -140,7 +140,7 @@ module _ (g : Given) (l : Rooms) (number : ℕ) where
             (not-false _ r.1.1.0) (not-false _ n.1.1.0);
       }
 
-  left-refused : (r : PruneAnswer) → number ≡ prune_number g l → (number ≡ 0 → ⊥) → r ≡ prune_refused number → PruneLeft g l r l
+  pub left-refused : (r : PruneAnswer) → number ≡ prune_number g l → (number ≡ 0 → ⊥) → r ≡ prune_refused number → PruneLeft g l r l
   left-refused r e h q =
       record {
         answers = answer-no prune_refused number _ _ r e h q;
@@ -149,7 +149,7 @@ module _ (g : Given) (l : Rooms) (number : ℕ) where
         edition = answer-no (λ _. l.edition) number _ _ l.edition e h refl;
       }
 
-  left-given : (p : Pruned) (r : PruneAnswer) (left : Rooms) → number ≡ prune_number g l → number ≡ 0 → Written g l p left → r ≡ prune_given p → PruneLeft g l r left
+  pub left-given : (p : Pruned) (r : PruneAnswer) (left : Rooms) → number ≡ prune_number g l → number ≡ 0 → Written g l p left → r ≡ prune_given p → PruneLeft g l r left
   left-given p r left e z w q =
       record {
         answers = answer-yes prune_refused number _ _ r e z (q ∙ ap (λ (x : Pruned). prune_given x) w.answer);
@@ -157,24 +157,3 @@ module _ (g : Given) (l : Rooms) (number : ℕ) where
         shape = answer-yes (λ _. l.shape) number _ _ left.shape e z w.shape;
         edition = answer-yes (λ _. l.edition) number _ _ left.edition e z w.edition;
       }
-
--- ---- the ways through the entry: what is handed in is refused
-pub input-refused : (g : Given) (l : Rooms) (found : ℕ) (r : PruneAnswer) → found ≡ first_from 0 (input_rows g) → (found ≡ 0 → ⊥) → r ≡ prune_refused found → PruneLeft g l r l
-input-refused g l found r e h q = left-refused g l found r (input-found g found e (length l.at) (length l.shape) (length l.edition) h) h q
-
--- it is not, and the need was worked out
-module _ (g : Given) (l : Rooms) (found need number : ℕ) (e : found ≡ first_from 0 (input_rows g)) (z : found ≡ 0) (n : need ≡ need_of g.call)
-    (f : number ≡ first_from 0 (room_rows need (length l.at) (length l.shape) (length l.edition))) where
-  is_number : number ≡ prune_number g l
-  is_number = lent_found g found e (length l.at) (length l.shape) (length l.edition) number z (rw n at f)
-
-  pub lent-refused : (r : PruneAnswer) → (number ≡ 0 → ⊥) → r ≡ prune_refused number → PruneLeft g l r l
-  lent-refused r h q = left-refused g l number r is_number h q
-
-  pub accepted-ready : number ≡ 0 → Ready g l
-  accepted-ready y = prune-accepted g l number is_number y
-
-  pub accepted-given : (p : Pruned) (r : PruneAnswer) (left : Rooms) → number ≡ 0 → Written g l p left → r ≡ prune_given p → PruneLeft g l r left
-  accepted-given p r left y w q = left-given g l number p r left is_number y w q
-
-pub ruleset pruning = (input-refused, input-few, input-countable, lent-refused, accepted-ready, accepted-given)

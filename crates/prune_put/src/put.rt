@@ -1,21 +1,19 @@
 // One slice written into lent room, and the rest of the room cleared.
-ghost use Rattle.std.specs.Prelude.{[], ◌∷◌, ◌+◌, get_or};
-ghost use Rattle.slice.specs.Slice.{slice_of, shape_at};
+ghost use Rattle.std.specs.Prelude.{[], ◌∷◌, ◌+◌};
 ghost use Rattle.slice.specs.Ready.{rooms, Placed};
-ghost use Rattle.prune.specs.Prune.{cand_codes, lap_codes};
+ghost use Rattle.prune.specs.Prune.{cands_in, laps_in, cand_slice, lap_slice};
 ghost use Rattle.prune_put.specs.Ready.{ItemFit, ClearFit, Cleared};
 
 use basis::room;
 use prune::codes;
+use prune::lists::{Cands, Overlaps};
 use prune::mode::Part;
 use slice::data::{CODE_WIDTH, SHAPE_WIDTH};
-use slice::{edition, read, write};
+use slice::{read, write};
 
 // Writes candidate number k as slice number n.
 pub fn put_cand(
-    cand_at: &[usize],
-    cand: &[f64],
-    cand_edition: &[u32],
+    cands: &Cands,
     part: Part,
     k: usize,
     slice_at: &mut [usize],
@@ -23,19 +21,17 @@ pub fn put_cand(
     slice_edition: &mut [u32],
     n: usize,
 )
-    requires { ItemFit 2 cand_at.now cand.now cand_edition.now k (rooms slice_at.old slice.old slice_edition.old) n }
-    ensures { Placed (slice_of (cand_codes cand_at.now part k) (shape_at cand.now k) (get_or cand_edition.now k 0) ∷ []) (rooms slice_at.old slice.old slice_edition.old) n (n + 1) (rooms slice_at.new slice.new slice_edition.new) }
+    requires { ItemFit 2 cands.now.at.now cands.now.shape.now cands.now.edition.now k (rooms slice_at.old slice.old slice_edition.old) n }
+    ensures { Placed (cand_slice (cands_in cands.now) part k ∷ []) (rooms slice_at.old slice.old slice_edition.old) n (n + 1) (rooms slice_at.new slice.new slice_edition.new) }
 {
-    let c = codes::cand_codes(cand_at, part, k);
-    let s = read::shape_at(cand, k);
-    write::put_slice(c, s, cand_edition[k], slice_at, slice, slice_edition, n);
+    let c = codes::cand_codes(cands.at, part, k);
+    let s = read::shape_at(cands.shape, k);
+    write::put_slice(c, s, cands.edition[k], slice_at, slice, slice_edition, n);
 }
 
 // Writes overlap number j, for outline 1 or for outline 2, as slice number n.
 pub fn put_lap(
-    lap_at: &[usize],
-    lap: &[f64],
-    lap_edition: &[u32],
+    laps: &Overlaps,
     first: bool,
     j: usize,
     slice_at: &mut [usize],
@@ -43,12 +39,12 @@ pub fn put_lap(
     slice_edition: &mut [u32],
     n: usize,
 )
-    requires { ItemFit 7 lap_at.now lap.now lap_edition.now j (rooms slice_at.old slice.old slice_edition.old) n }
-    ensures { Placed (slice_of (lap_codes lap_at.now first j) (shape_at lap.now j) (get_or lap_edition.now j 0) ∷ []) (rooms slice_at.old slice.old slice_edition.old) n (n + 1) (rooms slice_at.new slice.new slice_edition.new) }
+    requires { ItemFit 7 laps.now.at.now laps.now.shape.now laps.now.edition.now j (rooms slice_at.old slice.old slice_edition.old) n }
+    ensures { Placed (lap_slice (laps_in laps.now) first j ∷ []) (rooms slice_at.old slice.old slice_edition.old) n (n + 1) (rooms slice_at.new slice.new slice_edition.new) }
 {
-    let c = codes::lap_codes(lap_at, first, j);
-    let s = read::shape_at(lap, j);
-    write::put_slice(c, s, lap_edition[j], slice_at, slice, slice_edition, n);
+    let c = codes::lap_codes(laps.at, first, j);
+    let s = read::shape_at(laps.shape, j);
+    write::put_slice(c, s, laps.edition[j], slice_at, slice, slice_edition, n);
 }
 
 // Sets each list to zero from slice number n up to the need.
@@ -62,7 +58,7 @@ pub fn clear_rest(
     requires { ClearFit (rooms slice_at.old slice.old slice_edition.old) n need }
     ensures { Cleared (rooms slice_at.old slice.old slice_edition.old) n need (rooms slice_at.new slice.new slice_edition.new) }
 {
-    room::clear_counts(slice_at, CODE_WIDTH * n, CODE_WIDTH * need);
-    room::clear_numbers(slice, SHAPE_WIDTH * n, SHAPE_WIDTH * need);
-    edition::fill(slice_edition, n, need, 0);
+    room::fill(slice_at, CODE_WIDTH * n, CODE_WIDTH * need, 0);
+    room::fill(slice, SHAPE_WIDTH * n, SHAPE_WIDTH * need, 0.0);
+    room::fill(slice_edition, n, need, 0);
 }

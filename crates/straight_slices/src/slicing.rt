@@ -9,6 +9,7 @@ use crate::job::Job;
 use cut::arrival::Case;
 use prune::call::Call;
 use prune::counts::{Ends, Pruned};
+use prune::lists::Overlaps;
 use prune::mode;
 use prune::mode::Part;
 use prune_write::write;
@@ -136,14 +137,10 @@ pub(crate) fn sliced(
         slice,
         slice_edition,
     );
-    write::finish(
-        call,
-        kept,
-        lap_at,
-        lap,
-        lap_edition,
-        slice_at,
-        slice,
-        slice_edition,
-    )
+    let laps = Overlaps {
+        at: lap_at,
+        shape: lap,
+        edition: lap_edition,
+    };
+    write::finish(call, kept, &laps, slice_at, slice, slice_edition)
 }

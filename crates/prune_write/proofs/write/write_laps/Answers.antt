@@ -1,13 +1,9 @@
-use borrow.Author.Rules.{rules}
-use Prim.Native.Nat.{◌-◌}
+use Rattle.std.proofs.Common.{rules}
 use Rattle.prune_write.specs.WriteLaws.{lapping}
 use Rattle.prune_write.proofs.write.write_laps.Goals as goal
 
 pub loop-j-init : goal.loop-j-init
 loop-j-init c = search (rules, lapping)
-
-pub overflow_add-j : goal.overflow_add-j
-overflow_add-j c = search (rules, lapping)
 
 pub put_lap-requires : goal.put_lap-requires
 put_lap-requires c = search (rules, lapping)
@@ -15,20 +11,8 @@ put_lap-requires c = search (rules, lapping)
 pub overflow_add-n : goal.overflow_add-n
 overflow_add-n c = search (rules, lapping)
 
-pub loop-j-smaller : goal.loop-j-smaller
-loop-j-smaller c = search (rules, lapping)
-
 pub loop-j-preserved : goal.loop-j-preserved
 loop-j-preserved c = search (rules, lapping)
-
-pub shape_of-slice_at : goal.shape_of-slice_at
-shape_of-slice_at c = search (rules, lapping)
-
-pub shape_of-slice : goal.shape_of-slice
-shape_of-slice c = search (rules, lapping)
-
-pub shape_of-slice_edition : goal.shape_of-slice_edition
-shape_of-slice_edition c = search (rules, lapping)
 
 pub returns : goal.returns
 returns c = search (rules, lapping)
