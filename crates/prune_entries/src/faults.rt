@@ -22,10 +22,22 @@ const MOST_MODE: u32 = 3;
 fn cand_list_refusal(cands: &Cands, count: usize) -> Result<(), Refusal>
     ensures { found result ≡ first_from 0 (cands_rows (cands_in cands.now) count) }
 {
-    refuse::when(refuse::bad_length(cands.at.len(), 2, count), Refusal::Length)?;
-    refuse::when(refuse::bad_length(cands.shape.len(), SHAPE_WIDTH, count), Refusal::Length)?;
-    refuse::when(refuse::bad_length(cands.edition.len(), 1, count), Refusal::Length)?;
-    refuse::when(refuse::bad_length(cands.inside.len(), 1, count), Refusal::Length)?;
+    refuse::when(
+        refuse::bad_length(cands.at.len(), 2, count),
+        Refusal::Length,
+    )?;
+    refuse::when(
+        refuse::bad_length(cands.shape.len(), SHAPE_WIDTH, count),
+        Refusal::Length,
+    )?;
+    refuse::when(
+        refuse::bad_length(cands.edition.len(), 1, count),
+        Refusal::Length,
+    )?;
+    refuse::when(
+        refuse::bad_length(cands.inside.len(), 1, count),
+        Refusal::Length,
+    )?;
     refuse::when(MOST_CANDIDATES < count, Refusal::Length)
 }
 
@@ -34,8 +46,14 @@ fn lap_list_refusal(laps: &Overlaps, count: usize) -> Result<(), Refusal>
     ensures { found result ≡ first_from 0 (lap_list_rows (length laps.now.at.now) (length laps.now.shape.now) (length laps.now.edition.now) count) }
 {
     refuse::when(refuse::bad_length(laps.at.len(), 7, count), Refusal::Length)?;
-    refuse::when(refuse::bad_length(laps.shape.len(), SHAPE_WIDTH, count), Refusal::Length)?;
-    refuse::when(refuse::bad_length(laps.edition.len(), 1, count), Refusal::Length)?;
+    refuse::when(
+        refuse::bad_length(laps.shape.len(), SHAPE_WIDTH, count),
+        Refusal::Length,
+    )?;
+    refuse::when(
+        refuse::bad_length(laps.edition.len(), 1, count),
+        Refusal::Length,
+    )?;
     refuse::when(MOST_LAPS < count, Refusal::Length)
 }
 
@@ -90,8 +108,14 @@ fn lap_start_refusal(c: Call, lap_at: &[usize]) -> Result<(), Refusal>
 fn start_refusal(g: &Handed) -> Result<(), Refusal>
     ensures { found result ≡ first_from 0 (starts_rows (held g.now)) }
 {
-    refuse::when(!items::all_below(g.first.at, 2, 0, g.call.vc1), Refusal::Index)?;
-    refuse::when(!items::all_below(g.second.at, 2, 0, g.call.vc2), Refusal::Index)?;
+    refuse::when(
+        !items::all_below(g.first.at, 2, 0, g.call.vc1),
+        Refusal::Index,
+    )?;
+    refuse::when(
+        !items::all_below(g.second.at, 2, 0, g.call.vc2),
+        Refusal::Index,
+    )?;
     lap_start_refusal(g.call, g.laps.at)
 }
 
@@ -99,9 +123,18 @@ fn start_refusal(g: &Handed) -> Result<(), Refusal>
 fn reach_refusal(g: &Handed) -> Result<(), Refusal>
     ensures { found result ≡ first_from 0 (reaches_rows (held g.now)) }
 {
-    refuse::when(!items::all_at_most(g.first.at, 2, 1, g.call.vc1), Refusal::Count)?;
-    refuse::when(!items::all_at_most(g.second.at, 2, 1, g.call.vc2), Refusal::Count)?;
-    refuse::when(!items::all_at_most(g.laps.at, 7, 6, g.call.vc2), Refusal::Count)
+    refuse::when(
+        !items::all_at_most(g.first.at, 2, 1, g.call.vc1),
+        Refusal::Count,
+    )?;
+    refuse::when(
+        !items::all_at_most(g.second.at, 2, 1, g.call.vc2),
+        Refusal::Count,
+    )?;
+    refuse::when(
+        !items::all_at_most(g.laps.at, 7, 6, g.call.vc2),
+        Refusal::Count,
+    )
 }
 
 // Numbers 5 to 7. What is looked at last stands in the innermost function: the compiler takes a call behind many ways out for rare, and leaves it a call.

@@ -65,14 +65,7 @@ pub fn entry(
         Err(refusal) => answer::prune_refused(refusal.number()),
         Ok(()) => {
             let kept = write::write_both(&g, slice_at, slice, slice_edition);
-            answer::prune_given(write::finish(
-                c,
-                kept,
-                &g.laps,
-                slice_at,
-                slice,
-                slice_edition,
-            ))
+            answer::prune_given(write::finish(c, kept, &g.laps, slice_at, slice, slice_edition))
         }
     }
 }

@@ -119,14 +119,7 @@ pub fn finish(
     requires { FinishFit call kept (laps_in laps.now) (rooms slice_at.old slice.old slice_edition.old) }
     ensures { Finished call kept (laps_in laps.now) (rooms slice_at.old slice.old slice_edition.old) result (rooms slice_at.new slice.new slice_edition.new) }
 {
-    let twice = write_twice(
-        laps,
-        call.laps,
-        slice_at,
-        slice,
-        slice_edition,
-        kept.second,
-    );
+    let twice = write_twice(laps, call.laps, slice_at, slice, slice_edition, kept.second);
     put::clear_rest(
         slice_at,
         slice,
