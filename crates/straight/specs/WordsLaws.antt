@@ -7,32 +7,28 @@ use Rattle.straight.specs.declared.sum.Area.{Area}
 use Rattle.straight.specs.Words.{minus_sign, area_words}
 
 -- a less b, where it is below 0
-pub under : (a b : ℕ) → a < b → (nat_abs (pos a -ℤ pos b) ≡ b - a) × (minus_sign (pos a -ℤ pos b) ≡ 1)
+pub under : (a b : ℕ) → a < b → (nat_abs (pos a -ℤ pos b) ≡ b - a) × (minus_sign (pos a -ℤ pos b) ≡ true)
 under a zero h = absurd (none a h)
   where
     none : (a : ℕ) → a < 0 → ⊥
     none a h = omega arith
 under a (suc b) h =
-    subst (λ (t : Bool). (nat_abs (cond t (negsuc (suc b - suc a)) (pos (a - suc b))) ≡ suc b - a) × (minus_sign (cond t (negsuc (suc b - suc a)) (pos (a - suc b))) ≡ 1))
+    subst (λ (t : Bool). (nat_abs (cond t (negsuc (suc b - suc a)) (pos (a - suc b))) ≡ suc b - a) × (minus_sign (cond t (negsuc (suc b - suc a)) (pos (a - suc b))) ≡ true))
     (sym (lt-ltb a (suc b) h)) (omega arith, refl)
 
 -- and where it is not
-pub over : (a b : ℕ) → b ≤ a → (nat_abs (pos a -ℤ pos b) ≡ a - b) × (minus_sign (pos a -ℤ pos b) ≡ 0)
+pub over : (a b : ℕ) → b ≤ a → (nat_abs (pos a -ℤ pos b) ≡ a - b) × (minus_sign (pos a -ℤ pos b) ≡ false)
 over a zero h = (omega arith, refl)
 over a (suc b) h =
-    subst (λ (t : Bool). (nat_abs (cond t (negsuc (suc b - suc a)) (pos (a - suc b))) ≡ a - suc b) × (minus_sign (cond t (negsuc (suc b - suc a)) (pos (a - suc b))) ≡ 0))
+    subst (λ (t : Bool). (nat_abs (cond t (negsuc (suc b - suc a)) (pos (a - suc b))) ≡ a - suc b) × (minus_sign (cond t (negsuc (suc b - suc a)) (pos (a - suc b))) ≡ false))
     (sym (le-ltb a (suc b) h)) (refl, refl)
 
-abbrev area_of : ℕ → Two → Area
-area_of s t = record { negative = s; high = t.high; low = t.low }
+abbrev area_of : Bool → Two → Area
+area_of s t = record { negative = s; size = t }
 
-words_of : (s n : ℕ) (t : Two) (z : ℤ) → t ≡ two n → (nat_abs z ≡ n) × (minus_sign z ≡ s) → area_of s t ≡ area_words z
+words_of : (s : Bool) (n : ℕ) (t : Two) (z : ℤ) → t ≡ two n → (nat_abs z ≡ n) × (minus_sign z ≡ s) → area_of s t ≡ area_words z
 words_of s n t z e u =
-    λ i. record {
-      negative = sym u.1 i;
-      high = (ap (λ (r : Two). r.high) e ∙ ap (λ (m : ℕ). m / 2 ^ 64) (sym u.0)) i;
-      low = (ap (λ (r : Two). r.low) e ∙ ap (λ (m : ℕ). m % 2 ^ 64) (sym u.0)) i;
-    }
+    λ i. record { negative = sym u.1 i; size = (e ∙ ap two (sym u.0)) i }
 
 -- the code's two cases: the comparison told which sum is the larger
 module _ (up down : Two) (b : Bool) (told : b ≡ ltb (value up) (value down)) where
@@ -42,10 +38,10 @@ module _ (up down : Two) (b : Bool) (told : b ≡ ltb (value up) (value down)) w
   pub less-left : b ≡ false → NoMore up down
   less-left h = record { least = ltb-false (value up) (value down) (sym told ∙ h) }
 
-  pub words-under : (t : Two) → b ≡ true → t ≡ two (value down - value up) → area_of 1 t ≡ area_words (pos (value up) -ℤ pos (value down))
-  words-under t h e = words_of 1 (value down - value up) t (pos (value up) -ℤ pos (value down)) e (under (value up) (value down) (ltb-true (value up) (value down) (sym told ∙ h)))
+  pub words-under : (t : Two) → b ≡ true → t ≡ two (value down - value up) → area_of true t ≡ area_words (pos (value up) -ℤ pos (value down))
+  words-under t h e = words_of true (value down - value up) t (pos (value up) -ℤ pos (value down)) e (under (value up) (value down) (ltb-true (value up) (value down) (sym told ∙ h)))
 
-  pub words-over : (t : Two) → b ≡ false → t ≡ two (value up - value down) → area_of 0 t ≡ area_words (pos (value up) -ℤ pos (value down))
-  words-over t h e = words_of 0 (value up - value down) t (pos (value up) -ℤ pos (value down)) e (over (value up) (value down) (ltb-false (value up) (value down) (sym told ∙ h)))
+  pub words-over : (t : Two) → b ≡ false → t ≡ two (value up - value down) → area_of false t ≡ area_words (pos (value up) -ℤ pos (value down))
+  words-over t h e = words_of false (value up - value down) t (pos (value up) -ℤ pos (value down)) e (over (value up) (value down) (ltb-false (value up) (value down) (sym told ∙ h)))
 
 pub ruleset differences = (less-taken, less-left, words-under, words-over)

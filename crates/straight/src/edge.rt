@@ -34,11 +34,7 @@ fn spans_at(l: &[i64], i: usize, j: usize, x: i64, y: i64) -> bool
     requires { Seen l.now i j x y }
     ensures { result ≡ spans (twice (spot_at l.now i)) (twice (spot_at l.now j)) (record { x = x; y = y }) }
 {
-    if signed::at_most(doubled(l, 2 * i + 1), y) {
-        signed::below(y, doubled(l, 2 * j + 1))
-    } else {
-        false
-    }
+    signed::at_most(doubled(l, 2 * i + 1), y) && signed::below(y, doubled(l, 2 * j + 1))
 }
 
 // Whether (x, y) is strictly left of it.
@@ -58,11 +54,7 @@ pub(crate) fn rises_at(l: &[i64], i: usize, j: usize, x: i64, y: i64) -> bool
     requires { Seen l.now i j x y }
     ensures { result ≡ rises (record { x = x; y = y }) (twice (spot_at l.now i)) (twice (spot_at l.now j)) }
 {
-    if spans_at(l, i, j, x, y) {
-        left_at(l, i, j, x, y)
-    } else {
-        false
-    }
+    spans_at(l, i, j, x, y) && left_at(l, i, j, x, y)
 }
 
 // What the edge from vertex i to vertex j adds to the doubled area.

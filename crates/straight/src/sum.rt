@@ -1,7 +1,6 @@
 // Sums round one outline.
 ghost use Rattle.std.specs.Prelude.{◌≡◌, ◌<◌, pos, ◌-ℤ◌};
 ghost use Rattle.whole.specs.Two.{value};
-ghost use Rattle.basis.specs.Choice.{code_of};
 ghost use Rattle.straight.specs.Plane.{spots, winding, area};
 ghost use Rattle.straight.specs.Ready.{Outline, Probed, Few, next};
 ghost use Rattle.straight.specs.Words.{area_words};
@@ -19,13 +18,6 @@ fn after(i: usize, n: usize) -> usize
     read::wrapped(i + 1, n)
 }
 
-// 1 for yes.
-fn code_of(t: bool) -> u64
-    ensures { result ≡ code_of t }
-{
-    if t { 1 } else { 0 }
-}
-
 // up - down.
 fn balance(up: u64, down: u64) -> i64
     requires { Few up down }
@@ -41,41 +33,35 @@ pub fn winding_of(l: &[i64], n: usize, x: i64, y: i64) -> i64
 {
     let mut up: u64 = 0;
     let mut down: u64 = 0;
-    let mut i: usize = 0;
-    while i < n {
+    for i in 0..n {
         let j = after(i, n);
-        up += code_of(edge::rises_at(l, i, j, x, y));
-        down += code_of(edge::rises_at(l, j, i, x, y));
-        i += 1;
+        up += u64::from(edge::rises_at(l, i, j, x, y));
+        down += u64::from(edge::rises_at(l, j, i, x, y));
     }
     balance(up, down)
 }
 
-// A doubled area: its sign, and its size in two words.
+// A doubled area: its sign, and its size.
 #[derive(Clone, Copy)]
 pub struct Area {
-    pub negative: u32,
-    pub high: u64,
-    pub low: u64,
+    pub negative: bool,
+    pub size: Two,
 }
 
 // up - down.
+#[tactic(auto, using(crate::specs::WordsLaws::differences))]
 fn apart(up: Two, down: Two) -> Area
     ensures { result ≡ area_words (pos (value up) -ℤ pos (value down)) }
 {
     if two::less(up, down) {
-        let t = two::take(down, up);
         Area {
-            negative: 1,
-            high: t.high,
-            low: t.low,
+            negative: true,
+            size: two::take(down, up),
         }
     } else {
-        let t = two::take(up, down);
         Area {
-            negative: 0,
-            high: t.high,
-            low: t.low,
+            negative: false,
+            size: two::take(up, down),
         }
     }
 }
@@ -87,12 +73,10 @@ pub fn area_of(l: &[i64], n: usize) -> Area
 {
     let mut up = two::word(0);
     let mut down = two::word(0);
-    let mut i: usize = 0;
-    while i < n {
+    for i in 0..n {
         let j = after(i, n);
         up = two::add(up, two::word(edge::gain_at(l, i, j)));
         down = two::add(down, two::word(edge::gain_at(l, j, i)));
-        i += 1;
     }
     apart(up, down)
 }

@@ -1,5 +1,6 @@
 -- What the entries answer, refused and accepted.
 use Rattle.std.specs.Prelude.{ℕ, ℤ, pos}
+use Rattle.basis.specs.Choice.{code_of}
 use Rattle.straight.specs.declared.sum.Area.{Area}
 use Rattle.straight_report.specs.declared.Report.{Report}
 use Rattle.straight_entries.specs.declared.answer.WindingAnswer.{WindingAnswer}
@@ -16,10 +17,10 @@ abbrev pub area_refused : ℕ → AreaAnswer
 area_refused n = record { refusal = n; negative = 0; high = 0; low = 0 }
 
 abbrev pub area_found : Area → AreaAnswer
-area_found a = record { refusal = 0; negative = a.negative; high = a.high; low = a.low }
+area_found a = record { refusal = 0; negative = code_of a.negative; high = a.size.high; low = a.size.low }
 
 abbrev pub report_refused : ℕ → ReportAnswer
 report_refused n = record { refusal = n; count = 0; zero = 0; high = 0; low = 0 }
 
 abbrev pub report_found : ℕ → Report → ReportAnswer
-report_found n t = record { refusal = 0; count = n; zero = t.zero; high = t.high; low = t.low }
+report_found n t = record { refusal = 0; count = n; zero = t.zero; high = t.total.high; low = t.total.low }

@@ -65,9 +65,9 @@ pub fn area_found(a: Area) -> AreaAnswer
 {
     AreaAnswer {
         refusal: 0,
-        negative: a.negative,
-        high: a.high,
-        low: a.low,
+        negative: u32::from(a.negative),
+        high: a.size.high,
+        low: a.size.low,
     }
 }
 
@@ -90,7 +90,7 @@ pub fn report_found(count: usize, t: Report) -> ReportAnswer
         refusal: 0,
         count,
         zero: t.zero,
-        high: t.high,
-        low: t.low,
+        high: t.total.high,
+        low: t.total.low,
     }
 }

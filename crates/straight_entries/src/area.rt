@@ -1,27 +1,29 @@
+#![tactic(auto, unfolding(basis::specs::Refuse::first_of, crate::specs::AreaEntry::area_refusal))]
 // The entry `mask_straight_area`.
 ghost use Rattle.std.specs.Prelude.{◌≡◌};
+ghost use Rattle.basis.specs.Refusals.{found};
 ghost use Rattle.straight_entries.specs.AreaEntry.{area_refusal, area_answer};
 
 use crate::answer::AreaAnswer;
 use crate::{answer, range};
 use basis::refuse;
+use basis::refuse::Refusal;
 use straight::sum;
 
-fn refusal(outline: &[i64], vc: usize) -> u32
-    ensures { result ≡ area_refusal outline.now vc }
+fn refusal(outline: &[i64], vc: usize) -> Result<(), Refusal>
+    ensures { found result ≡ area_refusal outline.now vc }
 {
-    let r = refuse::or_else(0, refuse::bad_length(outline.len(), 2, vc), 1);
-    let r = refuse::or_else(r, refuse::bad_size(vc), 2);
-    refuse::or_else(r, !range::all_near(outline), 18)
+    refuse::when(refuse::bad_length(outline.len(), 2, vc), Refusal::Length)?;
+    refuse::when(refuse::bad_size(vc), Refusal::Outline)?;
+    refuse::when(!range::all_near(outline), Refusal::Range)
 }
 
 // The doubled signed area of an outline, anticlockwise positive.
 pub fn entry(outline: &[i64], vc: usize) -> AreaAnswer
     ensures { result ≡ area_answer outline.now vc }
 {
-    let number = refusal(outline, vc);
-    if number != 0 {
-        return answer::area_refused(number);
+    match refusal(outline, vc) {
+        Err(refusal) => answer::area_refused(refusal.number()),
+        Ok(()) => answer::area_found(sum::area_of(outline, vc)),
     }
-    answer::area_found(sum::area_of(outline, vc))
 }

@@ -6,20 +6,22 @@ ghost use Rattle.straight_entries.specs.Running.{Reported, Both, Fewer, Joined, 
 use crate::answer::ReportAnswer;
 use crate::report::MOST_LOOPS;
 use crate::{answer, report};
+use basis::refuse::Refusal;
 use whole::two;
 use whole::two::Two;
 
 // The lower of two refusals, where 0 is none.
+#[tactic(auto, using(basis::specs::Choice::cases), unfolding(crate::specs::Running::lowest))]
 fn lowest_of(n: u32, m: u32) -> u32
     ensures { result ≡ lowest n m }
 {
     if n == 0 {
-        return m;
+        m
+    } else if m == 0 {
+        n
+    } else {
+        n.min(m)
     }
-    if m == 0 {
-        return n;
-    }
-    if m < n { m } else { n }
 }
 
 fn total_of(a: ReportAnswer) -> Two
@@ -56,7 +58,7 @@ fn join(a: ReportAnswer, b: ReportAnswer) -> ReportAnswer
         return answer::report_refused(number);
     }
     if MOST_LOOPS < a.count + b.count {
-        return answer::report_refused(19);
+        return answer::report_refused(Refusal::Loops.number());
     }
     sum_of(a, b)
 }

@@ -1,29 +1,31 @@
+#![tactic(auto, unfolding(basis::specs::Refuse::first_of, crate::specs::WindingEntry::winding_refusal))]
 // The entry `mask_straight_winding`.
 ghost use Rattle.std.specs.Prelude.{◌≡◌};
+ghost use Rattle.basis.specs.Refusals.{found};
 ghost use Rattle.straight_entries.specs.WindingEntry.{winding_refusal, winding_answer};
 
 use crate::answer::WindingAnswer;
 use crate::{answer, range};
 use basis::refuse;
+use basis::refuse::Refusal;
 use straight::sum;
 
-fn refusal(outline: &[i64], vc: usize, x: i64, y: i64) -> u32
-    ensures { result ≡ winding_refusal outline.now vc x y }
+fn refusal(outline: &[i64], vc: usize, x: i64, y: i64) -> Result<(), Refusal>
+    ensures { found result ≡ winding_refusal outline.now vc x y }
 {
-    let r = refuse::or_else(0, refuse::bad_length(outline.len(), 2, vc), 1);
-    let r = refuse::or_else(r, refuse::bad_size(vc), 2);
-    let r = refuse::or_else(r, !range::all_near(outline), 18);
-    let r = refuse::or_else(r, !range::near_probe(x), 18);
-    refuse::or_else(r, !range::near_probe(y), 18)
+    refuse::when(refuse::bad_length(outline.len(), 2, vc), Refusal::Length)?;
+    refuse::when(refuse::bad_size(vc), Refusal::Outline)?;
+    refuse::when(!range::all_near(outline), Refusal::Range)?;
+    refuse::when(!range::near_probe(x), Refusal::Range)?;
+    refuse::when(!range::near_probe(y), Refusal::Range)
 }
 
 // The winding number of an outline, x and y in turn, round a probe in doubled coordinates.
 pub fn entry(outline: &[i64], vc: usize, x: i64, y: i64) -> WindingAnswer
     ensures { result ≡ winding_answer outline.now vc x y }
 {
-    let number = refusal(outline, vc, x, y);
-    if number != 0 {
-        return answer::winding_refused(number);
+    match refusal(outline, vc, x, y) {
+        Err(refusal) => answer::winding_refused(refusal.number()),
+        Ok(()) => answer::winding_found(sum::winding_of(outline, vc, x, y)),
     }
-    answer::winding_found(sum::winding_of(outline, vc, x, y))
 }

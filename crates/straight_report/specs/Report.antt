@@ -1,8 +1,9 @@
 -- Document 02, K8: "the report: given the vertices of up to 4,096 such outlines, the count, the number with area zero, and the total of the absolute doubled areas".
 -- The vertices lie one outline after the other; an end says how many vertices all outlines up to and with its own have.
-use Rattle.std.specs.Prelude.{ℕ, ◌+◌, ◌-◌, ◌*◌, ◌/◌, ◌%◌, ◌^◌, ◌≤◌, ◌≡◌, Bool, false, ◌||◌, List, [], ◌∷◌, eqb, length, get_or, take, drop, ℤ, pos, nat_abs}
+use Rattle.std.specs.Prelude.{ℕ, ◌+◌, ◌-◌, ◌*◌, ◌≤◌, ◌≡◌, Bool, false, ◌||◌, List, [], ◌∷◌, eqb, length, get_or, take, drop, ℤ, pos, nat_abs}
 use Rattle.basis.specs.Refuse.{size_fault}
 use Rattle.whole.specs.Fit.{Near}
+use Rattle.whole.specs.Two.{two}
 use Rattle.basis.specs.Choice.{code_of}
 use Rattle.straight.specs.Plane.{Spot, spots, area}
 use Rattle.straight_report.specs.declared.Report.{Report}
@@ -25,9 +26,9 @@ unfoldable pub sizes : List (List Spot) → ℕ
 sizes [] = 0
 sizes (o ∷ os) = nat_abs (area o) + sizes os
 
--- both, the total as two words
+-- both
 abbrev pub report_of : List (List Spot) → Report
-report_of os = record { zero = zeros os; high = sizes os / 2 ^ 64; low = sizes os % 2 ^ 64 }
+report_of os = record { zero = zeros os; total = two (sizes os) }
 
 -- where the last outline ends
 unfoldable pub last_of : ℕ → List ℕ → ℕ

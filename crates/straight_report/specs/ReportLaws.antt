@@ -151,21 +151,18 @@ module _ (ends : List ℕ) (k from : ℕ) where
 
 pub ruleset sizing = (last_none, last_some, sizes-stop, sizes-on, sizes-end)
 
-pub zero_high : (h l : ℕ) → (h ≡ 0 → ⊥) → 0 ≡ code_of (eqb (h * 2 ^ 64 + l) 0)
-zero_high h l f = ap code_of (sym (ne_eqb (h * 2 ^ 64 + l) 0 (λ e. f (omega arith))))
+-- the number of two words is 0 where both are
+pub zero-high : (h l : ℕ) → (h ≡ 0 → ⊥) → false ≡ eqb (h * 2 ^ 64 + l) 0
+zero-high h l f = sym (ne_eqb (h * 2 ^ 64 + l) 0 (λ e. f (omega arith)))
 
-pub zero-low : (h l : ℕ) → (l ≡ 0 → ⊥) → 0 ≡ code_of (eqb (h * 2 ^ 64 + l) 0)
-zero-low h l f = ap code_of (sym (ne_eqb (h * 2 ^ 64 + l) 0 (λ e. f (omega arith))))
+pub zero-low : (h l : ℕ) → h ≡ 0 → eqb l 0 ≡ eqb (h * 2 ^ 64 + l) 0
+zero-low h l e = ap (λ (n : ℕ). eqb n 0) (omega arith)
 
-pub zero-both : (h l : ℕ) → h ≡ 0 → l ≡ 0 → 1 ≡ code_of (eqb (h * 2 ^ 64 + l) 0)
-zero-both h l e f = ap code_of (sym (eq-eqb (h * 2 ^ 64 + l) 0 (omega arith)))
+pub ruleset zero_words = (zero-high, zero-low)
 
 -- what an area's two words say
-pub area-says : (a : Area) (z : ℤ) → a ≡ area_words z → a.high * 2 ^ 64 + a.low ≡ nat_abs z
-area-says a z e = ap (λ (b : Area). b.high * 2 ^ 64 + b.low) e ∙ value-two (nat_abs z)
-
-pub size-says : (s : Two) (a : Area) (z : ℤ) → a ≡ area_words z → s.high ≡ a.high → s.low ≡ a.low → value s ≡ nat_abs z
-size-says s a z e h l = (λ i. h i * 2 ^ 64 + l i) ∙ area-says a z e
+pub area-says : (a : Area) (z : ℤ) → a ≡ area_words z → value a.size ≡ nat_abs z
+area-says a z e = ap (λ (b : Area). value b.size) e ∙ value-two (nat_abs z)
 
 pub four-thousand : (v k : ℕ) → v ≤ 327680000000000000000 * k → k ≤ 4096 → v ≤ 1342177280000000000000000
 four-thousand v k h l = omega arith
@@ -178,7 +175,7 @@ total-high t s k h l m =
     record { fits = few-more t.high s.high (high-below t 1342177280000000000000000 72760 (four-thousand (value t) k h l) tt) (high-below s 327680000000000000000 18 m tt) }
 
 abbrev report_with : ℕ → Two → Report
-report_with n t = record { zero = n; high = t.high; low = t.low }
+report_with n t = record { zero = n; total = t }
 
 pub report-is : (n : ℕ) (t : Two) (os : List (List Spot)) → t.low < 2 ^ 64 → n ≡ zeros os → value t ≡ sizes os → report_with n t ≡ report_of os
-report-is n t os h e f = let w = two_is t (sizes os) h f in λ i. record { zero = e i; high = (w i).high; low = (w i).low }
+report-is n t os h e f = λ i. record { zero = e i; total = two_is t (sizes os) h f i }

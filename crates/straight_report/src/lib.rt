@@ -1,7 +1,7 @@
 #![tactic(auto)]
 // The report on many outlines: how many have area zero, and the total of the absolute doubled areas.
-ghost use Rattle.std.specs.Prelude.{◌≡◌, ◌+◌, ◌*◌, ◌^◌, eqb};
-ghost use Rattle.basis.specs.Choice.{code_of};
+ghost use Rattle.std.specs.Prelude.{◌≡◌, eqb};
+ghost use Rattle.whole.specs.Two.{value};
 ghost use Rattle.straight.specs.Plane.{spots, area};
 ghost use Rattle.straight.specs.Words.{area_words};
 ghost use Rattle.straight_report.specs.Report.{Cut, Loops, part, outlines, report_of};
@@ -14,8 +14,7 @@ use whole::two::Two;
 #[derive(Clone, Copy)]
 pub struct Report {
     pub zero: usize,
-    pub high: u64,
-    pub low: u64,
+    pub total: Two,
 }
 
 // The area of the outline from vertex `from` to the end `end`.
@@ -28,24 +27,12 @@ fn area_between(points: &[i64], from: usize, end: usize) -> Area
     sum::area_of(&points[a..b], end - from)
 }
 
-// 1 for an area of zero.
-fn zero_of(a: Area) -> usize
-    ensures { result ≡ code_of (eqb (a.high * 2 ^ 64 + a.low) 0) }
+// Whether an area is zero.
+#[tactic(auto, using(crate::specs::ReportLaws::zero_words))]
+fn is_zero(a: Area) -> bool
+    ensures { result ≡ eqb (value a.size) 0 }
 {
-    if a.high != 0 {
-        return 0;
-    }
-    if a.low != 0 { 0 } else { 1 }
-}
-
-// Its size, whatever its sign.
-fn size_of(a: Area) -> Two
-    ensures { (result.high ≡ a.high) × (result.low ≡ a.low) }
-{
-    Two {
-        high: a.high,
-        low: a.low,
-    }
+    a.size.high == 0 && a.size.low == 0
 }
 
 // The report on outlines whose vertices lie one outline after the other; each end says how many vertices all outlines up to and with its own have.
@@ -56,18 +43,11 @@ pub fn report_of(points: &[i64], ends: &[usize]) -> Report
     let mut zero: usize = 0;
     let mut total = two::word(0);
     let mut from: usize = 0;
-    let mut k: usize = 0;
-    while k < ends.len() {
-        let end = ends[k];
-        let a = area_between(points, from, end);
-        zero += zero_of(a);
-        total = two::add(total, size_of(a));
-        from = end;
-        k += 1;
+    for end in ends {
+        let a = area_between(points, from, *end);
+        zero += usize::from(is_zero(a));
+        total = two::add(total, a.size);
+        from = *end;
     }
-    Report {
-        zero,
-        high: total.high,
-        low: total.low,
-    }
+    Report { zero, total }
 }

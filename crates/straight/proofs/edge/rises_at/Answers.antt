@@ -17,4 +17,5 @@ pub returns-else-spans_at : goal.returns-else-spans_at
 returns-else-spans_at c =
     let a = twice (spot_at c.args.l.now c.args.i) in
     let b = twice (spot_at c.args.l.now c.args.j) in
-    λ i. (sym c.if-spans_at.false ∙ c.spans_at.ensures ∙ (λ i. spans a b (record { x = to_z-of_z c.ranges.x i; y = to_z-of_z c.ranges.y i }))) i && left a b (record { x = c.args.x; y = c.args.y })
+    c.if-spans_at.false
+    ∙ (λ i. (sym c.if-spans_at.false ∙ c.spans_at.ensures ∙ (λ i. spans a b (record { x = to_z-of_z c.ranges.x i; y = to_z-of_z c.ranges.y i }))) i && left a b (record { x = c.args.x; y = c.args.y }))

@@ -29,4 +29,5 @@ pub returns-else-at_most : goal.returns-else-at_most
 unfolding spans twice
 returns-else-at_most c =
     let e = c.doubled in
-    λ i. (sym c.if-at_most.false ∙ c.at_most.ensures ∙ (λ i. le_z ((got e.result e.type_inv ∙ e.ensures) i) (to_z-of_z c.ranges.y i))) i && lt_z c.args.y (pos 2 *ℤ get_or c.args.l.now (2 * c.args.j + 1) (pos 0))
+    c.if-at_most.false
+    ∙ (λ i. (sym c.if-at_most.false ∙ c.at_most.ensures ∙ (λ i. le_z ((got e.result e.type_inv ∙ e.ensures) i) (to_z-of_z c.ranges.y i))) i && lt_z c.args.y (pos 2 *ℤ get_or c.args.l.now (2 * c.args.j + 1) (pos 0)))

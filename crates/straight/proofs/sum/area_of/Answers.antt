@@ -21,7 +21,7 @@ pub loop-i-init : goal.loop-i-init
 loop-i-init c =
     let a = c.word-up in
     let b = c.word-down in
-    (search rules, same-part (none a.result a.ensures.0 a.ensures.1) (none b.result b.ensures.0 b.ensures.1) (part_none cross 320000000000000000 c.requires))
+    same-part (none a.result a.ensures.0 a.ensures.1) (none b.result b.ensures.0 b.ensures.1) (part_none cross 320000000000000000 c.requires)
 
 pub after-j-requires : goal.after-j-requires
 after-j-requires c = c.loop-i-test.true
@@ -31,7 +31,7 @@ gain_at-requires c = on c.requires c.loop-i-test.true c.after-j.ensures
 
 pub add-up-requires : goal.add-up-requires
 add-up-requires c =
-    high_small c.loop-i.up c.word.result c.loop-i.i c.loop-i.invariant.1.up-most
+    high_small c.loop-i.up c.word.result c.loop-i.i c.loop-i.invariant.up-most
     (omega (arith, c.requires.most)) c.word.ensures.0
 
 pub gain_at-requires-in-loop-i : goal.gain_at-requires-in-loop-i
@@ -39,28 +39,20 @@ gain_at-requires-in-loop-i c = back c.requires c.loop-i-test.true c.after-j.ensu
 
 pub add-down-requires : goal.add-down-requires
 add-down-requires c =
-    high_small c.loop-i.down c.word-in-loop-i.result c.loop-i.i c.loop-i.invariant.1.down-most
+    high_small c.loop-i.down c.word-in-loop-i.result c.loop-i.i c.loop-i.invariant.down-most
     (omega (arith, c.requires.most)) c.word-in-loop-i.ensures.0
-
-pub overflow_add-i : goal.overflow_add-i
-overflow_add-i c = omega arith
-
-pub loop-i-smaller : goal.loop-i-smaller
-loop-i-smaller c = omega arith
 
 pub loop-i-preserved : goal.loop-i-preserved
 loop-i-preserved c =
     let k = c.loop-i in
     let v = c.word in
-    let w = c.word-in-loop-i in (
-      omega arith,
-      same-part
+    let w = c.word-in-loop-i in
+    same-part
           (word-added k.up v.result c.gain_at.result c.add-up.result c.add-up.ensures v.ensures.0 v.ensures.1)
           (word-added k.down w.result c.gain_at-in-loop-i.result c.add-down.result c.add-down.ensures w.ensures.0 w.ensures.1)
-          (area-more c.requires c.loop-i-test.true c.after-j.ensures k.invariant.1
-          c.gain_at.ensures c.gain_at-in-loop-i.ensures),
-    )
+          (area-more c.requires c.loop-i-test.true c.after-j.ensures k.invariant
+          c.gain_at.ensures c.gain_at-in-loop-i.ensures)
 
 pub returns : goal.returns
 returns c =
-    c.apart.ensures ∙ ap area_words (part_end cross 320000000000000000 c.requires c.loop-i.invariant.1 c.loop-i-test.false ∙ summed c.args.l.now)
+    c.apart.ensures ∙ ap area_words (part_end cross 320000000000000000 c.requires c.loop-i.invariant c.loop-i-test.false ∙ summed c.args.l.now)

@@ -11,7 +11,7 @@ use Rattle.whole.specs.FitLaws.{got}
 use Rattle.basis.specs.Choice.{code_of}
 use Rattle.straight.specs.PartLaws.{part_none, part_end}
 use Rattle.straight.specs.Ready.{Probed}
-use Rattle.straight.specs.SumLaws.{winds, code-most, probed-as, seen-on, seen_back, wind-more, wound}
+use Rattle.straight.specs.SumLaws.{winds, code-most, byte-code, probed-as, seen-on, seen_back, wind-more, wound}
 use Rattle.straight.proofs.sum.winding_of.Goals as goal
 
 -- the probe as the loop reads it back
@@ -19,7 +19,7 @@ probed : {l : List ℤ} {n : ℕ} {x y : ℤ} → SFits w64 x → SFits w64 y �
 probed fx fy p = probed-as (to_z-of_z fx) (to_z-of_z fy) p
 
 pub loop-i-init : goal.loop-i-init
-loop-i-init c = (search rules, part_none (winds _) 1 c.requires.outline)
+loop-i-init c = part_none (winds _) 1 c.requires.outline
 
 pub after-j-requires : goal.after-j-requires
 after-j-requires c = c.loop-i-test.true
@@ -29,7 +29,7 @@ rises_at-requires c = seen-on (probed c.ranges.x c.ranges.y c.requires) c.loop-i
 
 pub overflow_add-up : goal.overflow_add-up
 overflow_add-up c =
-    record { fits = omega (arith, c.loop-i.invariant.1.up-most, c.requires.outline.most, c.code_of-up.ensures, code-most c.rises_at.result) }
+    record { fits = omega (arith, c.loop-i.invariant.up-most, c.requires.outline.most, c.from-up.ensures, byte-code c.rises_at.result, code-most c.rises_at.result) }
 
 pub rises_at-requires-in-loop-i : goal.rises_at-requires-in-loop-i
 rises_at-requires-in-loop-i c =
@@ -37,30 +37,22 @@ rises_at-requires-in-loop-i c =
 
 pub overflow_add-down : goal.overflow_add-down
 overflow_add-down c =
-    record { fits = omega (arith, c.loop-i.invariant.1.down-most, c.requires.outline.most, c.code_of-down.ensures, code-most c.rises_at-in-loop-i.result) }
-
-pub overflow_add-i : goal.overflow_add-i
-overflow_add-i c = omega arith
-
-pub loop-i-smaller : goal.loop-i-smaller
-loop-i-smaller c = omega arith
+    record { fits = omega (arith, c.loop-i.invariant.down-most, c.requires.outline.most, c.from-down.ensures, byte-code c.rises_at-in-loop-i.result, code-most c.rises_at-in-loop-i.result) }
 
 pub loop-i-preserved : goal.loop-i-preserved
 loop-i-preserved c =
     let k = c.loop-i in
-    let j = c.after-j in (
-      omega arith,
-      wind-more (probed c.ranges.x c.ranges.y c.requires) c.loop-i-test.true j.ensures k.invariant.1
-          (c.code_of-up.ensures ∙ ap code_of c.rises_at.ensures)
-          (c.code_of-down.ensures ∙ ap code_of c.rises_at-in-loop-i.ensures),
-    )
+    let j = c.after-j in
+    wind-more (probed c.ranges.x c.ranges.y c.requires) c.loop-i-test.true j.ensures k.invariant
+          (c.from-up.ensures ∙ byte-code c.rises_at.result ∙ ap code_of c.rises_at.ensures)
+          (c.from-down.ensures ∙ byte-code c.rises_at-in-loop-i.result ∙ ap code_of c.rises_at-in-loop-i.ensures)
 
 pub balance-requires : goal.balance-requires
 balance-requires c =
-    record { up-most = omega (arith, c.loop-i.invariant.1.up-most, c.requires.outline.most); down-most = omega (arith, c.loop-i.invariant.1.down-most, c.requires.outline.most) }
+    record { up-most = omega (arith, c.loop-i.invariant.up-most, c.requires.outline.most); down-most = omega (arith, c.loop-i.invariant.down-most, c.requires.outline.most) }
 
 pub returns : goal.returns
 returns c =
     got c.balance.result c.balance.type_inv ∙ c.balance.ensures
-    ∙ part_end (winds _) 1 c.requires.outline c.loop-i.invariant.1 c.loop-i-test.false
+    ∙ part_end (winds _) 1 c.requires.outline c.loop-i.invariant c.loop-i-test.false
     ∙ wound c.args.l.now (to_z-of_z c.ranges.x) (to_z-of_z c.ranges.y)

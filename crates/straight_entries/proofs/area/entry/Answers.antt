@@ -1,13 +1,14 @@
+use Rattle.basis.specs.RefusalLaws.{looks}
 use Rattle.basis.specs.RefuseLaws.{answers}
 use Rattle.straight_entries.specs.AreaEntry.{area_laws}
 use borrow.Author.Rules.{rules}
 use Rattle.straight_entries.proofs.area.entry.Goals as goal
 
-pub returns-then-number-ne0 : goal.returns-then-number-ne0
-returns-then-number-ne0 c = search (rules, answers, area_laws)
+pub returns-in-Err : goal.returns-in-Err
+returns-in-Err c = search (rules, answers, area_laws, looks)
 
 pub area_of-requires : goal.area_of-requires
-area_of-requires c = search (rules, answers, area_laws)
+area_of-requires c = search (rules, answers, area_laws, looks)
 
-pub returns : goal.returns
-returns c = search (rules, answers, area_laws)
+pub returns-in-Ok : goal.returns-in-Ok
+returns-in-Ok c = search (rules, answers, area_laws, looks)

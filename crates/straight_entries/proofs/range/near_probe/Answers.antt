@@ -1,9 +1,9 @@
-use Rattle.straight_entries.specs.RangeLaws.{reaching}
-use borrow.Author.Rules.{rules}
+use mathlib.Core.Path.{refl}
+use Rattle.straight_entries.specs.RangeLaws.{reach-both, reach-under}
 use Rattle.straight_entries.proofs.range.near_probe.Goals as goal
 
-pub returns-then-at_most : goal.returns-then-at_most
-returns-then-at_most c = search (rules, reaching)
+pub returns-then-z-geminus800000000 : goal.returns-then-z-geminus800000000
+returns-then-z-geminus800000000 c = reach-both c.args.z c.ranges.z 800000000 _ refl _ refl c.if-z-geminus800000000.true
 
-pub returns-else-at_most : goal.returns-else-at_most
-returns-else-at_most c = search (rules, reaching)
+pub returns-else-z-geminus800000000 : goal.returns-else-z-geminus800000000
+returns-else-z-geminus800000000 c = reach-under c.args.z c.ranges.z 800000000 _ refl c.if-z-geminus800000000.false
