@@ -1,6 +1,5 @@
 -- The winding number and the area as sums of what one edge gives one way less what it gives the other way.
 use Rattle.std.specs.Prelude.{ℕ, zero, suc, ◌+◌, ◌*◌, ◌≤◌, ◌<◌, ◌^◌, ◌≡◌, refl, Bool, true, false, ◌&&◌, List, get_or, ℤ, pos, negsuc, neg_ℤ, nat_abs, ◌+ℤ◌, ◌-ℤ◌}
-use mir.Val.{bool_byte}
 use Rattle.std.proofs.Common.{zero-le, arith, le_refl, sym, ap, ◌∙◌, subst}
 use Rattle.std.proofs.Math.IntN.{+ℤ_idl, +ℤ_idr}
 use Rattle.whole.specs.declared.two.Two.{Two}
@@ -32,11 +31,6 @@ winds-tied p a b = λ i. pos (rise p a b) -ℤ pos (code_of (spans (twice b) (tw
 pub code-most : (t : Bool) → code_of t ≤ 1
 code-most true = le_refl 1
 code-most false = zero-le
-
--- a truth value as a number of the machine
-pub byte-code : (t : Bool) → bool_byte t ≡ code_of t
-byte-code true = refl
-byte-code false = refl
 
 rise-most : (p a b : Spot) → rise p a b ≤ 1
 rise-most p a b = code-most (rises p (twice a) (twice b))

@@ -34,7 +34,7 @@ fn spans_at(l: &[i64], i: usize, j: usize, x: i64, y: i64) -> bool
     requires { Seen l.now i j x y }
     ensures { result ≡ spans (twice (spot_at l.now i)) (twice (spot_at l.now j)) (record { x = x; y = y }) }
 {
-    signed::at_most(doubled(l, 2 * i + 1), y) && signed::below(y, doubled(l, 2 * j + 1))
+    doubled(l, 2 * i + 1) <= y && y < doubled(l, 2 * j + 1)
 }
 
 // Whether (x, y) is strictly left of it.
@@ -46,7 +46,7 @@ fn left_at(l: &[i64], i: usize, j: usize, x: i64, y: i64) -> bool
     let ay = doubled(l, 2 * i + 1);
     let bx = doubled(l, 2 * j);
     let by = doubled(l, 2 * j + 1);
-    signed::below(0, side_of(ax, ay, bx, by, x, y))
+    0 < side_of(ax, ay, bx, by, x, y)
 }
 
 // Whether it rises past y with (x, y) strictly left of it.
@@ -71,9 +71,5 @@ pub(crate) fn gain_at(l: &[i64], i: usize, j: usize) -> u64
     ensures { result ≡ gain (spot_at l.now i) (spot_at l.now j) }
 {
     let z = cross_at(l, i, j);
-    if signed::below(0, z) {
-        signed::unsigned(z)
-    } else {
-        0
-    }
+    if 0 < z { signed::unsigned(z) } else { 0 }
 }

@@ -71,12 +71,12 @@ pub fn area_of(l: &[i64], n: usize) -> Area
     requires { Outline l.now n }
     ensures { result ≡ area_words (area (spots l.now)) }
 {
-    let mut up = two::word(0);
-    let mut down = two::word(0);
+    let mut up = Two::from(0);
+    let mut down = Two::from(0);
     for i in 0..n {
         let j = after(i, n);
-        up = two::add(up, two::word(edge::gain_at(l, i, j)));
-        down = two::add(down, two::word(edge::gain_at(l, j, i)));
+        up = two::add(up, Two::from(edge::gain_at(l, i, j)));
+        down = two::add(down, Two::from(edge::gain_at(l, j, i)));
     }
     apart(up, down)
 }

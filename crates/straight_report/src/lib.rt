@@ -41,7 +41,7 @@ pub fn report_of(points: &[i64], ends: &[usize]) -> Report
     ensures { result ≡ report_of (outlines points.now 0 ends.now) }
 {
     let mut zero: usize = 0;
-    let mut total = two::word(0);
+    let mut total = Two::from(0);
     let mut from: usize = 0;
     for end in ends {
         let a = area_between(points, from, *end);

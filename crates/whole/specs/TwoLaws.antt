@@ -1,7 +1,8 @@
 -- The laws of two words: they say one number, and one number has one pair of them; sums, differences and comparisons word by word.
-use Rattle.std.specs.Prelude.{◌≡◌, ℕ, ◌+◌, ◌-◌, ◌*◌, ◌/◌, ◌%◌, ◌^◌, ◌<◌, ◌≤◌, Bool, true, false, cond, T, nat_lt}
+use Rattle.std.specs.Prelude.{◌≡◌, ℕ, ◌+◌, ◌-◌, ◌*◌, ◌/◌, ◌%◌, ◌^◌, ◌<◌, ◌≤◌, refl, Bool, true, false, cond, T, nat_lt}
 use Rattle.std.proofs.Common.{sym, ap, ◌∙◌, arith, lt_of_mul-lt-mul_right, lt_of_le_of_lt, le_trans, le-add_right, ltb→lt, lt-ltb, le-ltb, ltb-true, ltb-false}
-use Rattle.basis.specs.Choice.{by-test}
+use mir.Val.{bool_byte}
+use Rattle.basis.specs.Choice.{by-test, code_of}
 use Rattle.whole.specs.declared.two.Two.{Two}
 use Rattle.whole.specs.Two.{value, two, carry_of, NoMore}
 
@@ -22,6 +23,11 @@ value-two n = omega arith
 -- a number at most m, below k · 2^64, has its high word below k
 pub high-below : (t : Two) (m k : ℕ) → value t ≤ m → T (nat_lt m (k * 2 ^ 64)) → t.high < k
 high-below t m k h l = lt_of_mul-lt-mul_right (2 ^ 64) (lt_of_le_of_lt (le_trans (le-add_right (t.high * 2 ^ 64) t.low) h) (ltb→lt m (k * 2 ^ 64) l))
+
+-- a truth value as a number of the machine
+pub byte-code : (t : Bool) → bool_byte t ≡ code_of t
+byte-code true = refl
+byte-code false = refl
 
 -- ---- the sum: the wrapped low word and the carry that the comparison finds
 carried : (a b low : ℕ) → a < 2 ^ 64 → b < 2 ^ 64 → low ≡ (a + b) % 2 ^ 64 → carry_of low b * 2 ^ 64 + low ≡ a + b

@@ -1,5 +1,5 @@
 // One signed operation in each function, so that callers speak of ℤ and never of bits.
-ghost use Rattle.std.specs.Prelude.{◌≡◌, pos, ◌-ℤ◌, int_le, int_lt, unsigned_abs};
+ghost use Rattle.std.specs.Prelude.{◌≡◌, pos, ◌-ℤ◌, unsigned_abs};
 ghost use Rattle.whole.specs.Fit.{Fitting, Signed, NotBelow};
 
 // a minus b, which fits.
@@ -8,20 +8,6 @@ pub fn minus(a: i64, b: i64) -> i64
     ensures { result ≡ a -ℤ b }
 {
     a - b
-}
-
-// Whether a is at most b.
-pub fn at_most(a: i64, b: i64) -> bool
-    ensures { result ≡ int_le a b }
-{
-    a <= b
-}
-
-// Whether a is below b.
-pub fn below(a: i64, b: i64) -> bool
-    ensures { result ≡ int_lt a b }
-{
-    a < b
 }
 
 // x, which is not negative, as an unsigned number.

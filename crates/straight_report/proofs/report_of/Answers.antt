@@ -8,8 +8,9 @@ use Rattle.whole.specs.declared.two.Two.{Two}
 use Rattle.whole.specs.Two.{value, two}
 use Rattle.whole.specs.TwoLaws.{value-two}
 use Rattle.basis.specs.Choice.{code_of}
+use Rattle.whole.specs.TwoLaws.{byte-code}
 use Rattle.straight.specs.Plane.{spots, area}
-use Rattle.straight.specs.SumLaws.{code-most, byte-code}
+use Rattle.straight.specs.SumLaws.{code-most}
 use Rattle.straight_report.specs.Report.{part, outlines}
 use Rattle.straight_report.specs.MostTheorems.{area-most}
 use Rattle.straight_report.specs.ReportLaws.{Going, going-none, going-cut, going_more, going_end, cut-outline, area-says, total-high, report-is}
@@ -23,7 +24,7 @@ low_fits t n e = subst (λ (m : ℕ). m < 2 ^ 64) (sym (ap (λ (r : Two). r.low)
 
 pub loop-end-init : goal.loop-end-init
 loop-end-init c =
-    (subst (λ (n : ℕ). Going c.args.points.now c.args.ends.now 0 0 0 n) (sym (nothing c.word-total.result c.word-total.ensures.0 c.word-total.ensures.1)) (going-none c.requires), search rules)
+    (subst (λ (n : ℕ). Going c.args.points.now c.args.ends.now 0 0 0 n) (sym (nothing c.from-total.result c.from-total.ensures.0 c.from-total.ensures.1)) (going-none c.requires), search rules)
 
 pub area_between-a-requires : goal.area_between-a-requires
 area_between-a-requires c =

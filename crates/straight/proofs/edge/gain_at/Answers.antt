@@ -11,14 +11,14 @@ abbrev seen : ℤ → ℤ
 seen z = to_z w64 (of_z w64 z)
 
 pub unsigned-requires : goal.unsigned-requires
-unsigned-requires c = (above-yes (seen c.cross_at-z.result) (sym c.below.ensures ∙ c.if-below.true)).0
+unsigned-requires c = (above-yes (seen c.cross_at-z.result) c.if-z-gt0.true).0
 
-pub returns-then-below : goal.returns-then-below
-returns-then-below c =
+pub returns-then-z-gt0 : goal.returns-then-z-gt0
+returns-then-z-gt0 c =
     let z = c.cross_at-z in
-    c.unsigned.ensures ∙ (above-yes (seen z.result) (sym c.below.ensures ∙ c.if-below.true)).1 ∙ ap above (got z.result z.type_inv ∙ z.ensures)
+    c.unsigned.ensures ∙ (above-yes (seen z.result) c.if-z-gt0.true).1 ∙ ap above (got z.result z.type_inv ∙ z.ensures)
 
-pub returns-else-below : goal.returns-else-below
-returns-else-below c =
+pub returns-else-z-gt0 : goal.returns-else-z-gt0
+returns-else-z-gt0 c =
     let z = c.cross_at-z in
-    above-no (seen z.result) (sym c.below.ensures ∙ c.if-below.false) ∙ ap above (got z.result z.type_inv ∙ z.ensures)
+    above-no (seen z.result) c.if-z-gt0.false ∙ ap above (got z.result z.type_inv ∙ z.ensures)

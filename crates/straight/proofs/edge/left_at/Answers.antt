@@ -46,8 +46,7 @@ returns c =
     let d = c.doubled-bx in
     let e = c.doubled-by in
     let z = c.side_of in
-    c.below.ensures
-    ∙ ap (lt_z (pos 0))
+    ap (lt_z (pos 0))
     (got z.result z.type_inv ∙ z.ensures
     ∙ line (got a.result a.type_inv ∙ a.ensures) (got b.result b.type_inv ∙ b.ensures) (got d.result d.type_inv ∙ d.ensures) (got e.result e.type_inv ∙ e.ensures)
     (to_z-of_z c.ranges.x) (to_z-of_z c.ranges.y))

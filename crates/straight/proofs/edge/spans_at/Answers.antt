@@ -13,21 +13,20 @@ use Rattle.straight.proofs.edge.spans_at.Goals as goal
 pub doubled-requires : goal.doubled-requires
 doubled-requires c = from-y c.requires.edge
 
-pub doubled-requires-then-at_most : goal.doubled-requires-then-at_most
-doubled-requires-then-at_most c = to-y c.requires.edge
+pub doubled-requires-then-doubled-y : goal.doubled-requires-then-doubled-y
+doubled-requires-then-doubled-y c = to-y c.requires.edge
 
-pub returns-then-at_most : goal.returns-then-at_most
+pub returns-then-doubled-y : goal.returns-then-doubled-y
 unfolding spans twice
-returns-then-at_most c =
+returns-then-doubled-y c =
     let e = c.doubled in
-    let f = c.doubled-then-at_most in
-    c.below.ensures
-    ∙ (λ i. lt_z (to_z-of_z c.ranges.y i) ((got f.result f.type_inv ∙ f.ensures) i))
-    ∙ (λ i. (sym c.if-at_most.true ∙ c.at_most.ensures ∙ (λ i. le_z ((got e.result e.type_inv ∙ e.ensures) i) (to_z-of_z c.ranges.y i))) i && lt_z c.args.y (pos 2 *ℤ get_or c.args.l.now (2 * c.args.j + 1) (pos 0)))
+    let f = c.doubled-then-doubled-y in
+    (λ i. lt_z (to_z-of_z c.ranges.y i) ((got f.result f.type_inv ∙ f.ensures) i))
+    ∙ (λ i. (sym c.if-doubled-y.true ∙ (λ i. le_z ((got e.result e.type_inv ∙ e.ensures) i) (to_z-of_z c.ranges.y i))) i && lt_z c.args.y (pos 2 *ℤ get_or c.args.l.now (2 * c.args.j + 1) (pos 0)))
 
-pub returns-else-at_most : goal.returns-else-at_most
+pub returns-else-doubled-y : goal.returns-else-doubled-y
 unfolding spans twice
-returns-else-at_most c =
+returns-else-doubled-y c =
     let e = c.doubled in
-    c.if-at_most.false
-    ∙ (λ i. (sym c.if-at_most.false ∙ c.at_most.ensures ∙ (λ i. le_z ((got e.result e.type_inv ∙ e.ensures) i) (to_z-of_z c.ranges.y i))) i && lt_z c.args.y (pos 2 *ℤ get_or c.args.l.now (2 * c.args.j + 1) (pos 0)))
+    c.if-doubled-y.false
+    ∙ (λ i. (sym c.if-doubled-y.false ∙ (λ i. le_z ((got e.result e.type_inv ∙ e.ensures) i) (to_z-of_z c.ranges.y i))) i && lt_z c.args.y (pos 2 *ℤ get_or c.args.l.now (2 * c.args.j + 1) (pos 0)))

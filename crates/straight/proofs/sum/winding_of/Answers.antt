@@ -9,9 +9,10 @@ use mir.Facts.{to_z-of_z}
 use borrow.Author.Rules.{rules}
 use Rattle.whole.specs.FitLaws.{got}
 use Rattle.basis.specs.Choice.{code_of}
+use Rattle.whole.specs.TwoLaws.{byte-code}
 use Rattle.straight.specs.PartLaws.{part_none, part_end}
 use Rattle.straight.specs.Ready.{Probed}
-use Rattle.straight.specs.SumLaws.{winds, code-most, byte-code, probed-as, seen-on, seen_back, wind-more, wound}
+use Rattle.straight.specs.SumLaws.{winds, code-most, probed-as, seen-on, seen_back, wind-more, wound}
 use Rattle.straight.proofs.sum.winding_of.Goals as goal
 
 -- the probe as the loop reads it back
@@ -44,8 +45,8 @@ loop-i-preserved c =
     let k = c.loop-i in
     let j = c.after-j in
     wind-more (probed c.ranges.x c.ranges.y c.requires) c.loop-i-test.true j.ensures k.invariant
-          (c.from-up.ensures ∙ byte-code c.rises_at.result ∙ ap code_of c.rises_at.ensures)
-          (c.from-down.ensures ∙ byte-code c.rises_at-in-loop-i.result ∙ ap code_of c.rises_at-in-loop-i.ensures)
+    (c.from-up.ensures ∙ byte-code c.rises_at.result ∙ ap code_of c.rises_at.ensures)
+    (c.from-down.ensures ∙ byte-code c.rises_at-in-loop-i.result ∙ ap code_of c.rises_at-in-loop-i.ensures)
 
 pub balance-requires : goal.balance-requires
 balance-requires c =

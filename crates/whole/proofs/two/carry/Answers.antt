@@ -1,12 +1,8 @@
-use Rattle.basis.specs.Choice.{cases}
 use Rattle.whole.specs.Two.{carry_of}
-use Rattle.std.proofs.Common.{rules}
+use Rattle.whole.specs.TwoLaws.{byte-code}
+use mathlib.Core.Path.{◌∙◌}
 use Rattle.whole.proofs.two.carry.Goals as goal
 
-pub returns-then-sum-added : goal.returns-then-sum-added
+pub returns : goal.returns
 unfolding carry_of
-returns-then-sum-added c = search (rules, cases)
-
-pub returns-else-sum-added : goal.returns-else-sum-added
-unfolding carry_of
-returns-else-sum-added c = search (rules, cases)
+returns c = c.from.ensures ∙ byte-code _
