@@ -1,5 +1,5 @@
 -- Theorems on every outline. Document 02, K8: "Reversing an outline negates both answers; starting it at another vertex changes neither"; "An edge of length 0 adds nothing".
-use Rattle.std.specs.Prelude.{ℕ, zero, suc, ◌≡◌, refl, false, ◌&&◌, List, [], ◌∷◌, ◌++◌, reverse, leb, ltb, ℤ, pos, negsuc, neg_ℤ, ◌+ℤ◌, ◌-ℤ◌, ◌*ℤ◌}
+use Rattle.std.specs.Prelude.{ℕ, zero, suc, ◌≡◌, refl, false, ◌&&◌, List, [], ◌∷◌, ◌++◌, reverse, leb, ltb, ℤ, pos, negsuc, neg_ℤ, ◌-ℤ◌, ◌*ℤ◌}
 use Rattle.std.proofs.Common.{sym, ap, ◌∙◌, arith, le-ltb, lt-ltb, leb-true}
 use Rattle.std.proofs.Math.IntN.{+ℤ_invr, neg_ℤ-+ℤ}
 use Rattle.std.specs.Int.Signed.{lt_z, le_z}

@@ -1,5 +1,5 @@
 -- What the code asks of its numbers, as its callers have shown it, and what it works out of one edge.
-use Rattle.std.specs.Prelude.{ℕ, ◌+◌, ◌-◌, ◌*◌, ◌≤◌, ◌<◌, Bool, ◌&&◌, ◌≡◌, List, length, get_or, ℤ, pos, negsuc}
+use Rattle.std.specs.Prelude.{ℕ, ◌+◌, ◌*◌, ◌≤◌, ◌<◌, Bool, ◌&&◌, ◌≡◌, List, length, get_or, ℤ, pos, negsuc}
 use Rattle.outline.specs.Outline.{wrap}
 use Rattle.whole.specs.Fit.{Near}
 use Rattle.straight.specs.Plane.{Spot, left, spans, cross}

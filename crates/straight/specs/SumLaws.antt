@@ -1,5 +1,5 @@
 -- The winding number and the area as sums of what one edge gives one way less what it gives the other way.
-use Rattle.std.specs.Prelude.{ℕ, zero, suc, ◌+◌, ◌*◌, ◌≤◌, ◌<◌, ◌^◌, ◌≡◌, refl, Bool, true, false, ◌&&◌, List, get_or, ℤ, pos, negsuc, neg_ℤ, nat_abs, ◌+ℤ◌, ◌-ℤ◌}
+use Rattle.std.specs.Prelude.{ℕ, zero, suc, ◌+◌, ◌*◌, ◌≤◌, ◌<◌, ◌^◌, ◌≡◌, refl, Bool, true, false, ◌&&◌, List, get_or, ℤ, pos, negsuc, neg_ℤ, nat_abs, ◌-ℤ◌}
 use Rattle.std.proofs.Common.{zero-le, arith, le_refl, sym, ap, ◌∙◌, subst}
 use Rattle.std.proofs.Math.IntN.{+ℤ_idl, +ℤ_idr}
 use Rattle.whole.specs.declared.two.Two.{Two}

@@ -1,5 +1,5 @@
 -- One sum less another, as sign and size.
-use Rattle.std.specs.Prelude.{ℕ, zero, suc, ◌-◌, ◌/◌, ◌%◌, ◌^◌, ◌≤◌, ◌<◌, ◌≡◌, refl, Bool, true, false, cond, ℤ, pos, negsuc, nat_abs, ◌-ℤ◌, ltb}
+use Rattle.std.specs.Prelude.{ℕ, zero, suc, ◌-◌, ◌≤◌, ◌<◌, ◌≡◌, refl, Bool, true, false, cond, ℤ, pos, negsuc, nat_abs, ◌-ℤ◌, ltb}
 use Rattle.std.proofs.Common.{arith, sym, ap, ◌∙◌, subst, lt-ltb, le-ltb, ltb-true, ltb-false}
 use Rattle.whole.specs.Two.{value, two, NoMore}
 use Rattle.whole.specs.declared.two.Two.{Two}

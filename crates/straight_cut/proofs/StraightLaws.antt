@@ -1,5 +1,5 @@
 -- A vertex and an overlap, by the tests of their parts.
-use Rattle.std.proofs.Common.{◌≡◌, Bool, ◌&&◌, ap, ◌∙◌}
+use Rattle.std.proofs.Common.{◌≡◌, Bool, ◌&&◌}
 use lib.Ieee.{eq}
 use Rattle.basis.specs.Number.{+0}
 use Rattle.outline.specs.declared.point.Vertex.{Vertex}

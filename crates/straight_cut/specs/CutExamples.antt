@@ -1,7 +1,7 @@
 -- Worked examples, each computed.
-use Rattle.std.specs.Prelude.{◌≡◌, Bool, true, false, cond, ◌&&◌, ◌||◌, List, [], ◌∷◌, ◌++◌, pos, negsuc, refl, Float}
+use Rattle.std.specs.Prelude.{◌≡◌, true, false, [], ◌∷◌, pos, negsuc, refl, Float}
 use Rattle.std.specs.Float.Ieee.{of_bits, le, lt, eq, of_int, to_signed, round}
-use Rattle.std.specs.Float.{binary64, nan, inf}
+use Rattle.std.specs.Float.{binary64, nan}
 use Rattle.basis.specs.Number.{+0}
 use Rattle.basis.specs.Each.{each_to}
 use Rattle.basis.specs.Items.{first_items}

@@ -1,9 +1,11 @@
 -- Laws by which the inside answers are written.
-use Rattle.std.specs.Prelude.{◌≡◌, ℕ, ◌+◌, ◌*◌, ◌<◌, Bool, true, false, ◌||◌, List, [], ◌∷◌, length, ℤ, pos, ◌+ℤ◌, FitsSigned, int_lt, slice_index, refl, Float}
+use Rattle.std.specs.Prelude.{◌≡◌, ℕ, zero, suc, negsuc, not, eqb, ◌+◌, ◌*◌, ◌<◌, Bool, ◌||◌, List, [], ◌∷◌, length, ℤ, pos, ◌+ℤ◌, FitsSigned, int_lt, slice_index, refl, Float}
 use Rattle.std.proofs.Math.Path.{sym, ap}
-use Rattle.std.proofs.Common.{subst, ◌∙◌, arith, to_z, of_z, to_z-of_z}
+use Rattle.std.proofs.lemmas.Bool.{eqb-false}
+use Rattle.std.proofs.Common.{subst, eqb-true, lt-ltb, ◌∙◌, arith, to_z, of_z, to_z-of_z}
 use Rattle.std.specs.Int.{w64}
-use Rattle.basis.specs.Choice.{code_of}
+use mir.Val.{bool_byte}
+use Rattle.basis.specs.Choice.{code_of, by-test}
 use Rattle.basis.specs.Items.{first_items}
 use Rattle.basis.specs.ItemLaws.{items-length}
 use Rattle.outline.specs.declared.point.Vertex.{Vertex}
@@ -17,26 +19,20 @@ use Rattle.straight_cut.specs.MicrodegreesLaws.{value-near}
 use Rattle.straight_cut.specs.SplitsLaws.{items_at}
 use Rattle.straight_cut.specs.Inside.{inside_code, inside_of, inside_at, insides_of, InsideFit}
 
--- ---- the code of a winding number, which is read back as v
-module _ (w v : ℤ) (same : v ≡ w) (a : Bool) (above : a ≡ int_lt (pos 0) v) where
-  up : (t : Bool) → a ≡ t → int_lt (pos 0) w ≡ t
-  up t y = ap (int_lt (pos 0)) (sym same) ∙ sym above ∙ y
+-- ---- the code of a winding number, which the machine compares with 0 by its bits
+some_code : (w : ℤ) → (w ≡ pos 0 → ⊥) → 1 ≡ inside_code w
+unfolding inside_code
+some_code (pos zero) h = absurd (h refl)
+some_code (pos (suc n)) h = sym (ap (λ (b : Bool). code_of (b || int_lt (pos (suc n)) (pos 0))) (lt-ltb 0 (suc n) (omega arith)))
+some_code (negsuc n) h = refl
 
-  pub code-above : a ≡ true → 1 ≡ inside_code w
-  unfolding inside_code
-  code-above y = sym (λ i. code_of (up true y i || int_lt w (pos 0)))
-
-  module _ (b : Bool) (below : b ≡ int_lt v (pos 0)) where
-    down : (t : Bool) → b ≡ t → int_lt w (pos 0) ≡ t
-    down t y = ap (λ (z : ℤ). int_lt z (pos 0)) (sym same) ∙ sym below ∙ y
-
-    pub code_below : a ≡ false → b ≡ true → 1 ≡ inside_code w
-    unfolding inside_code
-    code_below n y = sym (λ i. code_of (up false n i || down true y i))
-
-    pub code-none : a ≡ false → b ≡ false → 0 ≡ inside_code w
-    unfolding inside_code
-    code-none n y = sym (λ i. code_of (up false n i || down false y i))
+pub code-is : (w : ℤ) (n : ℕ) → FitsSigned w64 w → n ≡ bool_byte (not (eqb (of_z w64 w) 0)) → n ≡ inside_code w
+unfolding inside_code
+code-is w n f e =
+    by-test (eqb (of_z w64 w) 0)
+    (λ t. let z : w ≡ pos 0 = sym (to_z-of_z f) ∙ ap (to_z w64) (eqb-true (of_z w64 w) 0 t) in
+    e ∙ ap (λ (b : Bool). bool_byte (not b)) t ∙ sym (ap inside_code z))
+    (λ t. e ∙ ap (λ (b : Bool). bool_byte (not b)) t ∙ some_code w (λ z. eqb-false (of_z w64 w) 0 t (ap (of_z w64) z)))
 
 -- ---- the doubled midpoint is in the range of K8's probes
 pub mid-near : (a b : Float) → Near 800000000 (value_of a +ℤ value_of b)

@@ -1,5 +1,5 @@
 -- A number that is known to be whole, or zero, is read by the machine's own cast, which is defined for whole numbers other than -0.
-use Rattle.std.specs.Prelude.{◌≡◌, ℕ, zero, suc, ◌+◌, ◌-◌, ◌*◌, ◌/◌, ◌%◌, ◌^◌, ◌<◌, ◌≤◌, min, Bool, true, false, cond, not, ◌&&◌, ◌||◌, T, List, [], ◌∷◌, length, ℤ, pos, negsuc, neg_ℤ, ◌==◌, ◌≢◌, nat_le, nat_lt, slice_index_or, unsigned_abs, refl, Float}
+use Rattle.std.specs.Prelude.{◌≡◌, ℕ, zero, suc, ◌+◌, ◌-◌, ◌*◌, ◌/◌, ◌%◌, ◌^◌, ◌<◌, ◌≤◌, min, Bool, true, false, cond, not, ◌&&◌, ◌||◌, T, List, [], ◌∷◌, length, ℤ, pos, neg_ℤ, ◌==◌, ◌≢◌, nat_le, nat_lt, slice_index_or, unsigned_abs, refl, Float}
 use Rattle.std.proofs.Math.Bool.{true≢false}
 use Rattle.std.proofs.lemmas.Bool.{false≢true, eqb-false}
 use Rattle.std.proofs.Common.{sym, ap, subst, ◌∙◌, le_trans, mul-one, mul_right_comm, mul-div_cancel, arith, leb→le, le→leb, lt→ltb, to_z, of_z, to_z-of_z, eqb-true, ne_eqb}
@@ -20,7 +20,6 @@ use Rattle.outline.specs.Outline.{vertex_at}
 use Rattle.slice.specs.Slice.{shape_at}
 use Rattle.whole.specs.Fit.{Near}
 use Rattle.whole.specs.FitLaws.{fit}
-use Rattle.straight_entries.specs.Range.{in_reach}
 use Rattle.straight_entries.specs.RangeLaws.{reach_near}
 use Rattle.straight_cut.specs.Microdegrees.{reach, is_whole, value_of, readable}
 use Rattle.straight_cut.specs.Straight.{straight_vertex, straight_shape, straight_outline, whole_points, straight_laps}

@@ -1,11 +1,11 @@
 -- The cases of the code that reads a whole number, and that what it reads is always in K8's range.
 use Rattle.std.specs.Prelude.{◌≡◌, ℕ, zero, suc, ◌+◌, ◌*◌, ◌<◌, ◌≤◌, Bool, true, false, cond, ◌&&◌, T, List, [], ◌∷◌, length, ℤ, pos, negsuc, slice_index_or, slice_set, refl, Float}
-use Rattle.std.proofs.Common.{zero-le, subst, ◌∙◌, add-one, arith, leb→le, le→leb, lt→ltb, le_trans}
+use Rattle.std.proofs.Common.{zero-le, ◌∙◌, add-one, arith, leb→le, le→leb, lt→ltb, le_trans}
 use Rattle.std.proofs.Math.Path.{sym, ap}
 use Rattle.std.proofs.lemmas.List.Edits.{sets}
 use Rattle.std.specs.Float.Ieee.{nan, binary64, le, lt, eq, of_int, to_signed, in_float}
 use Rattle.std.specs.Float.{fin}
-use Rattle.basis.specs.Choice.{by-test, and_left, and_right}
+use Rattle.basis.specs.Choice.{by-test, and_right}
 use Rattle.basis.specs.Room.{room_of}
 use Rattle.basis.specs.All.{All, all_both, all-at}
 use Rattle.basis.specs.Items.{first_items}

@@ -1,5 +1,5 @@
 -- The two vertices of a candidate of a straight outline were handed in: where the outline's numbers and the cuts' are readable, so are theirs.
-use Rattle.std.specs.Prelude.{◌≡◌, ℕ, ◌+◌, ◌*◌, ◌<◌, ◌≤◌, Bool, true, false, List, length, nat_lt, Float}
+use Rattle.std.specs.Prelude.{◌≡◌, ℕ, ◌+◌, ◌*◌, ◌<◌, true, List, nat_lt, Float}
 use Rattle.std.proofs.Common.{sym, ◌∙◌, arith}
 use Rattle.std.proofs.Math.Path.{subst}
 use Rattle.std.specs.Float.Ieee.{nan}
@@ -18,7 +18,7 @@ use Rattle.candidate.specs.PieceLaws.{together, apart}
 use Rattle.straight_cut.specs.Microdegrees.{readable}
 use Rattle.straight_cut.specs.Splits.{cut_vertex, splits_of, straight_given}
 use Rattle.straight_cut.specs.SplitsLaws.{start_is, split-is, whole_is, running-next}
-use Rattle.straight_cut.specs.Inside.{KnownTwo, KnownProbe}
+use Rattle.straight_cut.specs.Inside.{KnownProbe}
 
 record Known (v : Vertex) : Type 0 where
   at_x : readable v.x ≡ true

@@ -1,7 +1,7 @@
 -- Laws of straight splits: how long they are, what stands where, and that a walk by them is that of the candidates.
-use Rattle.std.specs.Prelude.{◌≡◌, ℕ, zero, suc, ◌+◌, ◌-◌, ◌*◌, ◌<◌, ◌≤◌, Bool, true, false, cond, ◌&&◌, List, ◌++◌, length, get_or, ◌==◌, nat_lt, slice_index_or, Float}
+use Rattle.std.specs.Prelude.{◌≡◌, ℕ, zero, suc, ◌+◌, ◌-◌, ◌*◌, ◌<◌, ◌≤◌, Bool, true, ◌&&◌, List, length, get_or, ◌==◌, nat_lt, slice_index_or, Float}
 use Rattle.std.proofs.Math.Path.{refl}
-use Rattle.std.proofs.Common.{sym, ap, ◌∙◌, mul-suc, mul-le-mul_left, not-suc-le-zero, add-one, get_or-append-add}
+use Rattle.std.proofs.Common.{sym, ap, ◌∙◌, mul-suc, mul-le-mul_left, not-suc-le-zero, get_or-append-add}
 use native.Mathlib.Omega.{arith}
 use Rattle.std.proofs.Math.ListN.{get_or-append}
 use Rattle.std.specs.Float.Ieee.{nan}
@@ -12,7 +12,7 @@ use Rattle.basis.specs.Items.{first_items}
 use Rattle.basis.specs.ItemLaws.{items-length}
 use Rattle.outline.specs.declared.point.Point.{Point}
 use Rattle.outline.specs.declared.point.Vertex.{Vertex}
-use Rattle.outline.specs.Points.{at_point, vertex_numbers}
+use Rattle.outline.specs.Points.{at_point}
 use Rattle.outline.specs.Outline.{vertex_at, point_at}
 use Rattle.view.specs.declared.create.Walk.{Walk}
 use Rattle.cut.specs.declared.arrival.Case.{Case}

@@ -1,5 +1,5 @@
 -- Document 02, K11: "18 also for a vertex or cut that is not whole or has a bulge other than zero."
-use Rattle.std.specs.Prelude.{ℕ, ◌/◌, Bool, ◌&&◌, List, length, Float}
+use Rattle.std.specs.Prelude.{◌/◌, Bool, ◌&&◌, List, length, Float}
 use Rattle.std.specs.Float.Ieee.{eq}
 use Rattle.basis.specs.Number.{+0}
 use Rattle.basis.specs.All.{all_of}

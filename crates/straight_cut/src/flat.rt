@@ -1,4 +1,4 @@
-// Number 18: whether outlines and cuts are straight, in whole microdegrees.
+// Number 18: whether outlines and cuts are straight, in whole microdegrees. Each loop looks at all, with no branch, so that it stays fast.
 ghost use Rattle.std.specs.Prelude.{◌≡◌};
 ghost use Rattle.straight_cut.specs.Straight.{straight_vertex, straight_shape, straight_outline, whole_points, straight_laps};
 
@@ -26,25 +26,21 @@ fn straight_shape(s: Shape) -> bool
 pub fn straight_outline(outline: &[f64]) -> bool
     ensures { result ≡ straight_outline outline.now }
 {
-    let count = outline.len() / 3;
     let mut ok = true;
-    let mut i = 0;
-    while i < count {
+    for i in 0..outline.len() / 3 {
         ok = ok & straight_vertex(read::vertex_at(outline, i));
-        i += 1;
     }
     ok
 }
 
 // Every number of the intersections' points is whole.
+#[tactic(auto, using(basis::specs::All::scan), unfolding(basis::specs::All::all_of))]
 pub fn whole_points(points: &[f64]) -> bool
     ensures { result ≡ whole_points points.now }
 {
     let mut ok = true;
-    let mut i = 0;
-    while i < points.len() {
-        ok = ok & microdegrees::is_whole(points[i]);
-        i += 1;
+    for x in points {
+        ok = ok & microdegrees::is_whole(*x);
     }
     ok
 }
@@ -53,12 +49,9 @@ pub fn whole_points(points: &[f64]) -> bool
 pub fn straight_laps(lap: &[f64]) -> bool
     ensures { result ≡ straight_laps lap.now }
 {
-    let count = lap.len() / SHAPE_WIDTH;
     let mut ok = true;
-    let mut i = 0;
-    while i < count {
+    for i in 0..lap.len() / SHAPE_WIDTH {
         ok = ok & straight_shape(slice::read::shape_at(lap, i));
-        i += 1;
     }
     ok
 }

@@ -6,19 +6,12 @@ ghost use Rattle.straight_cut.specs.Inside.{inside_code, inside_of, KnownTwo, In
 use crate::microdegrees;
 use outline::point::Vertex;
 use straight::sum;
-use whole::signed;
 
 // 1 for a winding number other than 0.
 fn code_of(w: i64) -> u8
     ensures { result ≡ inside_code w }
 {
-    if signed::below(0, w) {
-        return 1;
-    }
-    if signed::below(w, 0) {
-        return 1;
-    }
-    0
+    u8::from(w != 0)
 }
 
 // The midpoint of two numbers of microdegrees, doubled: their sum.

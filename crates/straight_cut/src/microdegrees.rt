@@ -44,7 +44,7 @@ pub(crate) fn known_value(x: f64) -> i64
     x as i64
 }
 
-// Writes a whole number at a place.
+// Writes a whole number at a place. A function of its own, so that callers speak of ℤ and never of bits.
 fn put(room: &mut [i64], at: usize, z: i64)
     requires { RoomFor room.old at 1 }
     ensures { room.new ≡ slice_set room.old at z }
@@ -67,9 +67,7 @@ pub fn write_wholes(outline: &[f64], vc: usize, room: &mut [i64])
     requires { WholesRoom outline.now vc room.old }
     ensures { room.new ≡ room_of (pos 0) 2 vc (wholes_of outline.now vc) room.old }
 {
-    let mut i = 0;
-    while i < vc {
+    for i in 0..vc {
         put_vertex(outline, i, room, 2 * i);
-        i += 1;
     }
 }

@@ -1,5 +1,5 @@
 -- Worked examples, each computed. The squares of document 01 in microdegrees: A is (0,0) (4,0) (4,4) (0,4), B is (2,2) (6,2) (6,6) (2,6), in degrees.
-use Rattle.std.specs.Prelude.{ℕ, zero, suc, ◌+◌, ◌-◌, ◌≡◌, refl, List, [], ◌∷◌, ◌++◌, reverse, ℤ, pos, negsuc}
+use Rattle.std.specs.Prelude.{ℕ, zero, suc, ◌+◌, ◌≡◌, refl, List, [], ◌∷◌, ◌++◌, reverse, ℤ, pos, negsuc}
 use Rattle.basis.specs.All.{all_of}
 use Rattle.basis.specs.Refuse.{first_of, length_fault, size_fault, answer}
 use Rattle.straight.specs.Plane.{Spot, spots, sums, around, side, left, right, spans, crossing, twice, winding, cross, area}

@@ -40,7 +40,10 @@ fn refusal(points: &[i64], ends: &[usize], loops: usize) -> Result<(), Refusal>
     ensures { found result ≡ report_refusal points.now ends.now loops }
 {
     refuse::when(ends.len() != loops, Refusal::Length)?;
-    refuse::when(refuse::bad_length(points.len(), 2, last_end(ends)), Refusal::Length)?;
+    refuse::when(
+        refuse::bad_length(points.len(), 2, last_end(ends)),
+        Refusal::Length,
+    )?;
     refuse::when(bad_sizes(ends), Refusal::Outline)?;
     refuse::when(!range::all_near(points), Refusal::Range)?;
     refuse::when(MOST_LOOPS < loops, Refusal::Loops)

@@ -1,6 +1,6 @@
 -- The laws of the report: one outline of the list, the sums so far, and the code's small steps.
 use Rattle.std.specs.Prelude.{ℕ, zero, suc, ◌+◌, ◌-◌, ◌*◌, ◌^◌, ◌≤◌, ◌<◌, ◌≡◌, refl, Bool, eqb, ltb, length, take, drop, ℤ, pos, nat_abs}
-use Rattle.std.proofs.Common.{zero-le, arith, add-one, le_refl, le_trans, ◌∙◌, length-take, length-drop, drop_of_length-le, length-take-le, get_or-take, get_or-drop, ltb-true, ltb-false, ne_eqb, eq-eqb}
+use Rattle.std.proofs.Common.{zero-le, arith, add-one, le_refl, le_trans, ◌∙◌, length-take, length-drop, drop_of_length-le, length-take-le, get_or-take, get_or-drop, ltb-true, ltb-false, ne_eqb}
 use Rattle.std.proofs.Math.Nat.{add_assoc}
 use Rattle.std.proofs.Math.Path.{sym, ap, subst}
 use Rattle.std.proofs.Math.Bool.{true, false}

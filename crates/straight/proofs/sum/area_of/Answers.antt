@@ -1,9 +1,7 @@
 use Rattle.straight.specs.SumLaws.{high_small, word-added}
 use Rattle.straight.specs.Words.{area_words}
 use Rattle.straight.specs.PartLaws.{same-part}
-use Prim.Native.Nat.{◌-◌}
 use native.Mathlib.Omega.{arith}
-use borrow.Author.Rules.{rules}
 use mathlib.Core.Path.{◌≡◌, ◌∙◌, ap}
 use Rattle.whole.specs.declared.two.Two.{Two}
 use Rattle.whole.specs.Two.{value}

@@ -1,4 +1,4 @@
-use Prim.Native.Nat.{ℕ, ◌-◌}
+use Prim.Native.Nat.{ℕ}
 use native.Mathlib.Omega.{arith}
 use mathlib.Core.Path.{◌∙◌, ap}
 use mir.Syntax.{w64}
@@ -6,7 +6,6 @@ use mir.Val.{to_z, of_z, SFits}
 use lib.IntN.{ℤ}
 use mathlib.Core.List.{List}
 use mir.Facts.{to_z-of_z}
-use borrow.Author.Rules.{rules}
 use Rattle.whole.specs.FitLaws.{got}
 use Rattle.basis.specs.Choice.{code_of}
 use Rattle.whole.specs.TwoLaws.{byte-code}

@@ -1,4 +1,4 @@
-use Rattle.std.proofs.Common.{◌∙◌, rules}
+use Rattle.std.proofs.Common.{◌∙◌}
 use Rattle.whole.specs.FitLaws.{got}
 use Rattle.straight_cut.specs.InsideLaws.{mid-fits, mid-read}
 use Rattle.straight_cut.proofs.inside.doubled_mid.Goals as goal

@@ -1,4 +1,4 @@
-use Rattle.std.proofs.Common.{T, ℤ, sym, ap, ◌∙◌, subst, to_z-of_z}
+use Rattle.std.proofs.Common.{T, ℤ, sym, ap, subst, to_z-of_z}
 use lib.Ieee.{binary64, in_float, of_int}
 use Rattle.straight_cut.specs.MicrodegreesLaws.{near-held}
 use Rattle.straight_cut.proofs.microdegrees.float_of.Goals as goal

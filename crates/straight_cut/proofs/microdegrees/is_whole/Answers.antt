@@ -1,5 +1,5 @@
 use mir.Syntax.{w64}
-use Rattle.std.proofs.Common.{T, sym, ap, ◌∙◌, subst, to_z-of_z, rules}
+use Rattle.std.proofs.Common.{T, sym, ap, ◌∙◌, subst, to_z-of_z}
 use lib.Ieee.{of_bits, neg, of_int, binary64}
 use Rattle.straight_entries.specs.Range.{in_reach}
 use Rattle.straight_cut.specs.MicrodegreesLaws.{near-yes, whole-near, whole-far, whole_above, whole_below}

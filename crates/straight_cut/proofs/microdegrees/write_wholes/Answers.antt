@@ -1,5 +1,5 @@
-use Rattle.std.proofs.Common.{◌-◌, rules}
-use Rattle.straight_cut.specs.MicrodegreesLaws.{Wholes, wholes}
+use Rattle.std.proofs.Common.{rules}
+use Rattle.straight_cut.specs.MicrodegreesLaws.{wholes}
 use Rattle.straight_cut.proofs.microdegrees.write_wholes.Goals as goal
 
 pub loop-i-init : goal.loop-i-init
