@@ -7,6 +7,7 @@ use Rattle.basis.specs.Room.{room_of, cleared, Stretch}
 use Rattle.outline.specs.declared.point.Vertex.{Vertex}
 use Rattle.outline.specs.Points.{vertex_numbers}
 use Rattle.stitch_tally.specs.declared.tally.Tally.{Tally}
+use Rattle.stitch.specs.declared.lent.Lent.{Lent}
 use Rattle.stitch.specs.declared.write.Stitched.{Stitched}
 use Rattle.stitch_run.specs.Run.{Chain, turns, slices_of, order_of}
 use Rattle.stitch_run.specs.Stitch.{Given, rules_of, run_of, loops_of, how_of, totals, need_of, round_count, loop_count, chain_count, room_items, end_items, chain_items, chain_end_items, how_items}
@@ -40,6 +41,18 @@ pub record Lists : Type 0 where
 
 abbrev pub lists : List Float → List ℕ → List ℕ → List ℕ → List ℕ → Lists
 lists room ends chain chain_ends chain_how = record { room = room; ends = ends; chain = chain; chain_ends = chain_ends; chain_how = chain_how }
+
+-- the same of the struct in which the code hands them on
+abbrev pub lists_of : Lent → Lists
+lists_of x = lists x.room.now x.ends.now x.chain.now x.chain_ends.now x.chain_how.now
+
+-- its references are still those that were handed in
+pub record SameMemory (x x' : Lent) : Type 0 where
+  pub room : x'.room.ghost_name ≡ x.room.ghost_name
+  pub ends : x'.ends.ghost_name ≡ x.ends.ghost_name
+  pub chain : x'.chain.ghost_name ≡ x.chain.ghost_name
+  pub chain_ends : x'.chain_ends.ghost_name ≡ x.chain_ends.ghost_name
+  pub chain_how : x'.chain_how.ghost_name ≡ x.chain_how.ghost_name
 
 -- "the ends and the chain lists each need one entry per slice"
 pub record Long (g : Given) (x : Lists) : Type 0 where

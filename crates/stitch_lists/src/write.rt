@@ -1,9 +1,10 @@
 // The stitch over lists that have been looked at: what it writes into the lent room and what it reports.
 ghost use Rattle.stitch_run.specs.Stitch.{given_of};
-ghost use Rattle.stitch.specs.Lent.{lists, RestFit, RestCleared, StitchFit, Few, Sized, Tabled, Written};
+ghost use Rattle.stitch.specs.Lent.{lists_of, SameMemory, RestFit, RestCleared, StitchFit, Few, Sized, Tabled, Written};
 
 use basis::room;
 use basis::sizes::MOST_SLICES;
+use stitch::lent::Lent;
 use stitch::write::Stitched;
 use stitch::{turn, write};
 use stitch_links::hang;
@@ -12,24 +13,16 @@ use stitch_slices::slices;
 use stitch_tally::tally::Tally;
 
 // Sets each list to zero behind what was written, up to its need.
-fn clear_rest(
-    room: &mut [f64],
-    ends: &mut [usize],
-    chain: &mut [usize],
-    chain_ends: &mut [usize],
-    chain_how: &mut [usize],
-    w: Tally,
-    need: usize,
-    count: usize,
-)
-    requires { RestFit (lists room.old ends.old chain.old chain_ends.old chain_how.old) w need count }
-    ensures { RestCleared (lists room.old ends.old chain.old chain_ends.old chain_how.old) w need count (lists room.new ends.new chain.new chain_ends.new chain_how.new) }
+fn clear_rest(x: &mut Lent, w: Tally, need: usize, count: usize)
+    requires { RestFit (lists_of x.old) w need count }
+    ensures same { SameMemory x.old x.new }
+    ensures cleared { RestCleared (lists_of x.old) w need count (lists_of x.new) }
 {
-    room::fill(room, 3 * w.done, 3 * need, 0.0);
-    room::fill(ends, w.loops, count, 0);
-    room::fill(chain, w.rounds, count, 0);
-    room::fill(chain_ends, w.chains, count, 0);
-    room::fill(chain_how, w.chains, count, 0);
+    room::fill(x.room, 3 * w.done, 3 * need, 0.0);
+    room::fill(x.ends, w.loops, count, 0);
+    room::fill(x.chain, w.rounds, count, 0);
+    room::fill(x.chain_ends, w.chains, count, 0);
+    room::fill(x.chain_how, w.chains, count, 0);
 }
 
 // The stitch with a table of start points, marks, and links for `held` lists, all long enough. No slice has been visited, and the lists hold none.
@@ -39,31 +32,17 @@ fn write_with(
     link: &mut [usize],
     held: usize,
     s: &Slices,
-    room: &mut [f64],
-    ends: &mut [usize],
-    chain: &mut [usize],
-    chain_ends: &mut [usize],
-    chain_how: &mut [usize],
+    x: &mut Lent,
 ) -> Stitched
-    requires { Tabled (given_of s.now) points.old visited.old link.old held (lists room.old ends.old chain.old chain_ends.old chain_how.old) }
-    ensures { Written (given_of s.now) (lists room.old ends.old chain.old chain_ends.old chain_how.old) result (lists room.new ends.new chain.new chain_ends.new chain_how.new) }
+    requires { Tabled (given_of s.now) points.old visited.old link.old held (lists_of x.old) }
+    ensures same { SameMemory x.old x.new }
+    ensures written { Written (given_of s.now) (lists_of x.old) result (lists_of x.new) }
 {
     slices::fill_points(points, s);
     let layout = hang::hang(points, link, s.plan, held);
-    let w = turn::take_turns(
-        visited, link, room, ends, chain, chain_ends, chain_how, s, points, layout,
-    );
+    let w = turn::take_turns(visited, link, x, s, points, layout);
     let need = write::room_need(s.slice_at, s.plan.slices);
-    clear_rest(
-        room,
-        ends,
-        chain,
-        chain_ends,
-        chain_how,
-        w,
-        need,
-        s.plan.slices,
-    );
+    clear_rest(x, w, need, s.plan.slices);
     Stitched {
         rounds: w.rounds,
         loops: w.loops,
@@ -74,15 +53,12 @@ fn write_with(
 // The stitch with working lists for up to MOST slices: two numbers a slice for their start points, and links for so many lists of cells, a link for each list and each slice, and for each slice the last of its run.
 fn write_in<const MOST: usize, const NUMBERS: usize, const LISTS: usize, const LINKS: usize>(
     s: &Slices,
-    room: &mut [f64],
-    ends: &mut [usize],
-    chain: &mut [usize],
-    chain_ends: &mut [usize],
-    chain_how: &mut [usize],
+    x: &mut Lent,
 ) -> Stitched
     requires sized { Sized MOST NUMBERS LISTS LINKS }
-    requires few { Few MOST (given_of s.now) (lists room.old ends.old chain.old chain_ends.old chain_how.old) }
-    ensures { Written (given_of s.now) (lists room.old ends.old chain.old chain_ends.old chain_how.old) result (lists room.new ends.new chain.new chain_ends.new chain_how.new) }
+    requires few { Few MOST (given_of s.now) (lists_of x.old) }
+    ensures same { SameMemory x.old x.new }
+    ensures written { Written (given_of s.now) (lists_of x.old) result (lists_of x.new) }
 {
     let mut points = [0.0; NUMBERS];
     let mut visited = [false; MOST];
@@ -93,11 +69,7 @@ fn write_in<const MOST: usize, const NUMBERS: usize, const LISTS: usize, const L
         &mut link,
         LISTS,
         s,
-        room,
-        ends,
-        chain,
-        chain_ends,
-        chain_how,
+        x,
     )
 }
 
@@ -121,28 +93,16 @@ const MOST_LISTS: usize = 2048;
 const MOST_LINKS: usize = 5632;
 
 // Stitches the slices: the loops' vertices into `room`, each loop's end, each chain's slices, where they end and how it ended.
-pub fn write_stitch(
-    s: &Slices,
-    room: &mut [f64],
-    ends: &mut [usize],
-    chain: &mut [usize],
-    chain_ends: &mut [usize],
-    chain_how: &mut [usize],
-) -> Stitched
-    requires { StitchFit (given_of s.now) (lists room.old ends.old chain.old chain_ends.old chain_how.old) }
-    ensures { Written (given_of s.now) (lists room.old ends.old chain.old chain_ends.old chain_how.old) result (lists room.new ends.new chain.new chain_ends.new chain_how.new) }
+pub fn write_stitch(s: &Slices, x: &mut Lent) -> Stitched
+    requires { StitchFit (given_of s.now) (lists_of x.old) }
+    ensures same { SameMemory x.old x.new }
+    ensures written { Written (given_of s.now) (lists_of x.old) result (lists_of x.new) }
 {
     if s.plan.slices <= SCANNED {
-        return write_in::<SCANNED, SCANNED_NUMBERS, 0, SCANNED>(
-            s, room, ends, chain, chain_ends, chain_how,
-        );
+        return write_in::<SCANNED, SCANNED_NUMBERS, 0, SCANNED>(s, x);
     }
     if s.plan.slices <= FEW {
-        return write_in::<FEW, FEW_NUMBERS, FEW, FEW_LINKS>(
-            s, room, ends, chain, chain_ends, chain_how,
-        );
+        return write_in::<FEW, FEW_NUMBERS, FEW, FEW_LINKS>(s, x);
     }
-    write_in::<MOST_SLICES, MOST_NUMBERS, MOST_LISTS, MOST_LINKS>(
-        s, room, ends, chain, chain_ends, chain_how,
-    )
+    write_in::<MOST_SLICES, MOST_NUMBERS, MOST_LISTS, MOST_LINKS>(s, x)
 }

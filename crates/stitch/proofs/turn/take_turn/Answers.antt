@@ -3,17 +3,12 @@ use Rattle.stitch.proofs.Turning.{turn-skip, turn-behind, turn-open, turn-listed
 use borrow.Author.Rules.{rules}
 use Rattle.stitch.proofs.turn.take_turn.Goals as goal
 
-pub returns-then-visited-i : goal.returns-then-visited-i
-returns-then-visited-i c =
+pub returns-then-visited-i-clause-turned : goal.returns-then-visited-i-clause-turned
+returns-then-visited-i-clause-turned c =
     turn-skip c.requires c.if-visited-i.true
 
 pub overflow_mul-a : goal.overflow_mul-a
 overflow_mul-a c =
-    let h = turn-behind c.requires c.if-visited-i.false in
-    search rules
-
-pub offset_bounds-room-a : goal.offset_bounds-room-a
-offset_bounds-room-a c =
     let h = turn-behind c.requires c.if-visited-i.false in
     search rules
 
@@ -39,6 +34,6 @@ pub list_loop-requires : goal.list_loop-requires
 list_loop-requires c =
     turn-looped c.requires c.if-visited-i.false c.walk_chain-e.ensures
 
-pub returns : goal.returns
-returns c =
+pub returns-clause-turned : goal.returns-clause-turned
+returns-clause-turned c =
     turn-taken c.requires c.if-visited-i.false refl c.walk_chain-e.ensures c.list_chain.ensures c.list_loop.ensures

@@ -7,7 +7,7 @@ loop-i-init c = search (rules, turning)
 
 pub take_turn-w-requires : goal.take_turn-w-requires
 take_turn-w-requires c =
-    turns-turn _ _ _ _ _ _ _ _ _ _ c.loop-i.invariant c.loop-i-test.true
+    turns-turn _ _ _ _ _ _ _ _ _ _ c.loop-i.invariant.turning c.loop-i-test.true
 
 pub loop-i-preserved : goal.loop-i-preserved
 loop-i-preserved c = search (rules, turning)

@@ -12,7 +12,7 @@ room_need-need-requires c =
 
 pub clear_rest-requires : goal.clear_rest-requires
 clear_rest-requires c =
-    rest-fit _ _ _ _ _ c.requires.fit c.take_turns-w.ensures c.room_need-need.ensures
+    rest-fit _ _ _ _ _ c.requires.fit c.take_turns-w.ensures.turned c.room_need-need.ensures
 
 pub shape_of-points : goal.shape_of-points
 shape_of-points c =
@@ -22,6 +22,6 @@ pub shape_of-link : goal.shape_of-link
 shape_of-link c =
     search (rules, c.link-2-1, c.link-1)
 
-pub returns : goal.returns
-returns c =
-    written_of _ _ _ _ _ _ c.take_turns-w.ensures c.room_need-need.ensures c.clear_rest.ensures
+pub returns-clause-written : goal.returns-clause-written
+returns-clause-written c =
+    written_of _ _ _ _ _ _ c.take_turns-w.ensures.turned c.room_need-need.ensures c.clear_rest.ensures.cleared
