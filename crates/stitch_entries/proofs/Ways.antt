@@ -11,7 +11,7 @@ use lib.Ieee.{Float}
 use borrow.Author.Tests.{ltb-false, not-false}
 use Rattle.basis.specs.Sizes.{most_slices}
 use Rattle.basis.specs.Refuse.{Row, first_from, count_for}
-use Rattle.basis.specs.RefuseLaws.{Clear, clear, clear-left, clear-right, clear-from, stop-rows, go-rows, then-rows, length-ok, size_ok, choice-ok, answer-no, answer-yes}
+use Rattle.basis.specs.RefuseLaws.{Clear, clear, clear-left, clear-right, clear-from, stop-rows, go-rows, part-stops, part-passes, length-ok, size_ok, choice-ok, answer-no, answer-yes}
 use Rattle.outline.specs.Outline.{Whole}
 use Rattle.view.specs.View.{Fit}
 use Rattle.stitch_run.specs.declared.plan.Plan.{Plan}
@@ -121,9 +121,13 @@ module _ (g : Given) where
     unfolding stitch_refusal
     input-found r f h = stop-rows (input_rows g len) rest r tt f h
 
-    pub room-found : (r q p : ℕ) → p ≡ first_from 0 (input_rows g len) → p ≡ 0 → q ≡ first_from 0 (edition_part g e) → r ≡ first_from q (room_part g l) → r ≡ stitch_refusal g e l
+    pub edition-found : (r p : ℕ) → p ≡ first_from 0 (input_rows g len) → p ≡ 0 → r ≡ first_from 0 (edition_part g e) → (r ≡ 0 → ⊥) → r ≡ stitch_refusal g e l
     unfolding stitch_refusal
-    room-found r q p f z d h = go-rows (input_rows g len) rest p r tt tt f z (then-rows r q 0 (edition_part g e) (room_part g l) h d)
+    edition-found r p f z d h = go-rows (input_rows g len) rest p r tt tt f z (part-stops (edition_part g e) (room_part g l) r d h)
+
+    pub room-found : (r q p : ℕ) → p ≡ first_from 0 (input_rows g len) → p ≡ 0 → q ≡ first_from 0 (edition_part g e) → q ≡ 0 → r ≡ first_from 0 (room_part g l) → r ≡ stitch_refusal g e l
+    unfolding stitch_refusal
+    room-found r q p f z d y h = go-rows (input_rows g len) rest p r tt tt f z (part-passes (edition_part g e) (room_part g l) q d r y h)
 
   module _ (e : Editions) (x : Lists) where
     pub stitch-accepted : (number : ℕ) → number ≡ stitch_number g e x → number ≡ 0 → StitchFit g x
@@ -179,6 +183,6 @@ pub each-given : (o1 o2 : List Float) (at : List ℕ) (numbers : List Float) (p 
     → EditionsThere at l
 each-given o1 o2 at numbers p l r e z = record { each = each-there (given o1 o2 at numbers p) (length l) r e z }
 
-pub ruleset finding = (need-given, each-given, input-found, room-found)
+pub ruleset finding = (need-given, each-given, input-found, edition-found, room-found)
 
 pub ruleset ways = (stitch-accepted, stitch-refused, stitch-given)

@@ -1,18 +1,19 @@
-#![tactic(auto, unfolding(basis::specs::Refuse::first_from, basis::specs::Refuse::or_else))]
-// The refusals of a stitch by tolerances, part by part of their table. Each part goes on from what was found so far.
-ghost use Rattle.std.specs.Prelude.{◌≡◌, length};
+#![tactic(auto, using(crate::proofs::Thirds::third), unfolding(basis::specs::Refuse::first_from, basis::specs::Refuse::or_else, crate::specs::StitchRows::starts_fault))]
+// The refusals of a stitch by tolerances, part by part of their table.
+ghost use Rattle.std.specs.Prelude.{◌≡◌};
 ghost use Rattle.basis.specs.Refuse.{first_from};
 ghost use Rattle.basis.specs.Refusals.{found};
 ghost use Rattle.stitch.specs.Lent.{NeedFit};
-ghost use Rattle.stitch_faults.specs.StitchRows.{list_rows, code_rows, number_rows, starts_fault, index_rows, room_rows};
+ghost use Rattle.stitch_run.specs.Stitch.{given_of};
+ghost use Rattle.stitch_faults.specs.StitchRows.{starts_fault};
+ghost use Rattle.stitch_faults.specs.StitchTable.{list_part, code_part, number_part, index_part, room_part};
 
-use basis::number::Tolerance;
 use basis::refuse::Refusal;
 use basis::sizes::MOST_SLICES;
 use basis::{number, refuse};
 use select::class::Starts;
 use stitch::write;
-use stitch_run::plan::Plan;
+use stitch_run::plan::Slices;
 
 // How long the lent lists are.
 #[derive(Clone, Copy)]
@@ -25,78 +26,35 @@ pub struct Lengths {
 }
 
 // Number 1.
-fn lists_refused(
-    outline1: &[f64],
-    outline2: &[f64],
-    slice_at: &[usize],
-    slice: &[f64],
-    p: Plan,
-) -> Result<(), Refusal>
-    ensures { found result ≡ first_from 0 (list_rows (length outline1.now) p.vc1 (length outline2.now) p.vc2 (length slice_at.now) (length slice.now) p.slices) }
+pub fn list_refusal(s: &Slices) -> Result<(), Refusal>
+    ensures { found result ≡ first_from 0 (list_part (given_of s.now)) }
 {
-    refuse::when(refuse::bad_length(outline1.len(), 3, p.vc1), Refusal::Length)?;
-    refuse::when(refuse::bad_length(outline2.len(), 3, p.vc2), Refusal::Length)?;
-    slice::faults::list_refusal(slice_at.len(), slice.len(), p.slices)?;
+    let p = s.plan;
+    refuse::when(refuse::bad_length(s.outline1.len(), 3, p.vc1), Refusal::Length)?;
+    refuse::when(refuse::bad_length(s.outline2.len(), 3, p.vc2), Refusal::Length)?;
+    slice::faults::list_refusal(s.slice_at.len(), s.slice.len(), p.slices)?;
     refuse::when(MOST_SLICES < p.slices, Refusal::Length)
 }
 
-// The same, where nothing was found so far.
-pub fn list_refusal(
-    r: u32,
-    outline1: &[f64],
-    outline2: &[f64],
-    slice_at: &[usize],
-    slice: &[f64],
-    p: Plan,
-) -> u32
-    ensures { result ≡ first_from r (list_rows (length outline1.now) p.vc1 (length outline2.now) p.vc2 (length slice_at.now) (length slice.now) p.slices) }
-{
-    if r != 0 {
-        return r;
-    }
-    match lists_refused(outline1, outline2, slice_at, slice, p) {
-        Err(refusal) => refusal.number(),
-        Ok(()) => 0,
-    }
-}
-
 // Numbers 2 and 3.
-fn codes_refused(slice_at: &[usize], p: Plan) -> Result<(), Refusal>
-    ensures { found result ≡ first_from 0 (code_rows p.vc1 p.vc2 p.selector slice_at.now) }
+pub fn code_refusal(s: &Slices) -> Result<(), Refusal>
+    ensures { found result ≡ first_from 0 (code_part (given_of s.now)) }
 {
+    let p = s.plan;
     refuse::when(refuse::bad_size(p.vc1), Refusal::Outline)?;
     refuse::when(refuse::bad_size(p.vc2), Refusal::Outline)?;
     refuse::when(refuse::bad_choice(p.selector), Refusal::Code)?;
-    slice::faults::code_refusal(slice_at)
-}
-
-// The same, where nothing was found so far.
-pub fn code_refusal(r: u32, slice_at: &[usize], p: Plan) -> u32
-    ensures { result ≡ first_from r (code_rows p.vc1 p.vc2 p.selector slice_at.now) }
-{
-    if r != 0 {
-        return r;
-    }
-    match codes_refused(slice_at, p) {
-        Err(refusal) => refusal.number(),
-        Ok(()) => 0,
-    }
+    slice::faults::code_refusal(s.slice_at)
 }
 
 // Numbers 4 and 5.
-pub fn number_refusal(
-    r: u32,
-    t: Tolerance,
-    outline1: &[f64],
-    outline2: &[f64],
-    slice: &[f64],
-) -> u32
-    ensures { result ≡ first_from r (number_rows t outline1.now outline2.now slice.now) }
+pub fn number_refusal(s: &Slices) -> Result<(), Refusal>
+    ensures { found result ≡ first_from 0 (number_part (given_of s.now)) }
 {
-    let r = refuse::or_else(r, !number::in_tolerance(t), 4);
-    let r = refuse::or_else(r, !number::all_in_range(outline1), 5);
-    let r = refuse::or_else(r, !number::all_in_range(outline2), 5);
-    refuse::or_else(r, !number::all_in_range(slice), 5)
+    refuse::when(!number::in_tolerance(s.plan.tolerance), Refusal::Tolerance)?;
+    refuse::when(!number::all_in_range(s.outline1), Refusal::Number)?;
+    refuse::when(!number::all_in_range(s.outline2), Refusal::Number)?;
+    refuse::when(!number::all_in_range(s.slice), Refusal::Number)
 }
 
 // Number 8: the classes do not begin in order.
@@ -108,36 +66,24 @@ fn bad_starts(s: Starts, count: usize) -> bool
 }
 
 // Numbers 6, 7 and 8.
-fn indexes_refused(slice_at: &[usize], p: Plan) -> Result<(), Refusal>
-    ensures { found result ≡ first_from 0 (index_rows p.vc1 p.vc2 slice_at.now p.starts p.slices) }
+pub fn index_refusal(s: &Slices) -> Result<(), Refusal>
+    ensures { found result ≡ first_from 0 (index_part (given_of s.now)) }
 {
-    let starts = p.starts;
-    slice::faults::index_refusal(p.vc1, p.vc2, slice_at)?;
-    refuse::when(bad_starts(starts, p.slices), Refusal::Starts)
-}
-
-// The same, where nothing was found so far.
-pub fn index_refusal(r: u32, slice_at: &[usize], p: Plan) -> u32
-    ensures { result ≡ first_from r (index_rows p.vc1 p.vc2 slice_at.now p.starts p.slices) }
-{
-    if r != 0 {
-        return r;
-    }
-    match indexes_refused(slice_at, p) {
-        Err(refusal) => refusal.number(),
-        Ok(()) => 0,
-    }
+    let p = s.plan;
+    slice::faults::index_refusal(p.vc1, p.vc2, s.slice_at)?;
+    refuse::when(bad_starts(p.starts, p.slices), Refusal::Starts)
 }
 
 // Number 9.
-pub fn room_refusal(r: u32, slice_at: &[usize], slices: usize, l: Lengths) -> u32
-    requires { NeedFit slice_at.now slices }
-    ensures { result ≡ first_from r (room_rows slice_at.now slices l) }
+pub fn room_refusal(s: &Slices, l: Lengths) -> Result<(), Refusal>
+    requires { NeedFit s.now.slice_at.now s.now.plan.slices }
+    ensures { found result ≡ first_from 0 (room_part (given_of s.now) l) }
 {
-    let need = write::room_need(slice_at, slices);
-    let r = refuse::or_else(r, l.room / 3 < need, 9);
-    let r = refuse::or_else(r, l.ends < slices, 9);
-    let r = refuse::or_else(r, l.chain < slices, 9);
-    let r = refuse::or_else(r, l.chain_ends < slices, 9);
-    refuse::or_else(r, l.chain_how < slices, 9)
+    let slices = s.plan.slices;
+    let need = write::room_need(s.slice_at, slices);
+    refuse::when(l.room / 3 < need, Refusal::Room)?;
+    refuse::when(l.ends < slices, Refusal::Room)?;
+    refuse::when(l.chain < slices, Refusal::Room)?;
+    refuse::when(l.chain_ends < slices, Refusal::Room)?;
+    refuse::when(l.chain_how < slices, Refusal::Room)
 }
