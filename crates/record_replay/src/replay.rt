@@ -10,8 +10,10 @@ use record::head::Head;
 use record_form::form;
 use record_read::read;
 use slice::data::{CODE_WIDTH, SHAPE_WIDTH};
+use stitch::lent::Lent;
 use stitch_entries::answer::StitchAnswer;
 use stitch_entries::stitching;
+use stitch_run::plan::Slices;
 
 // What a replay answers: the version of its record and the counts of its stitch, or its number and nothing.
 #[repr(C)]
@@ -78,21 +80,21 @@ fn stitch_held(
     let n3 = CODE_WIDTH * p.slices;
     let n4 = SHAPE_WIDTH * p.slices;
     let n5 = p.slices;
-    stitching::stitched(
-        &o1[0..n1],
-        h.edition1,
-        &o2[0..n2],
-        h.edition2,
-        &at[0..n3],
-        &s[0..n4],
-        &dates[0..n5],
-        p,
+    let s = Slices {
+        outline1: &o1[0..n1],
+        outline2: &o2[0..n2],
+        slice_at: &at[0..n3],
+        slice: &s[0..n4],
+        plan: p,
+    };
+    let mut x = Lent {
         room,
         ends,
         chain,
         chain_ends,
         chain_how,
-    )
+    };
+    stitching::stitched(&s, h.edition1, h.edition2, &dates[0..n5], &mut x)
 }
 
 // Reads the record in `bytes` and runs its stitch in the lent lists, which are those of `mask_stitch`.

@@ -30,8 +30,14 @@ pub fn list_refusal(s: &Slices) -> Result<(), Refusal>
     ensures { found result ≡ first_from 0 (list_part (given_of s.now)) }
 {
     let p = s.plan;
-    refuse::when(refuse::bad_length(s.outline1.len(), 3, p.vc1), Refusal::Length)?;
-    refuse::when(refuse::bad_length(s.outline2.len(), 3, p.vc2), Refusal::Length)?;
+    refuse::when(
+        refuse::bad_length(s.outline1.len(), 3, p.vc1),
+        Refusal::Length,
+    )?;
+    refuse::when(
+        refuse::bad_length(s.outline2.len(), 3, p.vc2),
+        Refusal::Length,
+    )?;
     slice::faults::list_refusal(s.slice_at.len(), s.slice.len(), p.slices)?;
     refuse::when(MOST_SLICES < p.slices, Refusal::Length)
 }

@@ -1,4 +1,5 @@
 use native.Mathlib.Omega.{arith}
+use borrow.Author.Rules.{rules}
 use Rattle.record_replay.proofs.ReplayLaws.{fronts-of}
 use Rattle.record_replay.proofs.replay.stitch_held.Goals as goal
 
@@ -11,5 +12,4 @@ overflow_mul-n4 c =
     omega (arith, c.requires.shapes, c.well_formed)
 
 pub returns : goal.returns
-returns c =
-    fronts-of _ _ _ _ _ c.stitched.ensures
+returns c = search (rules, fronts-of)
