@@ -1,3 +1,4 @@
+#![tactic(auto, unfolding(crate::specs::Points::dist_squared, crate::specs::Points::points_agree, crate::specs::Points::in_box))]
 // Document 01: "A vertex is a record of x, y and bulge, all f64", and "Equal points and boxes".
 ghost use Rattle.std.specs.Prelude.{◌≡◌};
 ghost use Rattle.outline.specs.Points.{pos_of, with_bulge, dist_squared, points_agree, in_box};

@@ -1,3 +1,4 @@
+#![tactic(auto, unfolding(crate::specs::Outline::vertex_at, crate::specs::Outline::point_at))]
 // Reading an outline: three numbers a vertex, its indexes wrapped by the vertex count.
 ghost use Rattle.std.specs.Prelude.{◌≡◌};
 ghost use Rattle.outline.specs.Outline.{Triple, Turn, Near, wrap, vertex_at, outline_at, point_at, Two};

@@ -1,3 +1,4 @@
+#![tactic(auto, unfolding(crate::specs::Unmoved::same_bits, crate::specs::Unmoved::same_vertex))]
 // The vertices of one view on two outlines, number after number.
 ghost use Rattle.std.specs.Prelude.{◌≡◌};
 ghost use Rattle.unmoved.specs.Unmoved.{Numbers, Vertices, BothFit, same_bits, same_vertex, same_at, first_moved};
@@ -44,12 +45,10 @@ pub fn first_moved(outline1: &[f64], vc1: usize, outline2: &[f64], vc2: usize, v
     ensures { result ≡ first_moved outline1.now vc1 outline2.now vc2 v }
 {
     let offset = v.end_index_offset;
-    let mut k = 1;
-    while k <= offset {
+    for k in 1..offset + 1 {
         if !same_at(outline1, vc1, outline2, vc2, v, k) {
             return k;
         }
-        k += 1;
     }
     offset + 2
 }

@@ -1,3 +1,4 @@
+#![tactic(auto, unfolding(crate::specs::Validate::near_segment, crate::specs::Validate::on_segment, crate::specs::Validate::bulge_verdict, crate::specs::Validate::final_verdict, crate::specs::Validate::end_verdict, crate::specs::Validate::start_verdict, crate::specs::Validate::verdict_of, crate::specs::Validate::end_index_of))]
 // `validate_for_source`: the verdict carries what it is about. The questions come in the Rust's order, a function for each.
 ghost use Rattle.std.specs.Prelude.{◌≡◌};
 ghost use Rattle.outline.specs.Outline.{Segment};
@@ -7,7 +8,7 @@ ghost use Rattle.verdict.specs.Validate.{Asked, near_segment, on_segment, bulge_
 use basis::number;
 use basis::number::Tolerance;
 use outline::point::{Point, Vertex};
-use outline::read;
+use outline::{point, read};
 use view::create;
 use view::data::ViewData;
 
@@ -67,13 +68,12 @@ fn bulge_verdict(v: ViewData) -> ViewDataValidation
     if v.end_index_offset != 0 {
         return ViewDataValidation::IsValid;
     }
-    let first = v.updated_start;
-    if number::agrees(v.updated_end_bulge, first.bulge, VALIDATION_EPS) {
+    if number::agrees(v.updated_end_bulge, v.updated_start.bulge, VALIDATION_EPS) {
         return ViewDataValidation::IsValid;
     }
     ViewDataValidation::UpdatedBulgeDoesNotMatch {
         updated_bulge: v.updated_end_bulge,
-        expected: first.bulge,
+        expected: v.updated_start.bulge,
     }
 }
 
@@ -126,11 +126,7 @@ fn start_verdict(
     requires { Fit outline.now vc v }
     ensures { result ≡ start_verdict outline.now vc v start_on end_on }
 {
-    let first = v.updated_start;
-    let start = Point {
-        x: first.x,
-        y: first.y,
-    };
+    let start = point::pos(v.updated_start);
     if !on_segment(outline, vc, v.start_index, start, start_on) {
         return ViewDataValidation::UpdatedStartNotOnSegment { start_point: start };
     }

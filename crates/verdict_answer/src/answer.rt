@@ -1,6 +1,7 @@
+#![tactic(auto, unfolding(crate::specs::VerdictAnswers::verdict_refused, crate::specs::VerdictAnswers::verdict_given))]
 // What `mask_validate_for_source` and `mask_reopen` answer: flat structs, by value. What a verdict does not name is 0.
 ghost use Rattle.std.specs.Prelude.{◌≡◌};
-ghost use Rattle.verdict_answer.specs.VerdictAnswers.{verdict_record, verdict_refused, verdict_given, reopen_record};
+ghost use Rattle.verdict_answer.specs.VerdictAnswers.{verdict_refused, verdict_given, reopen_record};
 
 use outline::point::{Point, Vertex};
 use verdict::validate::ViewDataValidation;
@@ -34,42 +35,24 @@ pub struct ReopenAnswer {
     pub edition: u32,
 }
 
+// What an answer carries that a verdict does not name.
+const NOTHING: VerdictAnswer = VerdictAnswer {
+    refusal: 0,
+    verdict: 0,
+    offset: 0,
+    source_length: 0,
+    point: NO_POINT,
+    vertex: NO_VERTEX,
+    updated_bulge: 0.0,
+    expected: 0.0,
+};
+
 pub fn verdict_refused(number: u32) -> VerdictAnswer
     ensures { result ≡ verdict_refused number }
 {
     VerdictAnswer {
         refusal: number,
-        verdict: 0,
-        offset: 0,
-        source_length: 0,
-        point: NO_POINT,
-        vertex: NO_VERTEX,
-        updated_bulge: 0.0,
-        expected: 0.0,
-    }
-}
-
-// A verdict and all that one may carry.
-fn verdict_record(
-    verdict: u32,
-    offset: usize,
-    source_length: usize,
-    point: Point,
-    vertex: Vertex,
-    updated_bulge: f64,
-    expected: f64,
-) -> VerdictAnswer
-    ensures { result ≡ verdict_record verdict offset source_length point vertex updated_bulge expected }
-{
-    VerdictAnswer {
-        refusal: 0,
-        verdict,
-        offset,
-        source_length,
-        point,
-        vertex,
-        updated_bulge,
-        expected,
+        ..NOTHING
     }
 }
 
@@ -78,28 +61,51 @@ pub fn verdict_given(v: ViewDataValidation) -> VerdictAnswer
     ensures { result ≡ verdict_given v }
 {
     match v {
-        ViewDataValidation::SourceHasNoSegments => verdict_record(
-            1, 0, 0, NO_POINT, NO_VERTEX, 0.0, 0.0,
-        ),
+        ViewDataValidation::SourceHasNoSegments => VerdictAnswer {
+            verdict: 1,
+            ..NOTHING
+        },
         ViewDataValidation::OffsetOutOfRange {
             offset,
             source_length,
-        } => { verdict_record(2, offset, source_length, NO_POINT, NO_VERTEX, 0.0, 0.0) }
-        ViewDataValidation::UpdatedStartNotOnSegment { start_point } => {
-            verdict_record(3, 0, 0, start_point, NO_VERTEX, 0.0, 0.0)
-        }
-        ViewDataValidation::EndPointNotOnSegment { end_point } => {
-            verdict_record(4, 0, 0, end_point, NO_VERTEX, 0.0, 0.0)
-        }
+        } => VerdictAnswer {
+            verdict: 2,
+            offset,
+            source_length,
+            ..NOTHING
+        },
+        ViewDataValidation::UpdatedStartNotOnSegment { start_point } => VerdictAnswer {
+            verdict: 3,
+            point: start_point,
+            ..NOTHING
+        },
+        ViewDataValidation::EndPointNotOnSegment { end_point } => VerdictAnswer {
+            verdict: 4,
+            point: end_point,
+            ..NOTHING
+        },
         ViewDataValidation::EndPointOnFinalOffsetVertex {
-            end_point,
-            final_offset_vertex,
-        } => { verdict_record(5, 0, 0, end_point, final_offset_vertex, 0.0, 0.0) }
+            end_point: point,
+            final_offset_vertex: vertex,
+        } => VerdictAnswer {
+            verdict: 5,
+            point,
+            vertex,
+            ..NOTHING
+        },
         ViewDataValidation::UpdatedBulgeDoesNotMatch {
             updated_bulge,
             expected,
-        } => { verdict_record(6, 0, 0, NO_POINT, NO_VERTEX, updated_bulge, expected) }
-        ViewDataValidation::IsValid => verdict_record(7, 0, 0, NO_POINT, NO_VERTEX, 0.0, 0.0),
+        } => VerdictAnswer {
+            verdict: 6,
+            updated_bulge,
+            expected,
+            ..NOTHING
+        },
+        ViewDataValidation::IsValid => VerdictAnswer {
+            verdict: 7,
+            ..NOTHING
+        },
     }
 }
 
@@ -107,15 +113,13 @@ pub fn verdict_given(v: ViewDataValidation) -> VerdictAnswer
 pub fn reopen_record(a: VerdictAnswer, edition: u32) -> ReopenAnswer
     ensures { result ≡ reopen_record a edition }
 {
-    let point = a.point;
-    let vertex = a.vertex;
     ReopenAnswer {
         refusal: a.refusal,
         verdict: a.verdict,
         offset: a.offset,
         source_length: a.source_length,
-        point,
-        vertex,
+        point: a.point,
+        vertex: a.vertex,
         updated_bulge: a.updated_bulge,
         expected: a.expected,
         edition,

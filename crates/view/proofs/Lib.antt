@@ -1,3 +1,1 @@
 pub mod Listing
-pub mod CreateLaws
-pub mod ViewLaws

@@ -1,3 +1,4 @@
+#![tactic(auto, unfolding(crate::specs::Create::near_vertex, crate::specs::Create::bulge_before, crate::specs::Create::create_view, crate::specs::Create::single_view, crate::specs::Create::entire_offset, crate::specs::Create::entire_view))]
 // The constructors of a view. None looks at refusals: their callers have.
 ghost use Rattle.std.specs.Prelude.{◌≡◌, ◌≤◌};
 ghost use Rattle.outline.specs.Outline.{Whole, Near};
@@ -33,12 +34,10 @@ fn bulge_before(outline: &[f64], vc: usize, w: Walk) -> f64
     requires { WalkFit outline.now vc w }
     ensures { result ≡ bulge_before outline.now vc w }
 {
-    let first = w.updated_start;
     if w.traverse_count - 1 == 0 {
-        return first.bulge;
+        return w.updated_start.bulge;
     }
-    let v = read::outline_at(outline, vc, w.intersect_index + (vc - 1));
-    v.bulge
+    read::outline_at(outline, vc, w.intersect_index + (vc - 1)).bulge
 }
 
 // The view that walks from its start to a point on another segment, or all the way round.
@@ -46,26 +45,22 @@ pub fn create(outline: &[f64], vc: usize, w: Walk, t: Tolerance) -> ViewData
     requires { WalkFit outline.now vc w }
     ensures { result ≡ create_view outline.now vc w t }
 {
-    let first = w.updated_start;
-    let end = w.end_intersect;
-    if near_vertex(outline, vc, w.intersect_index, end, t) {
-        return ViewData {
-            start_index: w.start_index,
-            end_index_offset: w.traverse_count - 1,
-            updated_start: first,
-            updated_end_bulge: bulge_before(outline, vc, w),
-            end_point: end,
-            inverted_direction: false,
-        };
-    }
-    ViewData {
+    let between = ViewData {
         start_index: w.start_index,
         end_index_offset: w.traverse_count,
-        updated_start: first,
+        updated_start: w.updated_start,
         updated_end_bulge: w.split_bulge,
-        end_point: end,
+        end_point: w.end_intersect,
         inverted_direction: false,
+    };
+    if near_vertex(outline, vc, w.intersect_index, w.end_intersect, t) {
+        return ViewData {
+            end_index_offset: w.traverse_count - 1,
+            updated_end_bulge: bulge_before(outline, vc, w),
+            ..between
+        };
     }
+    between
 }
 
 // The view between two points of one segment, or none where both agree.
@@ -77,11 +72,7 @@ pub fn create_on_single_segment(
 ) -> Option<ViewData>
     ensures { result ≡ single_view start_index updated_start end_intersect t }
 {
-    let start = Point {
-        x: updated_start.x,
-        y: updated_start.y,
-    };
-    if point::points_agree(start, end_intersect, t) {
+    if point::points_agree(point::pos(updated_start), end_intersect, t) {
         return None;
     }
     Some(ViewData {

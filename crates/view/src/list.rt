@@ -14,9 +14,7 @@ pub fn write_vertices(outline: &[f64], vc: usize, v: ViewData, room: &mut [f64])
     ensures { room.new ≡ room_of +0 3 (vertex_count v) (view_vertices outline.now vc v) room.old }
 {
     let count = v.end_index_offset + 2;
-    let mut k = 0;
-    while k < count {
+    for k in 0..count {
         write::put_vertex(room, 3 * k, vertex::vertex_of(outline, vc, v, k));
-        k += 1;
     }
 }

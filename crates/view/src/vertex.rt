@@ -1,3 +1,4 @@
+#![tactic(auto, unfolding(crate::specs::View::forward_at, crate::specs::View::turned_at, crate::specs::View::inverted_at, crate::specs::View::vertex_of, crate::specs::View::get_vertex))]
 // The vertices of a view.
 ghost use Rattle.std.specs.Prelude.{◌≡◌, ◌+◌};
 ghost use Rattle.outline.specs.Points.{with_bulge};
@@ -39,8 +40,7 @@ fn turned(outline: &[f64], vc: usize, i: usize) -> Vertex
     requires { Near outline.now vc (i + 1) }
     ensures { result ≡ turned_at outline.now vc i }
 {
-    let before = read::outline_at(outline, vc, i);
-    bulged(outline, vc, i + 1, -before.bulge)
+    bulged(outline, vc, i + 1, -read::outline_at(outline, vc, i).bulge)
 }
 
 fn inverted(outline: &[f64], vc: usize, v: ViewData, k: usize) -> Vertex

@@ -48,12 +48,11 @@ fn once_round(outline: &[f64], vc: usize, i: usize, p: Point, t: Tolerance, s: S
     ensures { result ≡ round_view outline.now vc i p t s }
 {
     let m = span::span_of(outline, vc, round_ends(i, p), t);
-    let first = s.start_vertex;
     let w = Walk {
         start_index: m.start_index,
         end_intersect: p,
         intersect_index: m.start_index,
-        updated_start: first,
+        updated_start: s.start_vertex,
         traverse_count: vc,
         split_bulge: s.start_bulge,
     };

@@ -1,3 +1,4 @@
+#![tactic(auto, unfolding(crate::specs::SlicePoints::running_vertex, crate::specs::SlicePoints::walked_view))]
 // The view between two points of an outline: the Rust's `from_slice_points`.
 ghost use Rattle.std.specs.Prelude.{◌≡◌};
 ghost use Rattle.outline.specs.Outline.{Near};
@@ -63,16 +64,13 @@ fn walk_over(outline: &[f64], vc: usize, e: Ends, s: Span, p: Splits) -> Walk
     requires { Near outline.now vc s.start_index }
     ensures { result ≡ walk_over outline.now vc e s p }
 {
-    let first = running_vertex(outline, vc, s, p.start_vertex);
-    let end = e.end_point;
-    let part = p.end_part;
     Walk {
         start_index: s.start_index,
-        end_intersect: end,
+        end_intersect: e.end_point,
         intersect_index: e.end_index,
-        updated_start: first,
+        updated_start: running_vertex(outline, vc, s, p.start_vertex),
         traverse_count: s.traverse_count,
-        split_bulge: part.bulge,
+        split_bulge: p.end_part.bulge,
     }
 }
 

@@ -1,4 +1,4 @@
-use Prim.Native.Nat.{◌+◌, ◌-◌, ◌≤◌}
+use Prim.Native.Nat.{◌+◌, ◌≤◌}
 use mathlib.Core.Bool.{true}
 use mathlib.Core.Path.{◌≡◌}
 use Rattle.basis.specs.Each.{each_to}
@@ -7,6 +7,3 @@ use Rattle.unmoved.proofs.moved.first_moved.Given as goal
 
 abbrev pub invariant-loop-k : goal.invariant-loop-k
 invariant-loop-k l = (l.k ≤ l.offset + 1) × (each_to (same_at l.outline1 l.vc1 l.outline2 l.vc2 l.v) l.k ≡ true)
-
-abbrev pub decreases-loop-k : goal.decreases-loop-k
-decreases-loop-k l = l.offset + 1 - l.k
