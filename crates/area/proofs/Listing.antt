@@ -9,10 +9,9 @@ use native.Mathlib.Decide.{ℕ_discrete}
 use lib.ListN.{length, get_or, set, take, drop, length-append, length-set}
 use lib.Seq.{take-suc-set, take-set-le, drop-set-lt, get_or-set_same, get_or-set_other, get_or-take}
 use lib.Ieee.{Float, nan, inf, fin, neg, of_bits, lt, le}
-use mir.Syntax.{w64}
-use mir.Val.{Fits}
 use Rattle.basis.specs.All.{all-at}
-use Rattle.basis.specs.Choice.{code_of, by-test, clash}
+use Rattle.std.specs.Int.{from_bool}
+use Rattle.basis.specs.Choice.{by-test, clash}
 use Rattle.basis.specs.Number.{+0, abs_f, own_abs, finite, limit_ok}
 use Rattle.basis.specs.NumberLaws.{abs-lt}
 use Rattle.basis.specs.OrderLaws.{Finite, lt_not_le, le_total}
@@ -82,14 +81,11 @@ module _ (areas : List Float) (limit : Float) (entry : List ℕ) where
       record { roomy = r; ahead = zero-le; few = zero-le; counted = refl; front = refl; zeros = λ p a b. absurd (omega arith); beyond = refl; size = refl }
 
   module _ (kept : List ℕ) (n i : ℕ) (l : Listing areas limit entry kept n i) where
-    pub list_inside : i < length areas → i < length kept
+    list_inside : i < length areas → i < length kept
     list_inside h = omega (arith, l.size, l.roomy.fits)
 
-    pub list-room : i < length areas → n < length kept
+    list-room : i < length areas → n < length kept
     list-room h = omega (arith, l.size, l.roomy.fits, l.few)
-
-    pub list-next : i < length areas → n < length (set kept i 0)
-    list-next h = rw length-set (list-room h)
 
     pub list-comparable : i < length areas → Comparable limit (get_or areas i nan)
     list-comparable h = record { finite-area = all-at finite areas i nan l.roomy.all-finite h; good = l.roomy.good }
@@ -115,11 +111,12 @@ module _ (areas : List Float) (limit : Float) (entry : List ℕ) where
       put_front = take-set-le n kept i 0 l.few ∙ l.front
 
       -- number i is written, and counts where its loop stays
-      pub list-more : (d : ℕ) → d ≡ code_of (is_kept limit (get_or areas i nan)) → Listing areas limit entry (set (set kept i 0) n i) (n + d) (i + 1)
-      list-more d e = by-test (is_kept limit (get_or areas i nan)) yes no
+      pub list-more : (x : Bool) (d : ℕ) → x ≡ is_kept limit (get_or areas i nan) → d ≡ from_bool x → Listing areas limit entry (set (set kept i 0) n i) (n + d) (i + 1)
+      list-more x d k f = by-test (is_kept limit (get_or areas i nan)) yes no
         where
           yes : is_kept limit (get_or areas i nan) ≡ true → Listing areas limit entry put (n + d) (i + 1)
           yes t =
+              let e : d ≡ from_bool (is_kept limit (get_or areas i nan)) = (rw k at f) in
               let f = kept-yes areas limit i t in
               let g : d ≡ 1 = rw t at e in
               let m : n + d ≡ suc n = omega arith in
@@ -138,6 +135,7 @@ module _ (areas : List Float) (limit : Float) (entry : List ℕ) where
 
           no : is_kept limit (get_or areas i nan) ≡ false → Listing areas limit entry put (n + d) (i + 1)
           no t =
+              let e : d ≡ from_bool (is_kept limit (get_or areas i nan)) = (rw k at f) in
               let f = kept-no areas limit i t in
               let g : d ≡ 0 = rw t at e in
               let m : n + d ≡ n = omega arith in
@@ -152,9 +150,6 @@ module _ (areas : List Float) (limit : Float) (entry : List ℕ) where
                 beyond = put-beyond;
                 size = put-size;
               })
-
-      pub list-fits : (d : ℕ) → d ≡ code_of (is_kept limit (get_or areas i nan)) → Fits w64 (n + d)
-      list-fits d e = by-test (is_kept limit (get_or areas i nan)) (λ t. let g : d ≡ 1 = rw t at e in record { fits = omega (arith, l.few, l.roomy.few) }) (λ t. let g : d ≡ 0 = rw t at e in record { fits = omega (arith, l.few, l.roomy.few) })
 
     -- after the last loop: a list that has the numbers in front, and 0 behind them
     module _ (h : length areas ≤ i) where
@@ -189,13 +184,13 @@ module _ (areas : List Float) (limit : Float) (entry : List ℕ) where
           first : (p : ℕ) → p < n → get_or exit p 0 ≡ get_or (kept_of areas limit) p 0
           first p q = rw (← items, get_or-take)
 
-      pub list_full : n ≡ length areas → Kept areas limit entry n kept
+      pub list_full : length areas ≤ n → Kept areas limit entry n kept
       list_full e = ended kept l.size refl (λ p a b. absurd (omega arith)) l.beyond
 
-      pub list-last : (n ≡ length areas → ⊥) → n < length kept
-      list-last e = omega (arith, l.few, l.size, l.roomy.fits)
+      list-last : n < length areas → n < length kept
+      list-last e = omega (arith, l.size, l.roomy.fits)
 
-      pub list-end : (n ≡ length areas → ⊥) → Kept areas limit entry n (set kept n 0)
+      pub list-end : n < length areas → Kept areas limit entry n (set kept n 0)
       list-end e =
           let r = list-last e in
           ended (set kept n 0) (rw length-set l.size) (take-set-le n kept n 0 (omega arith)) zeros (drop-set-lt (length areas) kept n 0 (omega (arith, l.few)) ∙ l.beyond)
@@ -207,4 +202,4 @@ module _ (areas : List Float) (limit : Float) (entry : List ℕ) where
               go (yes q) = rw q (get_or-set_same kept n 0 0 (list-last e))
               go (no q) = get_or-set_other kept n p 0 0 q ∙ l.zeros p (omega arith) (omega arith)
 
-pub ruleset listing = (list-none, list_inside, list-next, list-comparable, list-more, list-fits, list_full, list-last, list-end)
+pub ruleset listing = (list-none, list-comparable, list-more, list_full, list-end)

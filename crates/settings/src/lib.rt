@@ -1,4 +1,4 @@
-#![tactic(auto)]
+#![tactic(auto, unfolding(crate::specs::Settings::lengths_fault, crate::specs::Settings::count_of, crate::specs::Settings::full, crate::specs::Settings::known, crate::specs::Settings::setting_at, crate::specs::Settings::asked_of))]
 // Request K7: settings by edition. Up to 16 settings, each with both tolerances and the area limit, in one record that is extended and never overwritten.
 //
 // The record is two lists that the host lends and keeps: how many settings there are, one number, and 48 numbers, three a setting. Every content of the two
@@ -32,11 +32,10 @@ pub fn bad_lengths(entered: &[usize], settings: &[f64]) -> bool
 pub fn count(entered: &[usize]) -> usize
     ensures { result ≡ count_of entered.now }
 {
-    if entered.len() == 0 {
-        return 0;
+    match entered.first() {
+        Some(n) => (*n).min(MOST_SETTINGS),
+        None => 0,
     }
-    let n = entered[0];
-    if n < MOST_SETTINGS { n } else { MOST_SETTINGS }
 }
 
 // Whether the record takes no further setting.
@@ -57,11 +56,7 @@ pub fn is_known(entered: &[usize], edition: usize) -> bool
 fn number_at(settings: &[f64], at: usize) -> f64
     ensures { result ≡ get_or settings.now at +0 }
 {
-    if at < settings.len() {
-        settings[at]
-    } else {
-        0.0
-    }
+    settings.get(at).copied().unwrap_or(0.0)
 }
 
 // The three numbers of setting `k`, from 0.
@@ -76,7 +71,7 @@ fn setting_at(settings: &[f64], k: usize) -> Setting
     }
 }
 
-// No setting: each of its numbers is out of range.
+// No setting: each of its numbers is out of range. No Option: a call that names a setting refuses an unknown one where number 4 stands, among its other rows.
 fn no_setting() -> Setting
     ensures { result ≡ none }
 {
@@ -91,13 +86,15 @@ fn no_setting() -> Setting
 pub fn ask(entered: &[usize], settings: &[f64], edition: usize) -> Setting
     ensures { result ≡ asked_of (held entered.now settings.now) edition }
 {
-    if !is_known(entered, edition) {
-        return no_setting();
+    if is_known(entered, edition) {
+        setting_at(settings, edition - 1)
+    } else {
+        no_setting()
     }
-    setting_at(settings, edition - 1)
 }
 
 // Writes the three numbers of setting `k`.
+#[tactic(auto, using(crate::proofs::Reading::stores))]
 fn put(settings: &mut [f64], k: usize, s: Setting)
     requires { Space settings.old k }
     ensures { settings.new ≡ written settings.old k s }
@@ -108,6 +105,7 @@ fn put(settings: &mut [f64], k: usize, s: Setting)
 }
 
 // Writes a setting after those that are there, and says under which edition.
+#[tactic(auto, unfolding(crate::specs::Settings::extended))]
 pub fn enter(entered: &mut [usize], settings: &mut [f64], s: Setting) -> usize
     requires { Open (held entered.old settings.old) }
     ensures { Entered (held entered.old settings.old) s result (held entered.new settings.new) }

@@ -1,11 +1,14 @@
+#![tactic(auto, unfolding(basis::specs::Refuse::first_of, crate::specs::SettingsEntry::enter_refusal, crate::specs::SettingsEntry::setting_ok))]
 // The entry `mask_settings_enter`.
 ghost use Rattle.std.specs.Prelude.{◌≡◌};
+ghost use Rattle.basis.specs.Refusals.{found};
 ghost use Rattle.settings.specs.Settings.{held};
 ghost use Rattle.settings_entries.specs.SettingsEntry.{setting_of, setting_ok, enter_refusal, EnterLeft};
 
 use crate::answer;
 use crate::answer::EditionAnswer;
 use basis::number::Tolerance;
+use basis::refuse::Refusal;
 use basis::{number, refuse};
 use settings::Setting;
 
@@ -20,17 +23,16 @@ fn good_setting(s: Setting) -> bool
     number::in_tolerance(t) & number::good_limit(s.area_limit)
 }
 
-fn refusal(entered: &[usize], settings: &[f64], s: Setting) -> u32
-    ensures { result ≡ enter_refusal (held entered.now settings.now) s }
+fn refusal(entered: &[usize], settings: &[f64], s: Setting) -> Result<(), Refusal>
+    ensures { found result ≡ enter_refusal (held entered.now settings.now) s }
 {
-    let full = settings::is_full(entered);
-    let good = good_setting(s);
-    let r = refuse::or_else(0, settings::bad_lengths(entered, settings), 1);
-    let r = refuse::or_else(r, full, 17);
-    refuse::or_else(r, !good, 4)
+    refuse::when(settings::bad_lengths(entered, settings), Refusal::Length)?;
+    refuse::when(settings::is_full(entered), Refusal::SettingsFull)?;
+    refuse::when(!good_setting(s), Refusal::Tolerance)
 }
 
 // A setting entered after those that are there: its edition.
+#[tactic(auto, unfolding(basis::specs::Refuse::answer, crate::specs::SettingsEntry::enter_answer, crate::specs::SettingsEntry::enter_held))]
 pub fn entry(
     entered: &mut [usize],
     settings: &mut [f64],
@@ -45,9 +47,8 @@ pub fn entry(
         tolerance_y,
         area_limit,
     };
-    let number = refusal(entered, settings, s);
-    if number != 0 {
-        return answer::edition_refused(number);
+    match refusal(entered, settings, s) {
+        Err(refusal) => answer::edition_refused(refusal.number()),
+        Ok(()) => answer::edition_given(settings::enter(entered, settings, s)),
     }
-    answer::edition_given(settings::enter(entered, settings, s))
 }

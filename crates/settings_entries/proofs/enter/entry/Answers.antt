@@ -1,12 +1,7 @@
-use Rattle.settings_entries.specs.SettingsEntryLaws.{entering}
-use borrow.Author.Rules.{rules}
+use Rattle.std.proofs.Common.{rules}
+use Rattle.basis.specs.RefusalLaws.{looks}
+use Rattle.settings_entries.specs.SettingsEntryLaws.{enter-open}
 use Rattle.settings_entries.proofs.enter.entry.Goals as goal
 
-pub returns-then-number-ne0 : goal.returns-then-number-ne0
-returns-then-number-ne0 c = search (rules, entering)
-
 pub enter-requires : goal.enter-requires
-enter-requires c = search (rules, entering)
-
-pub returns : goal.returns
-returns c = search (rules, entering)
+enter-requires c = search (rules, enter-open, looks)
