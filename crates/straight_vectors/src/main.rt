@@ -36,10 +36,9 @@ fn show(rt: &impl Print, counts: &[usize]) {
 fn tally(counts: &mut [usize], entry: usize, holds: bool) {
     words::add(counts, entry);
     words::add(counts, 4);
-    if holds {
-        return;
+    if !holds {
+        words::add(counts, 3);
     }
-    words::add(counts, 3);
 }
 
 // The front of a list, to be written.
@@ -79,12 +78,10 @@ fn replay(file: &mut File, buf: &mut [u8], counts: &mut [usize]) -> bool {
 
 // As many cases as the file's head says, and fewer where it breaks off.
 fn replay_all(file: &mut File, count: usize, buf: &mut [u8], counts: &mut [usize]) {
-    let mut k: usize = 0;
-    while k < count {
+    for _ in 0..count {
         if !replay(file, buf, counts) {
             break;
         }
-        k += 1;
     }
 }
 

@@ -1,13 +1,12 @@
 // Little-endian words of 8 bytes, and lists of counts.
-use fields::field;
 use whole::signed;
 
 // The first word, and 0 where there is none.
 fn first(s: &[u8]) -> u64 {
-    if s.len() < 8 {
-        return 0;
+    match s.first_chunk::<8>() {
+        Some(word) => u64::from_le_bytes(*word),
+        None => 0,
     }
-    field::get(s, 0, 8) as u64
 }
 
 // The words from number i on.
@@ -37,10 +36,7 @@ pub(crate) fn number(s: &[u8], i: usize) -> i64 {
 }
 
 pub(crate) fn count(counts: &[usize], i: usize) -> usize {
-    if i < counts.len() {
-        return counts[i];
-    }
-    0
+    counts.get(i).copied().unwrap_or(0)
 }
 
 pub(crate) fn put(counts: &mut [usize], i: usize, n: usize) {
@@ -52,5 +48,5 @@ pub(crate) fn put(counts: &mut [usize], i: usize, n: usize) {
 // One more at place i.
 pub(crate) fn add(counts: &mut [usize], i: usize) {
     let n = count(counts, i);
-    put(counts, i, std::num::wrapping_add_usize(n, 1));
+    put(counts, i, n.wrapping_add(1));
 }
