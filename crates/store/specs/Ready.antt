@@ -1,5 +1,5 @@
 -- What the functions over marks require and ensure.
-use Rattle.std.specs.Prelude.{ℕ, suc, ◌+◌, ◌≤◌, ◌<◌, Bool, not, cond, ◌≡◌, List, [], ◌∷◌, ◌++◌, length, get_or, set, take, drop, eqb}
+use Rattle.std.specs.Prelude.{ℕ, suc, ◌+◌, ◌≤◌, ◌<◌, Bool, false, ◌≡◌, List, [], ◌∷◌, ◌++◌, length, get_or, take, drop}
 use Rattle.store.specs.Keys.{keyed}
 use Rattle.store.specs.Marks.{most_places, mark_of, handle_of, place_of, lives_to}
 
@@ -19,15 +19,12 @@ pub record PlaceIs (m r : ℕ) : Type 0 where
 
 -- ---- the live marks, found one after the other
 
--- a table of flags, one for each number: not 0 where the number is a key of the list
-unfoldable pub told : ℕ → Bool
-told x = not (eqb x 0)
-
-abbrev pub Told : ℕ → List ℕ → (ℕ → ℕ) → List ℕ → Type 0
-Told cap flags key l = (k : ℕ) → k < cap → told (get_or flags k 0) ≡ keyed key l k
+-- a table of flags, one for each number: whether the number is a key of the list
+abbrev pub Told : ℕ → List Bool → (ℕ → ℕ) → List ℕ → Type 0
+Told cap flags key l = (k : ℕ) → k < cap → get_or flags k false ≡ keyed key l k
 
 -- the first p numbers were looked at: n live marks are put down in `order`, and their handles and places are told
-pub record Looked (held : List ℕ) (p n : ℕ) (order handles places : List ℕ) : Type 0 where
+pub record Looked (held : List ℕ) (p n : ℕ) (order : List ℕ) (handles places : List Bool) : Type 0 where
   pub fits : length held ≤ most_places
   pub least : n ≤ p
   pub rooms : length order ≡ most_places
@@ -38,42 +35,34 @@ pub record Looked (held : List ℕ) (p n : ℕ) (order handles places : List ℕ
   pub handle : Told (length held) handles handle_of (lives_to (length held) held p)
   pub place : Told (length held) places place_of (lives_to (length held) held p)
 
-pub record LookFits (held : List ℕ) (p n : ℕ) (order handles places : List ℕ) : Type 0 where
+pub record LookFits (held : List ℕ) (p n : ℕ) (order : List ℕ) (handles places : List Bool) : Type 0 where
   pub below : p < length held
   pub looked : Looked held p n order handles places
 
 -- nothing is put down, nothing told
-pub record Blank (held order handles places : List ℕ) : Type 0 where
+pub record Blank (held : List ℕ) (n : ℕ) (order : List ℕ) (handles places : List Bool) : Type 0 where
+  pub none : n ≡ 0
   pub fits : length held ≤ most_places
   pub rooms : length order ≡ most_places
   pub flags : length handles ≡ most_places
   pub spots : length places ≡ most_places
-  pub handle : (k : ℕ) → get_or handles k 0 ≡ 0
-  pub place : (k : ℕ) → get_or places k 0 ≡ 0
+  pub handle : (k : ℕ) → get_or handles k false ≡ false
+  pub place : (k : ℕ) → get_or places k false ≡ false
 
-abbrev pub LookedAll : List ℕ → ℕ → List ℕ → List ℕ → List ℕ → Type 0
+abbrev pub LookedAll : List ℕ → ℕ → List ℕ → List Bool → List Bool → Type 0
 LookedAll held n order handles places = Looked held (length held) n order handles places
 
 -- ---- marks written
 
--- n numbers of `order`, and room for them
-pub record MarksFit (held order : List ℕ) (n : ℕ) : Type 0 where
-  pub fits : n ≤ length held
+-- marks, and room for them
+pub record MarksFit (held marks : List ℕ) : Type 0 where
+  pub fits : length marks ≤ length held
   pub few : length held ≤ most_places
-  pub rooms : length order ≡ most_places
 
 -- the items stand in front, and behind them what was there
 pub record Front {A : Type 0} (items entry l : List A) (k : ℕ) : Type 0 where
   pub count : length items ≡ k
   pub is : l ≡ items ++ drop k entry
-
--- one mark more at number k, unless it has the handle h
-pub record OtherFits (held : List ℕ) (k : ℕ) : Type 0 where
-  pub below : k < length held
-
-pub record OtherPut (held : List ℕ) (k m h : ℕ) (left : List ℕ) (r : ℕ) : Type 0 where
-  pub count : r ≡ cond (eqb (handle_of m) h) k (k + 1)
-  pub is : left ≡ cond (eqb (handle_of m) h) held (set held k m)
 
 -- the marks of slices that stand at the places from k on, in turn
 unfoldable pub number_from : ℕ → List ℕ → List ℕ

@@ -1,8 +1,9 @@
+#![tactic(auto, unfolding(crate::specs::Marks::handle_of, crate::specs::Marks::place_of, crate::specs::Marks::mark_of, crate::specs::Marks::named))]
 // Marks: which are live, which handle and which place is free.
-ghost use Rattle.std.specs.Prelude.{◌≡◌, ◌+◌, length, get_or, take};
+ghost use Rattle.std.specs.Prelude.{◌≡◌, ◌+◌, false, not, length, get_or, take, position};
 ghost use Rattle.store.specs.Keys.{lowest_from, without};
 ghost use Rattle.store.specs.Marks.{mark_of, handle_of, named, filled};
-ghost use Rattle.store.specs.Ready.{Few, Low, PlaceIs, told, LookFits, Looked, Blank, LookedAll, MarksFit, OtherFits, OtherPut, number_from};
+ghost use Rattle.store.specs.Ready.{Few, Low, PlaceIs, LookFits, Looked, Blank, LookedAll, MarksFit, number_from};
 
 use crate::copies;
 use basis::room;
@@ -14,8 +15,7 @@ pub const MOST_PLACES: usize = 896;
 pub fn handle_of(m: usize) -> usize
     ensures { result ≡ handle_of m }
 {
-    let k = m % 2048;
-    if k == 0 { 0 } else { k - 1 }
+    (m % 2048).saturating_sub(1)
 }
 
 // The place that it names.
@@ -41,121 +41,113 @@ fn names(cap: usize, m: usize) -> bool
     0 < k && (k <= cap && m / 2048 < cap)
 }
 
-// Looks at number `p`, after `n` live marks. Where it is a live mark it is written to `order`, and the flags of its handle and its place are set. Says how many are live.
-fn look(
-    held: &[usize],
-    p: usize,
-    n: usize,
-    order: &mut [usize; MOST_PLACES],
-    handles: &mut [u8; MOST_PLACES],
-    places: &mut [u8; MOST_PLACES],
-) -> usize
-    requires { LookFits held.now p n order.old handles.old places.old }
-    ensures { Looked held.now (p + 1) result order.new handles.new places.new }
-{
-    let m = held[p];
-    if !names(held.len(), m) {
-        return n;
-    }
-    let h = handle_of(m);
-    let t = place_of(m);
-    if handles[h] != 0 {
-        return n;
-    }
-    if places[t] != 0 {
-        return n;
-    }
-    handles[h] = 1;
-    places[t] = 1;
-    order[n] = m;
-    n + 1
+// The live marks in the order put, `count` of them, and of each handle and each place whether one of them has it.
+#[derive(Drop)]
+pub struct Live {
+    pub order: [usize; MOST_PLACES],
+    pub handles: [bool; MOST_PLACES],
+    pub places: [bool; MOST_PLACES],
+    pub count: usize,
 }
 
-// The live marks in the order put, and the handles and the places that are taken. Says how many are live.
-pub fn live_marks(
-    held: &[usize],
-    order: &mut [usize; MOST_PLACES],
-    handles: &mut [u8; MOST_PLACES],
-    places: &mut [u8; MOST_PLACES],
-) -> usize
-    requires { Blank held.now order.old handles.old places.old }
-    ensures { LookedAll held.now result order.new handles.new places.new }
-{
-    let mut n = 0;
-    let mut p = 0;
-    while p < held.len() {
-        n = look(held, p, n, order, handles, places);
-        p += 1;
+impl Live {
+    // Nothing found yet.
+    pub const NONE: Live = Live {
+        order: [0; MOST_PLACES],
+        handles: [false; MOST_PLACES],
+        places: [false; MOST_PLACES],
+        count: 0,
+    };
+
+    // Looks at number `p`: whether it is one live mark more.
+    fn look(&mut self, held: &[usize], p: usize)
+        requires { LookFits held.now p self.old.count self.old.order self.old.handles self.old.places }
+        ensures { Looked held.now (p + 1) self.new.count self.new.order self.new.handles self.new.places }
+    {
+        let m = held[p];
+        if !names(held.len(), m) {
+            return;
+        }
+        let h = handle_of(m);
+        let t = place_of(m);
+        if self.handles[h] || self.places[t] {
+            return;
+        }
+        self.handles[h] = true;
+        self.places[t] = true;
+        self.order[self.count] = m;
+        self.count += 1;
     }
-    n
+
+    // Looks at every number of `held`, where nothing was found before.
+    pub fn find(&mut self, held: &[usize])
+        requires { Blank held.now self.old.count self.old.order self.old.handles self.old.places }
+        ensures { LookedAll held.now self.new.count self.new.order self.new.handles self.new.places }
+    {
+        for p in 0..held.len() {
+            self.look(held, p);
+        }
+    }
+
+    // The live marks.
+    pub fn marks(&self) -> &[usize]
+        requires { Few self.now.count }
+        ensures { result.now ≡ take self.now.count self.now.order }
+    {
+        &self.order[..self.count]
+    }
+}
+
+// The lowest number whose flag is not set.
+fn first_free(flags: &[bool]) -> Option<usize>
+    ensures { result ≡ position not flags.now }
+{
+    flags.iter().position(|taken| !*taken)
 }
 
 // The lowest number below `cap` whose flag is not set; `cap` where all are set.
-pub fn lowest(flags: &[u8; MOST_PLACES], cap: usize) -> usize
+pub fn lowest(flags: &[bool; MOST_PLACES], cap: usize) -> usize
     requires { Few cap }
-    ensures { result ≡ lowest_from (λ k. told (get_or flags.now k 0)) 0 cap }
+    ensures { result ≡ lowest_from (λ k. get_or flags.now k false) 0 cap }
 {
-    let mut left = cap;
-    while 0 < left {
-        let k = cap - left;
-        if flags[k] == 0 {
-            return k;
+    first_free(&flags[..cap]).unwrap_or(cap)
+}
+
+// The numbers are the marks, and zeros stand behind them.
+pub fn set_marks(held: &mut [usize], marks: &[usize])
+    requires { MarksFit held.old marks.now }
+    ensures { held.new ≡ filled 0 (length held.old) marks.now }
+{
+    copies::copy(marks, 0, held, 0, marks.len());
+    let cap = held.len();
+    room::fill(held, marks.len(), cap, 0);
+}
+
+// The numbers are the marks without that of handle `h`, and zeros stand behind them.
+pub fn set_others(held: &mut [usize], marks: &[usize], h: usize)
+    requires { MarksFit held.old marks.now }
+    ensures { held.new ≡ filled 0 (length held.old) (without handle_of marks.now h) }
+{
+    let mut k = 0;
+    for m in marks {
+        if handle_of(*m) == h {
+            continue;
         }
-        left -= 1;
-    }
-    cap
-}
-
-// The first `n` of `order` are the marks, and zeros stand behind them.
-pub fn set_marks(held: &mut [usize], order: &[usize; MOST_PLACES], n: usize)
-    requires { MarksFit held.old order.now n }
-    ensures { held.new ≡ filled 0 (length held.old) (take n order.now) }
-{
-    copies::copy_words(order, 0, held, 0, n);
-    let cap = held.len();
-    room::clear_counts(held, n, cap);
-}
-
-// Writes mark `m` as number `k`, unless it has the handle `h`. Says how many marks there are then.
-fn put_other(held: &mut [usize], k: usize, m: usize, h: usize) -> usize
-    requires { OtherFits held.old k }
-    ensures { OtherPut held.old k m h held.new result }
-{
-    if handle_of(m) == h {
-        return k;
-    }
-    held[k] = m;
-    k + 1
-}
-
-// The first `n` of `order` are the marks, except that of handle `h`, and zeros stand behind them.
-pub fn set_others(held: &mut [usize], order: &[usize; MOST_PLACES], n: usize, h: usize)
-    requires { MarksFit held.old order.now n }
-    ensures { held.new ≡ filled 0 (length held.old) (without handle_of (take n order.now) h) }
-{
-    let mut k = 0;
-    let mut i = 0;
-    while i < n {
-        let m = order[i];
-        k = put_other(held, k, m, h);
-        i += 1;
-    }
-    let cap = held.len();
-    room::clear_counts(held, k, cap);
-}
-
-// The marks are those of slices at the first `n` places, in turn, with the handles of `order`, and zeros stand behind them.
-pub fn number_marks(held: &mut [usize], order: &[usize; MOST_PLACES], n: usize)
-    requires { MarksFit held.old order.now n }
-    ensures { held.new ≡ filled 0 (length held.old) (number_from 0 (take n order.now)) }
-{
-    let mut k = 0;
-    while k < n {
-        let m = order[k];
-        let h = handle_of(m);
-        held[k] = mark_at(k, h);
+        held[k] = *m;
         k += 1;
     }
     let cap = held.len();
-    room::clear_counts(held, n, cap);
+    room::fill(held, k, cap, 0);
+}
+
+// The numbers are marks of slices at the first places, in turn, with the handles of `marks`, and zeros stand behind them.
+pub fn number_marks(held: &mut [usize], marks: &[usize])
+    requires { MarksFit held.old marks.now }
+    ensures { held.new ≡ filled 0 (length held.old) (number_from 0 marks.now) }
+{
+    for (k, m) in marks.iter().enumerate() {
+        held[k] = mark_at(k, handle_of(*m));
+    }
+    let cap = held.len();
+    room::fill(held, marks.len(), cap, 0);
 }

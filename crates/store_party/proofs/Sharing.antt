@@ -7,6 +7,7 @@ use native.Mathlib.Omega.{arith}
 use lib.ListN.{length, take, drop}
 use lib.Seq.{paste, take_all, drop-drop}
 use lib.Ieee.{Float}
+use Rattle.std.specs.Prelude.{Option}
 use Rattle.store.specs.Keys.{keyed, without}
 use Rattle.store.specs.KeysLaws.{without-most}
 use Rattle.store.specs.Slice.{Slice}
@@ -17,7 +18,6 @@ use Rattle.store.specs.Marks.{handle_of, lives_of, filled}
 use Rattle.store.specs.MarksLaws.{lives-most, length-filled}
 use Rattle.store.specs.Lists.{Lists, lists, Sized, plain_of, list_step}
 use Rattle.store.specs.Refines.{Sound, sound-put, sound-compact, alike}
-use Rattle.store_write.specs.declared.keep.Handle.{Handle}
 use Rattle.store_write.specs.Calls.{Fit, PutFits, Turned, handle_as, ReleaseFits, Released, Rooms, rooms, shown, ListFits, Listed}
 use Rattle.store_party.specs.Parties.{part_of, rejoined, party_step}
 use Rattle.store_party.specs.PartiesLaws.{part-sized}
@@ -105,7 +105,7 @@ module _ (held at : List ℕ) (shape : List Float) (edition : List ℕ) (p a a4 
   pub put-fits : (x : Slice) → PartPutFits (lists held at shape edition) p x → PutFits (lists (cut 896 a held) (cut 3584 a4 at) (cut 5376 a6 shape) (cut 896 a edition)) x
   put-fits x f = record { fit = part-fit p a a4 a6 b b4 b6 (lists held at shape edition) f.fits; whole = f.whole }
 
-  pub put-part : (x : Slice) (r : Handle) (h c : List ℕ) (s : List Float) (e : List ℕ) → PartPutFits (lists held at shape edition) p x
+  pub put-part : (x : Slice) (r : Option ℕ) (h c : List ℕ) (s : List Float) (e : List ℕ) → PartPutFits (lists held at shape edition) p x
       → Turned handle_as (list_step (length (cut 896 a held)) (lists (cut 896 a held) (cut 3584 a4 at) (cut 5376 a6 shape) (cut 896 a edition)) (put x)) r (lists h c s e)
       → Turned handle_as (party_step 896 p (lists held at shape edition) (put x)) r (lists (back 896 a held h) (back 3584 a4 at c) (back 5376 a6 shape s) (back 896 a edition e))
   put-part x r h c s e f t =

@@ -1,14 +1,14 @@
 // The calls of one party, on its half of the lists: places 0 to 895 are those of party 0, the others those of party 1.
 ghost use Rattle.std.specs.Prelude.{◌≡◌};
-ghost use Rattle.store.specs.Slice.{slice_of};
 ghost use Rattle.store.specs.Plain.{put, compact};
 ghost use Rattle.store.specs.Lists.{lists};
 ghost use Rattle.store_write.specs.Calls.{Turned, handle_as, rooms};
+ghost use Rattle.store_write.specs.Lent.{lists_of, slice_in};
 ghost use Rattle.store_party.specs.Parties.{party_step};
 ghost use Rattle.store_party.specs.Ready.{Known, Begins, PartFits, PartPutFits, PartMarksFit, PartReleased, PartListFits, PartListed};
 
 use store_write::keep;
-use store_write::keep::Handle;
+use store_write::lent::{NewSlice, Store};
 
 // Where the party's part of a list begins, of which each party has `width` elements.
 fn first_of(width: usize, party: usize) -> usize
@@ -25,14 +25,11 @@ pub fn put(
     shape: &mut [f64],
     edition: &mut [u32],
     party: usize,
-    put_at: &[usize],
-    put_shape: &[f64],
-    put_edition: u32,
-) -> Handle
-    requires { PartPutFits (lists held.old at.old shape.old edition.old) party (slice_of put_at.now put_shape.now put_edition) }
+    slice: NewSlice,
+) -> Option<usize>
+    requires { PartPutFits (lists held.old at.old shape.old edition.old) party (slice_in slice) }
     ensures { Turned handle_as
-        (party_step 896 party (lists held.old at.old shape.old edition.old)
-        (put (slice_of put_at.now put_shape.now put_edition)))
+        (party_step 896 party (lists held.old at.old shape.old edition.old) (put (slice_in slice.entry)))
         result (lists held.new at.new shape.new edition.new) }
 {
     let a = first_of(896, party);
@@ -46,9 +43,7 @@ pub fn put(
         &mut at[a4..b4],
         &mut shape[a6..b6],
         &mut edition[a..b],
-        put_at,
-        put_shape,
-        put_edition,
+        slice,
     )
 }
 
@@ -90,18 +85,15 @@ pub fn compact(
 
 // The party's live slices, in the order put. Says how many there are.
 pub fn list(
-    held: &[usize],
-    at: &[usize],
-    shape: &[f64],
-    edition: &[u32],
+    store: Store,
     party: usize,
     handles: &mut [usize],
     list_at: &mut [usize],
     list_shape: &mut [f64],
     list_edition: &mut [u32],
 ) -> usize
-    requires { PartListFits (lists held.now at.now shape.now edition.now) party (rooms handles.old list_at.old list_shape.old list_edition.old) }
-    ensures { PartListed (lists held.now at.now shape.now edition.now) party
+    requires { PartListFits (lists_of store) party (rooms handles.old list_at.old list_shape.old list_edition.old) }
+    ensures { PartListed (lists_of store.entry) party
         (rooms handles.old list_at.old list_shape.old list_edition.old)
         result (rooms handles.new list_at.new list_shape.new list_edition.new) }
 {
@@ -112,10 +104,12 @@ pub fn list(
     let a6 = first_of(5376, party);
     let b6 = a6 + 5376;
     keep::list_slices(
-        &held[a..b],
-        &at[a4..b4],
-        &shape[a6..b6],
-        &edition[a..b],
+        Store {
+            held: &store.held[a..b],
+            at: &store.at[a4..b4],
+            shape: &store.shape[a6..b6],
+            edition: &store.edition[a..b],
+        },
         handles,
         list_at,
         list_shape,

@@ -1,50 +1,56 @@
 -- What the calls are proved by.
 use mathlib.Core.Path.{◌≡◌, refl, sym, ap, ◌∙◌}
-use mathlib.Core.Bool.{true, false}
+use mathlib.Core.Bool.{Bool, true, false, not}
 use mathlib.Core.List.{List, [], ◌∷◌, ◌++◌, map, flat_map}
-use Prim.Native.Nat.{ℕ, suc, ◌+◌, ◌-◌, ◌*◌, ◌≤◌, ◌<◌}
+use Rattle.std.specs.Prelude.{Option, Some, None}
+use Prim.Native.Nat.{ℕ, zero, suc, ◌+◌, ◌*◌, ◌≤◌, ◌<◌}
 use native.Mathlib.Omega.{arith}
 use native.Mathlib.Numerals.{add-one}
-use lib.ListN.{length, get_or, set, take, drop, replicate, length-set, length-replicate}
-use lib.Seq.{paste, take-suc-set}
+use native.Mathlib.Nat.{mul-le-mul_left}
+use Rattle.std.proofs.Common.{drop-cons}
+use lib.ListN.{length, get_or, set, take, replicate, length-set, length-replicate}
+use lib.Seq.{take-suc-set, length-take-le}
 use lib.Dec.{eqb}
 use lib.Ieee.{Float}
-use borrow.Author.Tests.{eq-eqb, ne_eqb}
+use borrow.Author.Tests.{eq-eqb, ne_eqb, not-true, not-false}
 use Rattle.basis.specs.All.{All}
 use Rattle.basis.specs.Number.{+0}
 use Rattle.basis.specs.Room.{room_of}
-use Rattle.store_write.specs.declared.keep.Handle.{Handle}
-use Rattle.store_write.specs.declared.keep.Handle.TheVariants.{Given, Full}
 use Rattle.store.specs.Keys.{keyed, without, lowest_from}
 use Rattle.store.specs.KeysLaws.{lowest-same, lowest-below}
 use Rattle.store.specs.Slice.{Slice}
 use Rattle.store.specs.Plain.{put, compact}
 use Rattle.store.specs.Blocks.{block}
 use Rattle.store.specs.Marks.{most_places, mark_of, handle_of, place_of, lives_of, filled}
-use Rattle.store.specs.MarksLaws.{named-handle, named-place, Proper, lives-proper, zeros-at}
+use Rattle.store.specs.MarksLaws.{named-handle, named-place, Proper, lives-proper}
 use Rattle.store.specs.Lists.{Lists, lists, slice_at, kept_at, lives_in, plain_of, free_place, free_mark, written_at, put_in, marks_from, laid, compacted_in, list_step}
 use Rattle.store.specs.ListsLaws.{plain-length}
-use Rattle.store.specs.Ready.{Low, told, Told, LookedAll, Blank, MarksFit, number_from}
-use Rattle.store.specs.ReadyLaws.{told_none, told-some}
-use Rattle.store_gather.specs.Gather.{blocks_at, editions_at, LayFits, ShowFits, ShowHandles}
+use Rattle.store.specs.Ready.{Few, Low, Told, LookedAll, Blank, MarksFit, number_from}
+use Rattle.store_gather.specs.Gather.{blocks_at, LayFits, ShowFits, ShowHandles}
 use Rattle.store_write.specs.Calls.{Fit, PutFits, WriteFits, Wrote, Turned, handle_as, Released, rooms, shown, ListFits, Listed}
 
--- ---- before the marks are looked at: local arrays of zeros
+-- ---- before the marks are looked at: nothing is found
 
-pub blank-start : (held : List ℕ) → length held ≤ most_places → Blank held (replicate most_places 0) (replicate most_places 0) (replicate most_places 0)
+clear-at : (n k : ℕ) → ◌≡◌ {A = Bool} (get_or (replicate n false) k false) false
+clear-at zero k = refl
+clear-at (suc n) zero = refl
+clear-at (suc n) (suc k) = clear-at n k
+
+pub blank-start : (held : List ℕ) → length held ≤ most_places → Blank held 0 (replicate most_places 0) (replicate most_places false) (replicate most_places false)
 blank-start held h =
     record {
+      none = refl;
       fits = h;
       rooms = length-replicate {A = ℕ} most_places 0;
-      flags = length-replicate {A = ℕ} most_places 0;
-      spots = length-replicate {A = ℕ} most_places 0;
-      handle = zeros-at most_places;
-      place = zeros-at most_places;
+      flags = length-replicate {A = Bool} most_places false;
+      spots = length-replicate {A = Bool} most_places false;
+      handle = clear-at most_places;
+      place = clear-at most_places;
     }
 
 -- a table of flags says which numbers are free
-lowest-told : (cap : ℕ) (flags : List ℕ) (key : ℕ → ℕ) (l : List ℕ) → Told cap flags key l → lowest_from (λ k. told (get_or flags k 0)) 0 cap ≡ lowest_from (keyed key l) 0 cap
-lowest-told cap flags key l t = lowest-same (λ k. told (get_or flags k 0)) (keyed key l) 0 cap (λ j a b. t j (omega arith))
+lowest-told : (cap : ℕ) (flags : List Bool) (key : ℕ → ℕ) (l : List ℕ) → Told cap flags key l → lowest_from (λ k. get_or flags k false) 0 cap ≡ lowest_from (keyed key l) 0 cap
+lowest-told cap flags key l t = lowest-same (λ k. get_or flags k false) (keyed key l) 0 cap (λ j a b. t j (omega arith))
 
 -- the handles and the places of live marks are below cap
 places-below : (cap : ℕ) (l : List ℕ) → Proper cap l → All (λ m. place_of m < cap) l
@@ -61,22 +67,39 @@ handles-below cap (m ∷ l) h p q =
 
 -- ---- put
 
--- one mark more than the live ones
-pub put-marks : (held order handles places : List ℕ) (n m : ℕ) → LookedAll held n order handles places → (n ≡ length held → ⊥) → MarksFit held (set order n m) (n + 1)
-put-marks held order handles places n m look some =
-    let a = look.fits in
-    let b = look.least in
-    record { fits = omega (arith, some); few = a; rooms = length-set order n m ∙ look.rooms }
+-- the live marks, and with one more
+pub marks-fit : (held order marks : List ℕ) (handles places : List Bool) (n : ℕ) → LookedAll held n order handles places → marks ≡ take n order → MarksFit held marks
+marks-fit held order marks handles places n look e =
+    let a = look.least in
+    let b = look.fits in
+    let c = look.rooms in
+    let m : length marks ≡ n = ap length e ∙ length-take-le n order (omega arith) in
+    record { fits = omega arith; few = look.fits }
 
-module _ (held at : List ℕ) (shape : List Float) (edition : List ℕ) (x : Slice) (n : ℕ) (order handles places : List ℕ) (fit : PutFits (lists held at shape edition) x) (look : LookedAll held n order handles places) where
-  pub put_full : n ≡ length held → Turned handle_as (list_step (length held) (lists held at shape edition) (put x)) Full (lists held at shape edition)
+pub more-fit : (held order marks : List ℕ) (handles places : List Bool) (n m : ℕ) → LookedAll held n order handles places → (n ≡ length held → ⊥) → marks ≡ take (n + 1) (set order n m) → MarksFit held marks
+more-fit held order marks handles places n m look some e =
+    let a = look.least in
+    let b = look.fits in
+    let c = look.rooms in
+    let d = length-set order n m in
+    let k : length marks ≡ n + 1 = ap length e ∙ length-take-le (n + 1) (set order n m) (omega (arith, some)) in
+    record { fits = omega (arith, some); few = look.fits }
+
+pub few-marks : (held order : List ℕ) (handles places : List Bool) (n : ℕ) → LookedAll held n order handles places → Few n
+few-marks held order handles places n look = let a = look.least in let b = look.fits in record { most = omega arith }
+
+pub few-more : (held order : List ℕ) (handles places : List Bool) (n : ℕ) → LookedAll held n order handles places → (n ≡ length held → ⊥) → Few (n + 1)
+few-more held order handles places n look some = let a = look.least in let b = look.fits in record { most = omega (arith, some) }
+
+module _ (held at : List ℕ) (shape : List Float) (edition : List ℕ) (x : Slice) (n : ℕ) (order : List ℕ) (handles places : List Bool) (fit : PutFits (lists held at shape edition) x) (look : LookedAll held n order handles places) where
+  pub put_full : n ≡ length held → Turned handle_as (list_step (length held) (lists held at shape edition) (put x)) None (lists held at shape edition)
   unfolding list_step
   put_full e =
       let f : eqb (length (lives_in (length held) (lists held at shape edition))) (length held) ≡ true = eq-eqb _ _ (look.count ∙ e) in
       record { says = rw f; leaves = rw f }
 
-  module _ (some : n ≡ length held → ⊥) (h t : ℕ) (low-handle : h ≡ lowest_from (λ k. told (get_or handles k 0)) 0 (length held))
-      (low-place : t ≡ lowest_from (λ k. told (get_or places k 0)) 0 (length held)) where
+  module _ (some : n ≡ length held → ⊥) (h t : ℕ) (low-handle : h ≡ lowest_from (λ k. get_or handles k false) 0 (length held))
+      (low-place : t ≡ lowest_from (λ k. get_or places k false) 0 (length held)) where
     fewer : length (lives_in (length held) (lists held at shape edition)) < length held
     fewer = let a = look.count in let b = look.least in omega (arith, some)
 
@@ -107,45 +130,37 @@ module _ (held at : List ℕ) (shape : List Float) (edition : List ℕ) (x : Sli
         let d = place-below in
         record { fours = omega arith; sixes = omega arith; ones = omega arith; whole = fit.whole }
 
-    pub put-done : (m : ℕ) (held' at' : List ℕ) (shape' : List Float) (edition' : List ℕ) → m ≡ mark_of t h → held' ≡ filled 0 (length held) (take (n + 1) (set order n m))
+    pub put-done : (m : ℕ) (marks held' at' : List ℕ) (shape' : List Float) (edition' : List ℕ) → m ≡ mark_of t h → marks ≡ take (n + 1) (set order n m) → held' ≡ filled 0 (length held) marks
         → Wrote at shape edition t x at' shape' edition'
-        → Turned handle_as (list_step (length held) (lists held at shape edition) (put x)) (Given h) (lists held' at' shape' edition')
+        → Turned handle_as (list_step (length held) (lists held at shape edition) (put x)) (Some h) (lists held' at' shape' edition')
     unfolding list_step put_in written_at
-    put-done m held' at' shape' edition' e f w =
+    put-done m marks held' at' shape' edition' e d f w =
         let g : eqb (length (lives_in (length held) (lists held at shape edition))) (length held) ≡ false = ne_eqb _ _ (λ q. some (sym look.count ∙ q)) in
         let i : n < length order = let a = look.rooms in let b = put-index in omega arith in
-        let l : take (n + 1) (set order n m) ≡ lives_in (length held) (lists held at shape edition) ++ (mark_of t h ∷ [])
-        = rw (add-one n) (take-suc-set order n m i ∙ rw (look.is, e)) in
+        let l : marks ≡ lives_in (length held) (lists held at shape edition) ++ (mark_of t h ∷ [])
+        = d ∙ rw (add-one n) (take-suc-set order n m i ∙ rw (look.is, e)) in
         record {
-          says = rw g (ap {B = Handle} (λ k. Given k) is-handle);
+          says = rw g (ap {B = Option ℕ} (λ k. Some k) is-handle);
           leaves = rw g (rw (f, l, w.codes, w.numbers, w.editions, is-handle, is-place));
         }
 
-pub write_done : (at : List ℕ) (shape : List Float) (edition : List ℕ) (t : ℕ) (x : Slice) (at' : List ℕ) (shape' : List Float)
-    → at' ≡ paste at (4 * t) (drop 0 x.code) 4 → shape' ≡ paste shape (6 * t) (drop 0 x.number) 6
-    → Wrote at shape edition t x at' shape' (set edition t x.edition)
-write_done at shape edition t x at' shape' e f = record { codes = e; numbers = f; editions = refl }
-
 -- ---- release
 
-module _ (held : List ℕ) (n : ℕ) (order handles places : List ℕ) (h : ℕ) (look : LookedAll held n order handles places) where
+module _ (held : List ℕ) (n : ℕ) (order : List ℕ) (handles places : List Bool) (h : ℕ) (look : LookedAll held n order handles places) where
   pub released-far : length held ≤ h → Released held h false held
   released-far q =
       let e : keyed handle_of (lives_of (length held) held) h ≡ false = handles-below (length held) (lives_of (length held) held) h (lives-proper (length held) held (length held)) q in
       record { found = sym e; marks = rw e }
 
-  pub released-none : h < length held → get_or handles h 0 ≡ 0 → Released held h false held
+  pub released-none : h < length held → not (get_or handles h false) ≡ true → Released held h false held
   released-none q z =
-      let e : keyed handle_of (lives_of (length held) held) h ≡ false = sym (look.handle h q) ∙ told_none (get_or handles h 0) z in
+      let e : keyed handle_of (lives_of (length held) held) h ≡ false = sym (look.handle h q) ∙ not-true (get_or handles h false) z in
       record { found = sym e; marks = rw e }
 
-  pub release-marks : MarksFit held order n
-  release-marks = let a = look.least in record { fits = a; few = look.fits; rooms = look.rooms }
-
-  pub released-one : (left : List ℕ) → h < length held → (get_or handles h 0 ≡ 0 → ⊥) → left ≡ filled 0 (length held) (without handle_of (take n order) h) → Released held h true left
-  released-one left q d f =
-      let e : keyed handle_of (lives_of (length held) held) h ≡ true = sym (look.handle h q) ∙ told-some (get_or handles h 0) d in
-      record { found = sym e; marks = f ∙ rw (e, look.is) }
+  pub released-one : (marks left : List ℕ) → h < length held → not (get_or handles h false) ≡ false → marks ≡ take n order → left ≡ filled 0 (length held) (without handle_of marks h) → Released held h true left
+  released-one marks left q d m f =
+      let e : keyed handle_of (lives_of (length held) held) h ≡ true = sym (look.handle h q) ∙ not-false (get_or handles h false) d in
+      record { found = sym e; marks = f ∙ rw (e, m, look.is) }
 
 -- ---- what stands at the places of live marks is what the plain list holds
 
@@ -165,10 +180,14 @@ module _ (s : Lists) where
   numbers-kept [] = refl
   numbers-kept (m ∷ l) = ap (λ (r : List Float). block 6 s.shape (place_of m) ++ r) (numbers-kept l)
 
-  editions-kept : (l : List ℕ) → map (λ k. k.slice.edition) (map (kept_at s) l) ≡ editions_at s.edition l
-  unfolding editions_at kept_at slice_at
-  editions-kept [] = refl
-  editions-kept (m ∷ l) = ap {B = List ℕ} (λ r. get_or s.edition (place_of m) 0 ∷ r) (editions-kept l)
+  editions-kept : (n : ℕ) (l : List ℕ) → n ≤ length s.edition → All (λ m. place_of m < n) l → map (λ k. k.slice.edition) (map (kept_at s) l) ≡ blocks_at 1 s.edition l
+  unfolding flat_map blocks_at block kept_at slice_at
+  editions-kept n [] h a = refl
+  editions-kept n (m ∷ l) h a =
+      let b = a.0 in
+      let i : place_of m < length s.edition = omega arith in
+      let j : 1 * place_of m ≡ place_of m = omega arith in
+      rw (j, drop-cons s.edition (place_of m) 0 i) (ap {B = List ℕ} (λ r. get_or s.edition (place_of m) 0 ∷ r) (editions-kept n l h a.1))
 
   handles-kept : (l : List ℕ) → map (λ k. k.handle) (map (kept_at s) l) ≡ map handle_of l
   unfolding kept_at
@@ -177,28 +196,35 @@ module _ (s : Lists) where
 
 -- ---- compaction
 
-module _ (held at : List ℕ) (shape : List Float) (edition : List ℕ) (n : ℕ) (order handles places : List ℕ) (fit : Fit (lists held at shape edition)) (look : LookedAll held n order handles places) where
-  below : All (λ m. place_of m < length held) (take n order)
-  below = rw look.is (places-below (length held) (lives_in (length held) (lists held at shape edition)) (lives-proper (length held) held (length held)))
+module _ (held at : List ℕ) (shape : List Float) (edition : List ℕ) (n : ℕ) (order marks : List ℕ) (handles places : List Bool) (fit : Fit (lists held at shape edition)) (look : LookedAll held n order handles places)
+    (live : marks ≡ take n order) where
+  lives : marks ≡ lives_in (length held) (lists held at shape edition)
+  lives = live ∙ look.is
 
-  lay : {A : Type 0} (w most : ℕ) (l : List A) → length l ≡ w * length held → w * length held ≤ most → LayFits w most l order n
-  lay w most l e h =
-      let a = look.least in
-      let b = look.fits in
-      record { many = length held; width = e; small = h; few = a; rooms = look.rooms; fits = omega arith; below = below }
+  below : All (λ m. place_of m < length held) marks
+  below = rw lives (places-below (length held) (lives_in (length held) (lists held at shape edition)) (lives-proper (length held) held (length held)))
 
-  pub lay-codes : LayFits 4 (4 * most_places) at order n
+  fewer-marks : length marks ≤ length held
+  fewer-marks = (marks-fit held order marks handles places n look live).fits
+
+  lay : {A : Type 0} (w most : ℕ) (l : List A) → length l ≡ w * length held → w * length held ≤ most → LayFits w most l marks
+  lay w most l e h = record { many = length held; width = e; small = h; few = fewer-marks; below = below }
+
+  pub lay-codes : LayFits 4 (4 * most_places) at marks
   lay-codes = let a = look.fits in lay 4 (4 * most_places) at fit.sized.fours (omega arith)
 
-  pub lay-numbers : LayFits 6 (6 * most_places) shape order n
+  pub lay-numbers : LayFits 6 (6 * most_places) shape marks
   lay-numbers = let a = look.fits in lay 6 (6 * most_places) shape fit.sized.sixes (omega arith)
 
-  pub lay-editions : LayFits 1 most_places edition order n
+  pub lay-editions : LayFits 1 most_places edition marks
   lay-editions = let a = look.fits in let b = fit.sized.ones in lay 1 most_places edition (omega arith) (omega arith)
 
-  pub compact-done : (held' at' : List ℕ) (shape' : List Float) (edition' : List ℕ) → at' ≡ filled 0 (length at) (blocks_at 4 at (take n order))
-      → shape' ≡ filled +0 (length shape) (blocks_at 6 shape (take n order)) → edition' ≡ filled 0 (length edition) (editions_at edition (take n order))
-      → held' ≡ filled 0 (length held) (number_from 0 (take n order))
+  ones : map (λ k. k.slice.edition) (map (kept_at (lists held at shape edition)) (lives_in (length held) (lists held at shape edition))) ≡ blocks_at 1 edition (lives_in (length held) (lists held at shape edition))
+  ones = let b = fit.sized.ones in editions-kept (lists held at shape edition) (length held) (lives_in (length held) (lists held at shape edition)) (omega arith) (rw lives at below)
+
+  pub compact-done : (held' at' : List ℕ) (shape' : List Float) (edition' : List ℕ) → at' ≡ filled 0 (length at) (blocks_at 4 at marks)
+      → shape' ≡ filled +0 (length shape) (blocks_at 6 shape marks) → edition' ≡ filled 0 (length edition) (blocks_at 1 edition marks)
+      → held' ≡ filled 0 (length held) (number_from 0 marks)
       → lists held' at' shape' edition' ≡ (list_step (length held) (lists held at shape edition) compact).left
   unfolding list_step compacted_in laid plain_of
   compact-done held' at' shape' edition' a b c d =
@@ -206,12 +232,12 @@ module _ (held at : List ℕ) (shape : List Float) (edition : List ℕ) (n : ℕ
         marks-kept (lists held at shape edition) 0 (lives_in (length held) (lists held at shape edition)),
         codes-kept (lists held at shape edition) (lives_in (length held) (lists held at shape edition)),
         numbers-kept (lists held at shape edition) (lives_in (length held) (lists held at shape edition)),
-        editions-kept (lists held at shape edition) (lives_in (length held) (lists held at shape edition)),
+        ones,
         a,
         b,
         c,
         d,
-        look.is,
+        lives,
         fit.sized.fours,
         fit.sized.sixes,
         fit.sized.ones,
@@ -219,46 +245,47 @@ module _ (held at : List ℕ) (shape : List Float) (edition : List ℕ) (n : ℕ
 
 -- ---- the list
 
-module _ (held at : List ℕ) (shape : List Float) (edition : List ℕ) (rh ra : List ℕ) (rs : List Float) (re : List ℕ) (n : ℕ) (order handles places : List ℕ) (fit : ListFits (lists held at shape edition) (rooms rh ra rs re)) (look : LookedAll held n order handles places) where
-  under : All (λ m. place_of m < length held) (take n order)
-  under = below held at shape edition n order handles places fit.fit look
+module _ (held at : List ℕ) (shape : List Float) (edition : List ℕ) (rh ra : List ℕ) (rs : List Float) (re : List ℕ) (n : ℕ) (order marks : List ℕ) (handles places : List Bool) (fit : ListFits (lists held at shape edition) (rooms rh ra rs re))
+    (look : LookedAll held n order handles places) (live : marks ≡ take n order) where
+  live-is : marks ≡ lives_in (length held) (lists held at shape edition)
+  live-is = lives held at shape edition n order marks handles places fit.fit look live
 
-  show : {A B : Type 0} (w : ℕ) (src : List A) (dst : List B) → length src ≡ w * length held → w * n ≤ length dst → w * length held ≤ length dst → ShowFits w (length held) src order n dst
-  show w src dst e r q =
-      let a = look.least in
-      let b = look.fits in
+  under : All (λ m. place_of m < length held) marks
+  under = below held at shape edition n order marks handles places fit.fit look live
+
+  listed-few : length marks ≤ length held
+  listed-few = fewer-marks held at shape edition n order marks handles places fit.fit look live
+
+  show : {A B : Type 0} (w : ℕ) (src : List A) (dst : List B) → length src ≡ w * length held → w * length held ≤ length dst → ShowFits w (length held) src marks dst
+  show w src dst e q =
+      let a = mul-le-mul_left w listed-few in
       record {
-        gather = record { many = length held; width = omega arith; few = omega arith; rooms = look.rooms; below = under; room = r };
-        least = a;
+        gather = record { many = length held; width = omega arith; below = under; room = omega arith };
+        least = listed-few;
         room = q;
       }
 
-  pub show-handles : ShowHandles (length held) order n rh
-  show-handles =
-      let a = look.least in
-      let b = look.fits in
-      let c = fit.room.ones in
-      record { few = omega arith; rooms = look.rooms; least = a; room = c }
+  pub show-handles : ShowHandles (length held) marks rh
+  show-handles = record { least = listed-few; room = fit.room.ones }
 
-  pub show-codes : ShowFits 4 (length held) at order n ra
-  show-codes = let a = look.least in let c = fit.room.fours in show 4 at ra fit.fit.sized.fours (omega arith) c
+  pub show-codes : ShowFits 4 (length held) at marks ra
+  show-codes = show 4 at ra fit.fit.sized.fours fit.room.fours
 
-  pub show-numbers : ShowFits 6 (length held) shape order n rs
-  show-numbers = let a = look.least in let c = fit.room.sixes in show 6 shape rs fit.fit.sized.sixes (omega arith) c
+  pub show-numbers : ShowFits 6 (length held) shape marks rs
+  show-numbers = show 6 shape rs fit.fit.sized.sixes fit.room.sixes
 
-  pub show-editions : ShowFits 1 (length held) edition order n re
+  pub show-editions : ShowFits 1 (length held) edition marks re
   show-editions =
-      let a = look.least in
       let b = fit.fit.sized.ones in
       let c = fit.room.editions in
-      show 1 edition re (omega arith) (omega arith) (omega arith)
+      show 1 edition re (omega arith) (omega arith)
 
-  pub list_done : (handles' at' : List ℕ) (shape' : List Float) (edition' : List ℕ) → handles' ≡ room_of 0 1 (length held) (map handle_of (take n order)) rh
-      → at' ≡ room_of 0 4 (length held) (blocks_at 4 at (take n order)) ra
-      → shape' ≡ room_of +0 6 (length held) (blocks_at 6 shape (take n order)) rs
-      → edition' ≡ room_of 0 1 (length held) (editions_at edition (take n order)) re
+  pub list-done : (handles' at' : List ℕ) (shape' : List Float) (edition' : List ℕ) → handles' ≡ room_of 0 1 (length held) (map handle_of marks) rh
+      → at' ≡ room_of 0 4 (length held) (blocks_at 4 at marks) ra
+      → shape' ≡ room_of +0 6 (length held) (blocks_at 6 shape marks) rs
+      → edition' ≡ room_of 0 1 (length held) (blocks_at 1 edition marks) re
       → Listed (lists held at shape edition) (rooms rh ra rs re) n (rooms handles' at' shape' edition')
-  list_done handles' at' shape' edition' a b c d = record { count = sym (plain-length (length held) (lists held at shape edition) ∙ look.count); shows = same }
+  list-done handles' at' shape' edition' a b c d = record { count = sym (plain-length (length held) (lists held at shape edition) ∙ look.count); shows = same }
     where
       same : rooms handles' at' shape' edition' ≡ shown (length held) (plain_of (length held) (lists held at shape edition)) (rooms rh ra rs re)
       same =
@@ -267,10 +294,10 @@ module _ (held at : List ℕ) (shape : List Float) (edition : List ℕ) (rh ra :
             handles-kept (lists held at shape edition) (lives_in (length held) (lists held at shape edition)),
             codes-kept (lists held at shape edition) (lives_in (length held) (lists held at shape edition)),
             numbers-kept (lists held at shape edition) (lives_in (length held) (lists held at shape edition)),
-            editions-kept (lists held at shape edition) (lives_in (length held) (lists held at shape edition)),
+            ones held at shape edition n order marks handles places fit.fit look live,
             a,
             b,
             c,
             d,
-            look.is,
+            live-is,
           )

@@ -1,11 +1,9 @@
 -- What the calls on a store require and ensure.
-use Rattle.std.specs.Prelude.{ℕ, ◌+◌, ◌*◌, ◌≤◌, ◌<◌, Bool, cond, ◌≡◌, length, set, Float}
+use Rattle.std.specs.Prelude.{ℕ, ◌+◌, ◌*◌, ◌≤◌, ◌<◌, Bool, cond, ◌≡◌, length, set, Float, Option, Some, None}
 use mathlib.Core.List.{List, map, flat_map}
 use Rattle.std.proofs.Math.Seq.{paste}
 use Rattle.basis.specs.Number.{+0}
 use Rattle.basis.specs.Room.{room_of}
-use Rattle.store_write.specs.declared.keep.Handle.{Handle}
-use Rattle.store_write.specs.declared.keep.Handle.TheVariants.{Given, Full}
 use Rattle.store.specs.Keys.{keyed, without}
 use Rattle.basis.specs.Machine.{Turn}
 use Rattle.store.specs.Slice.{Slice, Whole}
@@ -39,11 +37,12 @@ pub record Turned {R : Type 0} (f : Answer Slice → R) (t : Turn Lists (Answer 
   pub says : r ≡ f t.answer
   pub leaves : left ≡ t.left
 
-abbrev pub handle_as : Answer Slice → Handle
-handle_as (refused n) = Full
-handle_as (given h) = Given h
-handle_as done = Full
-handle_as (listed l) = Full
+-- the handle given; none where the store is full
+abbrev pub handle_as : Answer Slice → Option ℕ
+handle_as (refused n) = None
+handle_as (given h) = Some h
+handle_as done = None
+handle_as (listed l) = None
 
 -- marks of the most places at most
 pub record ReleaseFits (held : List ℕ) : Type 0 where

@@ -1,12 +1,9 @@
-use Rattle.store.proofs.Looking.{handle-low-enough, numbering-none, numbering-more, numbering-end}
-use borrow.Author.Rules.{rules}
+use Rattle.std.proofs.Common.{rules}
+use Rattle.store.proofs.Looking.{numbering-none, numbering-more, numbering-end}
 use Rattle.store.proofs.marks.number_marks.Goals as goal
 
 pub loop-k-init : goal.loop-k-init
-loop-k-init c = numbering-none _ _ _ (search rules)
-
-pub mark_at-requires : goal.mark_at-requires
-mark_at-requires c = search (rules, handle-low-enough)
+loop-k-init c = search (rules, numbering-none)
 
 pub loop-k-preserved : goal.loop-k-preserved
 loop-k-preserved c = search (rules, numbering-more)

@@ -1,21 +1,18 @@
-use Rattle.store_write.proofs.Calling.{blank-start, release-marks, lay-codes, lay-numbers, lay-editions, compact-done}
-use borrow.Author.Rules.{rules}
+use Rattle.std.proofs.Common.{rules}
+use Rattle.store_write.proofs.Calling.{blank-start, lay-codes, lay-numbers, lay-editions, compact-done}
 use Rattle.store_write.proofs.keep.compact_slices.Goals as goal
 
-pub live_marks-n-requires : goal.live_marks-n-requires
-live_marks-n-requires c = blank-start _ (search rules)
+pub find-requires : goal.find-requires
+find-requires c = blank-start _ (search rules)
 
 pub lay_codes-requires : goal.lay_codes-requires
-lay_codes-requires c = search lay-codes
+lay_codes-requires c = search (rules, lay-codes)
 
 pub lay_numbers-requires : goal.lay_numbers-requires
-lay_numbers-requires c = search lay-numbers
+lay_numbers-requires c = search (rules, lay-numbers)
 
 pub lay_editions-requires : goal.lay_editions-requires
-lay_editions-requires c = search lay-editions
-
-pub number_marks-requires : goal.number_marks-requires
-number_marks-requires c = search release-marks
+lay_editions-requires c = search (rules, lay-editions)
 
 pub returns : goal.returns
-returns c = search compact-done
+returns c = search (rules, compact-done)

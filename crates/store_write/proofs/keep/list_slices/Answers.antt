@@ -1,23 +1,18 @@
-use Rattle.store_write.proofs.Calling.{blank-start, show-handles, show-codes, show-numbers, show-editions, list_done}
-use borrow.Author.Rules.{rules}
+use Rattle.std.proofs.Common.{rules}
+use Rattle.store_write.proofs.Calling.{blank-start, show-codes, show-numbers, show-editions, list-done}
 use Rattle.store_write.proofs.keep.list_slices.Goals as goal
 
-pub live_marks-n-requires : goal.live_marks-n-requires
-live_marks-n-requires c = blank-start _ (search rules)
+pub find-requires : goal.find-requires
+find-requires c = blank-start _ (search rules)
 
-pub show_handles-requires : goal.show_handles-requires
-show_handles-requires c = search show-handles
+pub show-requires : goal.show-requires
+show-requires c = search (rules, show-codes)
 
-pub show_codes-requires : goal.show_codes-requires
-show_codes-requires c = search show-codes
+pub show-requires-2 : goal.show-requires-2
+show-requires-2 c = search (rules, show-numbers)
 
-pub show_numbers-requires : goal.show_numbers-requires
-show_numbers-requires c = search show-numbers
-
-pub show_editions-requires : goal.show_editions-requires
-show_editions-requires c = search show-editions
+pub show-requires-3 : goal.show-requires-3
+show-requires-3 c = search (rules, show-editions)
 
 pub returns : goal.returns
-returns c =
-    list_done _ _ _ _ _ _ _ _ _ _ _ _ c.requires c.live_marks-n.ensures _ _ _ _
-    c.show_handles.ensures c.show_codes.ensures c.show_numbers.ensures c.show_editions.ensures
+returns c = search (rules, list-done)

@@ -1,24 +1,18 @@
-use Rattle.store_write.proofs.Calling.{blank-start, put_full, put_low, put-index, put-marks, put-write, put-done}
-use borrow.Author.Rules.{rules}
+use Rattle.std.proofs.Common.{rules}
+use Rattle.store_write.proofs.Calling.{blank-start, put_full, put_low, put-write, put-done}
 use Rattle.store_write.proofs.keep.put_slice.Goals as goal
 
-pub live_marks-n-requires : goal.live_marks-n-requires
-live_marks-n-requires c = blank-start _ (search rules)
+pub find-requires : goal.find-requires
+find-requires c = blank-start _ (search rules)
 
-pub returns-then-n-cap : goal.returns-then-n-cap
-returns-then-n-cap c = search put_full
+pub returns-then-live-cap : goal.returns-then-live-cap
+returns-then-live-cap c = search (rules, put_full)
 
 pub mark_at-requires : goal.mark_at-requires
-mark_at-requires c = search put_low
-
-pub bounds-order-n : goal.bounds-order-n
-bounds-order-n c = search (rules, put-index)
-
-pub set_marks-requires : goal.set_marks-requires
-set_marks-requires c = search put-marks
+mark_at-requires c = search (rules, put_low)
 
 pub write_slice-requires : goal.write_slice-requires
-write_slice-requires c = search put-write
+write_slice-requires c = search (rules, put-write)
 
 pub returns : goal.returns
-returns c = search put-done
+returns c = search (rules, put-done)
