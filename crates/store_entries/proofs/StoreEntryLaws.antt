@@ -1,6 +1,6 @@
 -- What the store's entries are proved by: acceptance, and the ways out.
 use Prim.Native.Nat.{ℕ, ◌≤◌, ◌<◌}
-use mathlib.Core.Bool.{Bool, true, false}
+use mathlib.Core.Bool.{Bool, true}
 use mathlib.Core.Path.{◌≡◌, refl, sym, ap, ◌∙◌}
 use mathlib.Core.List.{List, [], ◌++◌}
 use native.Mathlib.Omega.{arith}
@@ -11,10 +11,9 @@ use borrow.Author.Tests.{ltb-false}
 use Rattle.basis.specs.declared.answer.CountAnswer.{CountAnswer}
 use Rattle.basis.specs.Answers.{count_refused, counted}
 use Rattle.basis.specs.Choice.{by-test}
-use Rattle.basis.specs.Refuse.{Row, first_from, answer}
-use Rattle.basis.specs.RefuseLaws.{numbered, Clear, clear, clear-left, clear-right, none-clear, first-from, then-rows, answer-no, answer-yes}
-use Rattle.store_write.specs.declared.keep.Handle.{Handle}
-use Rattle.store_write.specs.declared.keep.Handle.TheVariants.{Given, Full}
+use Rattle.basis.specs.Refuse.{Row, first_from}
+use Rattle.basis.specs.RefuseLaws.{numbered, Clear, clear, clear-left, clear-right, none-clear, go-rows, part-stops, answer-no, answer-yes}
+use Rattle.std.specs.Prelude.{Option}
 use Rattle.store.specs.Keys.{keyed}
 use Rattle.basis.specs.Machine.{Turn, turn}
 use Rattle.store.specs.Slice.{Slice, slice_of}
@@ -28,24 +27,10 @@ use Rattle.store_party.specs.Ready.{share, PartFits, PartPutFits, PartMarksFit, 
 use Rattle.store_party.specs.PartiesLaws.{released-left}
 use Rattle.store_entries.specs.declared.answer.HandleAnswer.{HandleAnswer}
 use Rattle.store_entries.specs.declared.answer.DoneAnswer.{DoneAnswer}
-use Rattle.store_entries.specs.Answers.{handle_refused, handle_given, handle_from, handle_answer, done_refused, done_from, done_answer}
+use Rattle.store_entries.specs.Answers.{handle_refused, handle_from, handle_answer, done_refused, done_from, done_answer}
 use Rattle.store_entries.specs.StoreRows.{slice_rows, room_rows, party_rows}
 use Rattle.store_entries.specs.StoreEntry.{to_put, to_release, to_list, to_compact, call_of, own_rows, Called, called, lists_rows, call_rows, call_refusal, store_turn, StoreLeft, shown_by, list_turn, ListLeft}
 use Rattle.store_entries.specs.StoreTheorems.{clear-lists, slice-whole}
-
--- ---- what the functions that make answers return
-
-pub handle-given : (p : Handle) (h : ℕ) → p ≡ Given h → handle_given h ≡ handle_from p
-handle-given p h e = rw e
-
-pub handle-full : (p : Handle) → p ≡ Full → handle_refused 20 ≡ handle_from p
-handle-full p e = rw e
-
-pub done-yes : (b : Bool) → b ≡ true → done_refused 0 ≡ done_from b
-done-yes b e = rw e
-
-pub done-no : (b : Bool) → b ≡ false → done_refused 21 ≡ done_from b
-done-no b e = rw e
 
 -- ---- a call that is refused, and one that is not
 
@@ -83,16 +68,14 @@ part-fits w q rows c =
       known = known-party q (clear-right rows (party_rows q) (clear-right (lists_rows w) (rows ++ party_rows q) c));
     }
 
--- the number, found part by part
-number_of : (w : Lists) (v : Called) (rows : List Row) → own_rows share v.asked ≡ rows → T (numbered (lists_rows w ++ (rows ++ party_rows v.party))) → (p₁ p₂ n : ℕ)
-    → p₁ ≡ first_from 0 (lists_rows w) → p₂ ≡ first_from p₁ rows → n ≡ first_from p₂ (party_rows v.party) → n ≡ call_refusal w v
-unfolding call_refusal call_rows
-number_of w v rows o t p₁ p₂ n e f g =
-    rw o
-    (first-from (lists_rows w ++ (rows ++ party_rows v.party)) n t
-    (then-rows n p₁ 0 (lists_rows w) (rows ++ party_rows v.party) (then-rows n p₂ p₁ rows (party_rows v.party) g f) e))
+-- lists of the right lengths, and a slice that is refused
+pub put-stops : (w : Lists) (x : Slice) (q p k n : ℕ) → p ≡ first_from 0 (lists_rows w) → p ≡ 0 → k ≡ first_from 0 (slice_rows x.code x.number) → (k ≡ 0 → ⊥) → n ≡ k
+    → n ≡ call_refusal w (called q (to_put x))
+unfolding call_refusal call_rows own_rows
+put-stops w x q p k n e z f h i =
+    i ∙ go-rows (lists_rows w) (slice_rows x.code x.number ++ party_rows q) p k tt tt e z (part-stops (slice_rows x.code x.number) (party_rows q) k f h)
 
--- and where it is 0, no row's fault is there
+-- where the number is 0, no row's fault is there
 number-clear : (w : Lists) (v : Called) (rows : List Row) → own_rows share v.asked ≡ rows → T (numbered (lists_rows w ++ (rows ++ party_rows v.party))) → (n : ℕ)
     → n ≡ call_refusal w v → n ≡ 0 → Clear (lists_rows w ++ (rows ++ party_rows v.party))
 unfolding call_refusal call_rows
@@ -102,12 +85,7 @@ number-clear w v rows o t n e z = clear (lists_rows w ++ (rows ++ party_rows v.p
 
 module _ (held at : List ℕ) (shape : List Float) (edition : List ℕ) where
   -- ---- put
-  module _ (c : List ℕ) (m : List Float) (d q p₁ p₂ n : ℕ) (e : p₁ ≡ first_from 0 (lists_rows (lists held at shape edition)))
-      (f : p₂ ≡ first_from p₁ (slice_rows c m)) (g : n ≡ first_from p₂ (party_rows q)) where
-    put-number : n ≡ call_refusal (lists held at shape edition) (called q (to_put (slice_of c m d)))
-    unfolding own_rows
-    put-number = number_of (lists held at shape edition) (called q (to_put (slice_of c m d))) (slice_rows c m) refl tt p₁ p₂ n e f g
-
+  module _ (c : List ℕ) (m : List Float) (d q n : ℕ) (put-number : n ≡ call_refusal (lists held at shape edition) (called q (to_put (slice_of c m d)))) where
     pub put_refused : (r : HandleAnswer) → (n ≡ 0 → ⊥) → r ≡ handle_refused n
         → StoreLeft handle_answer (lists held at shape edition) (called q (to_put (slice_of c m d))) r (lists held at shape edition)
     put_refused r h k = left-refused handle_answer (lists held at shape edition) (called q (to_put (slice_of c m d))) n r put-number h k
@@ -124,7 +102,7 @@ module _ (held at : List ℕ) (shape : List Float) (edition : List ℕ) where
               (none-clear (slice_rows c m) (clear-left (slice_rows c m) (party_rows q) (clear-right (lists_rows (lists held at shape edition)) (slice_rows c m ++ party_rows q) (put-clear z))));
         }
 
-    pub put-given : (h : Handle) (r : HandleAnswer) (left : Lists) → n ≡ 0 → Turned handle_as (party_step share q (lists held at shape edition) (put (slice_of c m d))) h left → r ≡ handle_from h
+    pub put-given : (h : Option ℕ) (r : HandleAnswer) (left : Lists) → n ≡ 0 → Turned handle_as (party_step share q (lists held at shape edition) (put (slice_of c m d))) h left → r ≡ handle_from h
         → StoreLeft handle_answer (lists held at shape edition) (called q (to_put (slice_of c m d))) r left
     put-given h r left z t k = left-given handle_answer (lists held at shape edition) (called q (to_put (slice_of c m d))) n r left put-number z (k ∙ said) left_is
       where
@@ -141,14 +119,10 @@ module _ (held at : List ℕ) (shape : List Float) (edition : List ℕ) where
         left_is = unfold call_of in t.leaves
 
   -- ---- release and compaction: no rows of their own
-  module _ (q p n : ℕ) (e : p ≡ first_from 0 (lists_rows (lists held at shape edition))) (g : n ≡ first_from p (party_rows q)) where
+  module _ (q n : ℕ) (compact-number : n ≡ call_refusal (lists held at shape edition) (called q to_compact)) where
     release-number : (k : ℕ) → n ≡ call_refusal (lists held at shape edition) (called q (to_release k))
-    unfolding own_rows first_from
-    release-number k = number_of (lists held at shape edition) (called q (to_release k)) [] refl tt p p n e refl g
-
-    compact-number : n ≡ call_refusal (lists held at shape edition) (called q to_compact)
-    unfolding own_rows first_from
-    compact-number = number_of (lists held at shape edition) (called q to_compact) [] refl tt p p n e refl g
+    unfolding call_refusal call_rows own_rows
+    release-number k = compact-number
 
     fits_both : n ≡ 0 → PartFits (lists held at shape edition) q
     unfolding own_rows
@@ -191,13 +165,7 @@ module _ (held at : List ℕ) (shape : List Float) (edition : List ℕ) where
         left_is = unfold call_of in t
 
   -- ---- the list
-  module _ (rh ra : List ℕ) (rs : List Float) (rd : List ℕ) (q p₁ p₂ n : ℕ) (e : p₁ ≡ first_from 0 (lists_rows (lists held at shape edition)))
-      (f : p₂ ≡ first_from p₁ (room_rows share (length rh) (length ra) (length rs) (length rd))) (g : n ≡ first_from p₂ (party_rows q)) where
-    list-number : n ≡ call_refusal (lists held at shape edition) (called q (to_list (length rh) (length ra) (length rs) (length rd)))
-    unfolding own_rows
-    list-number =
-        number_of (lists held at shape edition) (called q (to_list (length rh) (length ra) (length rs) (length rd))) (room_rows share (length rh) (length ra) (length rs) (length rd)) refl tt p₁ p₂ n e f g
-
+  module _ (rh ra : List ℕ) (rs : List Float) (rd : List ℕ) (q n : ℕ) (list-number : n ≡ call_refusal (lists held at shape edition) (called q (to_list (length rh) (length ra) (length rs) (length rd)))) where
     pub list-refused : (r : CountAnswer) → (n ≡ 0 → ⊥) → r ≡ count_refused n → ListLeft (lists held at shape edition) q (rooms rh ra rs rd) r (rooms rh ra rs rd)
     unfolding shown_by
     list-refused r h x =

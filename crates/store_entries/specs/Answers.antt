@@ -1,9 +1,7 @@
 -- The flat answers of the store's entries. Fields that an answer does not name are 0.
-use Rattle.std.specs.Prelude.{ℕ, Bool, true, false, length}
+use Rattle.std.specs.Prelude.{ℕ, Bool, true, false, Option, Some, None, length}
 use Rattle.basis.specs.declared.answer.CountAnswer.{CountAnswer}
 use Rattle.basis.specs.Answers.{count_refused, counted}
-use Rattle.store_write.specs.declared.keep.Handle.{Handle}
-use Rattle.store_write.specs.declared.keep.Handle.TheVariants.{Given, Full}
 use Rattle.store.specs.Slice.{Slice}
 use Rattle.store.specs.Plain.{Answer, refused, given, done, listed}
 use Rattle.store_entries.specs.declared.answer.HandleAnswer.{HandleAnswer}
@@ -20,9 +18,9 @@ abbrev pub done_refused : ℕ → DoneAnswer
 done_refused n = record { refusal = n }
 
 -- "20 store full"
-abbrev pub handle_from : Handle → HandleAnswer
-handle_from (Given h) = handle_given h
-handle_from Full = handle_refused 20
+abbrev pub handle_from : Option ℕ → HandleAnswer
+handle_from (Some h) = handle_given h
+handle_from None = handle_refused 20
 
 -- "21 no such handle"
 abbrev pub done_from : Bool → DoneAnswer

@@ -1,7 +1,7 @@
 -- K9: "Whatever the sequence of calls, it answers as a plain list would", for every content of lists of up to 2,047 places, refused calls included; the whole table of
 -- an entry's refusals; and that a refusal leaves every list as it was.
 use Prim.Native.Nat.{ℕ, zero, suc, ◌*◌, ◌≤◌}
-use Rattle.std.specs.Prelude.{◌≡◌, refl, List, [], ◌++◌, length, T, eqb}
+use Rattle.std.specs.Prelude.{◌≡◌, refl, List, ◌++◌, length, T, eqb}
 use Rattle.std.proofs.Math.Path.{sym}
 use Rattle.std.proofs.Common.{ap, ◌∙◌, arith}
 use Rattle.basis.specs.declared.answer.CountAnswer.{CountAnswer}

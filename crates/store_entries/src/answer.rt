@@ -2,7 +2,7 @@
 ghost use Rattle.std.specs.Prelude.{◌≡◌};
 ghost use Rattle.store_entries.specs.Answers.{handle_refused, handle_from, done_refused, done_from};
 
-use store_write::keep::Handle;
+use basis::refuse::Refusal;
 
 #[repr(C)]
 #[derive(Clone, Copy)]
@@ -27,15 +27,12 @@ pub(crate) fn handle_refused(number: u32) -> HandleAnswer
 }
 
 // The handle given, or number 20.
-pub(crate) fn handle_from(put: Handle) -> HandleAnswer
+pub(crate) fn handle_from(put: Option<usize>) -> HandleAnswer
     ensures { result ≡ handle_from put }
 {
     match put {
-        Handle::Given(handle) => HandleAnswer { refusal: 0, handle },
-        Handle::Full => HandleAnswer {
-            refusal: 20,
-            handle: 0,
-        },
+        Some(handle) => HandleAnswer { refusal: 0, handle },
+        None => handle_refused(Refusal::Full.number()),
     }
 }
 
@@ -52,6 +49,6 @@ pub(crate) fn done_from(found: bool) -> DoneAnswer
     if found {
         DoneAnswer { refusal: 0 }
     } else {
-        DoneAnswer { refusal: 21 }
+        done_refused(Refusal::Handle.number())
     }
 }

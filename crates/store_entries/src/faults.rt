@@ -1,12 +1,15 @@
-#![tactic(auto, unfolding(basis::specs::Refuse::first_from, basis::specs::Refuse::or_else))]
-// The refusals of the store's entries, part by part of their tables. Each part goes on from what was found so far.
+#![tactic(auto, unfolding(basis::specs::Refuse::first_of, basis::specs::Refuse::first_from, basis::specs::Refuse::or_else, crate::specs::StoreEntry::call_refusal, crate::specs::StoreEntry::call_rows, crate::specs::StoreEntry::own_rows))]
+// The refusals of the store's entries, part by part of their tables.
 ghost use Rattle.std.specs.Prelude.{◌≡◌};
 ghost use Rattle.basis.specs.Refuse.{first_from};
 ghost use Rattle.basis.specs.Refusals.{found};
-ghost use Rattle.store_entries.specs.StoreRows.{store_rows, slice_rows, room_rows, party_rows};
+ghost use Rattle.store_write.specs.Lent.{lists_of, slice_in};
+ghost use Rattle.store_entries.specs.StoreRows.{slice_rows, room_rows, party_rows};
+ghost use Rattle.store_entries.specs.StoreEntry.{to_put, to_list, to_compact, called, lists_rows, call_refusal};
 
 use basis::refuse::Refusal;
 use basis::{number, refuse};
+use store_write::lent::{NewSlice, Store};
 
 // How many places the store has.
 const PLACES: usize = 1792;
@@ -19,50 +22,80 @@ const CODES: usize = 3584;
 const NUMBERS: usize = 5376;
 
 // Number 1: the four lists are not those of as many places.
-pub(crate) fn store_refusal(r: u32, held: usize, at: usize, shape: usize, edition: usize) -> u32
-    ensures { result ≡ first_from r (store_rows held at shape edition) }
+fn store_refusal(store: Store) -> Result<(), Refusal>
+    ensures { found result ≡ first_from 0 (lists_rows (lists_of store.entry)) }
 {
-    let r = refuse::or_else(r, refuse::bad_length(held, 1, PLACES), 1);
-    let r = refuse::or_else(r, refuse::bad_length(at, 4, PLACES), 1);
-    let r = refuse::or_else(r, refuse::bad_length(shape, 6, PLACES), 1);
-    refuse::or_else(r, refuse::bad_length(edition, 1, PLACES), 1)
+    refuse::when(
+        refuse::bad_length(store.held.len(), 1, PLACES),
+        Refusal::Length,
+    )?;
+    refuse::when(
+        refuse::bad_length(store.at.len(), 4, PLACES),
+        Refusal::Length,
+    )?;
+    refuse::when(
+        refuse::bad_length(store.shape.len(), 6, PLACES),
+        Refusal::Length,
+    )?;
+    refuse::when(
+        refuse::bad_length(store.edition.len(), 1, PLACES),
+        Refusal::Length,
+    )
 }
 
 // Numbers 1, 3 and 5 of the slice that is put.
-fn slice_refused(put_at: &[usize], put_shape: &[f64]) -> Result<(), Refusal>
-    ensures { found result ≡ first_from 0 (slice_rows put_at.now put_shape.now) }
+fn slice_refusal(slice: NewSlice) -> Result<(), Refusal>
+    ensures { found result ≡ first_from 0 (slice_rows slice.entry.code.now slice.entry.number.now) }
 {
-    slice::faults::list_refusal(put_at.len(), put_shape.len(), 1)?;
-    slice::faults::code_refusal(put_at)?;
-    refuse::when(!number::all_in_range(put_shape), Refusal::Number)
-}
-
-// The same, where nothing was found so far.
-pub(crate) fn slice_refusal(r: u32, put_at: &[usize], put_shape: &[f64]) -> u32
-    ensures { result ≡ first_from r (slice_rows put_at.now put_shape.now) }
-{
-    if r != 0 {
-        return r;
-    }
-    match slice_refused(put_at, put_shape) {
-        Err(refusal) => refusal.number(),
-        Ok(()) => 0,
-    }
+    slice::faults::list_refusal(slice.code.len(), slice.number.len(), 1)?;
+    slice::faults::code_refusal(slice.code)?;
+    refuse::when(!number::all_in_range(slice.number), Refusal::Number)
 }
 
 // Number 9: a list lent for the answer is too short for a slice in every place of a party.
-pub(crate) fn room_refusal(r: u32, handles: usize, at: usize, shape: usize, edition: usize) -> u32
-    ensures { result ≡ first_from r (room_rows 896 handles at shape edition) }
+fn room_refusal(handles: usize, at: usize, shape: usize, edition: usize) -> Result<(), Refusal>
+    ensures { found result ≡ first_from 0 (room_rows 896 handles at shape edition) }
 {
-    let r = refuse::or_else(r, handles < SHARE, 9);
-    let r = refuse::or_else(r, at < CODES, 9);
-    let r = refuse::or_else(r, shape < NUMBERS, 9);
-    refuse::or_else(r, edition < SHARE, 9)
+    refuse::when(handles < SHARE, Refusal::Room)?;
+    refuse::when(at < CODES, Refusal::Room)?;
+    refuse::when(shape < NUMBERS, Refusal::Room)?;
+    refuse::when(edition < SHARE, Refusal::Room)
 }
 
 // Number 22: the party is neither 0 nor 1.
-pub(crate) fn party_refusal(r: u32, party: u32) -> u32
-    ensures { result ≡ first_from r (party_rows party) }
+fn party_refusal(party: u32) -> Result<(), Refusal>
+    ensures { found result ≡ first_from 0 (party_rows party) }
 {
-    refuse::or_else(r, 1 < party, 22)
+    refuse::when(1 < party, Refusal::Party)
+}
+
+pub(crate) fn put_refusal(store: Store, party: u32, slice: NewSlice) -> Result<(), Refusal>
+    ensures { found result ≡ call_refusal (lists_of store.entry) (called party (to_put (slice_in slice.entry))) }
+{
+    store_refusal(store)?;
+    slice_refusal(slice)?;
+    party_refusal(party)
+}
+
+// The same for a release and a compaction, which have no rows of their own.
+pub(crate) fn part_refusal(store: Store, party: u32) -> Result<(), Refusal>
+    ensures { found result ≡ call_refusal (lists_of store.entry) (called party to_compact) }
+{
+    store_refusal(store)?;
+    party_refusal(party)
+}
+
+pub(crate) fn list_refusal(
+    store: Store,
+    party: u32,
+    handles: usize,
+    at: usize,
+    shape: usize,
+    edition: usize,
+) -> Result<(), Refusal>
+    ensures { found result ≡ call_refusal (lists_of store.entry) (called party (to_list handles at shape edition)) }
+{
+    store_refusal(store)?;
+    room_refusal(handles, at, shape, edition)?;
+    party_refusal(party)
 }

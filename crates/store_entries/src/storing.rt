@@ -10,6 +10,7 @@ use crate::answer::{DoneAnswer, HandleAnswer};
 use crate::{answer, faults};
 use basis::answer::CountAnswer;
 use store_party::half;
+use store_write::lent::{NewSlice, Store};
 
 // A slice of a party is put. It gets the lowest handle that no live slice of the party has.
 pub fn put(
@@ -26,23 +27,23 @@ pub fn put(
         (called party (to_put (slice_of put_at.now put_shape.now put_edition)))
         result (lists held.new at.new shape.new edition.new) }
 {
-    let number = faults::store_refusal(0, held.len(), at.len(), shape.len(), edition.len());
-    let number = faults::slice_refusal(number, put_at, put_shape);
-    let number = faults::party_refusal(number, party);
-    if number != 0 {
-        return answer::handle_refused(number);
-    }
-    let put = half::put(
+    let slice = NewSlice {
+        code: put_at,
+        number: put_shape,
+        edition: put_edition,
+    };
+    let store = Store {
         held,
         at,
         shape,
         edition,
-        party as usize,
-        put_at,
-        put_shape,
-        put_edition,
-    );
-    answer::handle_from(put)
+    };
+    match faults::put_refusal(store, party, slice) {
+        Err(refusal) => answer::handle_refused(refusal.number()),
+        Ok(()) => {
+            answer::handle_from(half::put(held, at, shape, edition, party as usize, slice))
+        }
+    }
 }
 
 // The party's slice with a handle is released.
@@ -57,12 +58,16 @@ pub fn release(
     ensures { StoreLeft done_answer (lists held.old at.now shape.now edition.now)
         (called party (to_release handle)) result (lists held.new at.now shape.now edition.now) }
 {
-    let number = faults::store_refusal(0, held.len(), at.len(), shape.len(), edition.len());
-    let number = faults::party_refusal(number, party);
-    if number != 0 {
-        return answer::done_refused(number);
+    let store = Store {
+        held,
+        at,
+        shape,
+        edition,
+    };
+    match faults::part_refusal(store, party) {
+        Err(refusal) => answer::done_refused(refusal.number()),
+        Ok(()) => answer::done_from(half::release(held, party as usize, handle)),
     }
-    answer::done_from(half::release(held, party as usize, handle))
 }
 
 // The party's live slices go to its first places.
@@ -76,13 +81,19 @@ pub fn compact(
     ensures { StoreLeft done_answer (lists held.old at.old shape.old edition.old)
         (called party to_compact) result (lists held.new at.new shape.new edition.new) }
 {
-    let number = faults::store_refusal(0, held.len(), at.len(), shape.len(), edition.len());
-    let number = faults::party_refusal(number, party);
-    if number != 0 {
-        return answer::done_refused(number);
+    let store = Store {
+        held,
+        at,
+        shape,
+        edition,
+    };
+    match faults::part_refusal(store, party) {
+        Err(refusal) => answer::done_refused(refusal.number()),
+        Ok(()) => {
+            half::compact(held, at, shape, edition, party as usize);
+            answer::done_from(true)
+        }
     }
-    half::compact(held, at, shape, edition, party as usize);
-    answer::done_from(true)
 }
 
 // The party's live slices, in the order put.
@@ -101,28 +112,28 @@ pub fn list(
         (rooms handles.old list_at.old list_shape.old list_edition.old)
         result (rooms handles.new list_at.new list_shape.new list_edition.new) }
 {
-    let number = faults::store_refusal(0, held.len(), at.len(), shape.len(), edition.len());
-    let number = faults::room_refusal(
-        number,
-        handles.len(),
-        list_at.len(),
-        list_shape.len(),
-        list_edition.len(),
-    );
-    let number = faults::party_refusal(number, party);
-    if number != 0 {
-        return basis::answer::count_refused(number);
-    }
-    let count = half::list(
+    let store = Store {
         held,
         at,
         shape,
         edition,
-        party as usize,
-        handles,
-        list_at,
-        list_shape,
-        list_edition,
-    );
-    basis::answer::counted_as(count)
+    };
+    match faults::list_refusal(
+        store,
+        party,
+        handles.len(),
+        list_at.len(),
+        list_shape.len(),
+        list_edition.len(),
+    ) {
+        Err(refusal) => basis::answer::count_refused(refusal.number()),
+        Ok(()) => basis::answer::counted_as(half::list(
+            store,
+            party as usize,
+            handles,
+            list_at,
+            list_shape,
+            list_edition,
+        )),
+    }
 }

@@ -1,12 +1,15 @@
+use Rattle.std.proofs.Common.{rules, ◌∙◌, ap, sym}
+use Rattle.basis.specs.RefusalLaws.{looks, found-some, found-number}
+use Rattle.store_entries.specs.Answers.{handle_refused}
 use Rattle.store_entries.proofs.StoreEntryLaws.{put_refused, put-fits, put-given}
 use Rattle.store_entries.proofs.storing.put.Goals as goal
 
-pub returns-then-number-ne0 : goal.returns-then-number-ne0
-returns-then-number-ne0 c = search put_refused
+pub put-requires : goal.put-requires
+put-requires c = search (rules, looks, put-fits)
 
-pub put-put-requires : goal.put-put-requires
-put-put-requires c =
-    put-fits _ _ _ _ _ _ _ _ _ _ _ c.store_refusal-number.ensures c.slice_refusal-number.ensures c.party_refusal-number.ensures c.if-number-ne0.false
+pub returns-in-Err : goal.returns-in-Err
+returns-in-Err c =
+    put_refused _ _ _ _ _ _ _ _ _ c.put_refusal.ensures _ (found-some _ _ c.in-Err.is) (c.handle_refused.ensures ∙ ap handle_refused (c.number.ensures ∙ sym (found-number _ _ c.in-Err.is)))
 
-pub returns : goal.returns
-returns c = search put-given
+pub returns-in-Ok : goal.returns-in-Ok
+returns-in-Ok c = search (rules, looks, put-given)
