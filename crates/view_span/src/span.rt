@@ -1,4 +1,4 @@
-#![tactic(auto, unfolding(crate::specs::Span::can_move, crate::specs::Span::moves_on, crate::specs::Span::start_index_of, crate::specs::Span::ahead))]
+#![tactic(auto, unfolding(crate::specs::Span::can_move, crate::specs::Span::moves_on, crate::specs::Span::start_index_of, crate::specs::Span::ahead, crate::specs::Span::decided, crate::specs::Span::start_nearer, crate::specs::Span::traverse, crate::specs::Span::span_of))]
 // From which segment a view between two points starts, and how many segments further on it ends.
 ghost use Rattle.std.specs.Prelude.{◌≡◌};
 ghost use Rattle.view_span.specs.Span.{EndsFit, Inside, Both, StartFit, can_move, moves_on, start_index_of, ahead, decided, start_nearer, traverse, span_of};

@@ -1,3 +1,4 @@
+#![tactic(auto, using(crate::proofs::NewStarts::news), unfolding(crate::specs::NewStart::round_view, crate::specs::NewStart::new_start_view))]
 // The view that starts an outline at a point of it: the Rust's `from_new_start`.
 ghost use Rattle.std.specs.Prelude.{◌≡◌};
 ghost use Rattle.outline.specs.Outline.{Whole, Segment};

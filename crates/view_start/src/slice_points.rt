@@ -1,4 +1,4 @@
-#![tactic(auto, unfolding(crate::specs::SlicePoints::running_vertex, crate::specs::SlicePoints::walked_view))]
+#![tactic(auto, using(crate::proofs::Slices::slices), unfolding(crate::specs::SlicePoints::running_vertex, crate::specs::SlicePoints::walk_over, crate::specs::SlicePoints::collapses, crate::specs::SlicePoints::walked_view, crate::specs::SlicePoints::sliced_view, crate::specs::SlicePoints::slice_view))]
 // The view between two points of an outline: the Rust's `from_slice_points`.
 ghost use Rattle.std.specs.Prelude.{◌≡◌};
 ghost use Rattle.outline.specs.Outline.{Near};

@@ -1,9 +1,6 @@
-use Rattle.view_span.proofs.Spans.{spans}
-use borrow.Author.Rules.{rules}
+use Rattle.view_span.specs.SpanLaws.{start-lt}
 use Rattle.view_span.proofs.span.span_of.Goals as goal
 
 pub traverse_from-requires : goal.traverse_from-requires
-traverse_from-requires c = search (rules, spans)
-
-pub returns : goal.returns
-returns c = search (rules, spans)
+traverse_from-requires c =
+    record { fit = c.requires; inside = start-lt _ _ _ _ c.requires.starts c.start_index-i.ensures }
