@@ -7,29 +7,18 @@ use std::fs::File;
 use std::io;
 use std::io::Read;
 
-fn word(rt: &impl Print, text: &[u8]) {
-    let _ = rt.write_all(text);
-}
-
-fn whole(rt: &impl Print, n: usize) {
-    let _ = rt.print(n);
-}
-
 // The counts: cases of each entry, then all that differ.
 fn show(rt: &impl Print, counts: &[usize]) {
-    word(rt, b"mask_straight_winding ");
-    whole(rt, words::count(counts, 0));
-    word(rt, b" cases\nmask_straight_area ");
-    whole(rt, words::count(counts, 1));
-    word(rt, b" cases\nmask_straight_report ");
-    whole(rt, words::count(counts, 2));
-    word(rt, b" cases\n");
-    whole(rt, words::count(counts, 4));
-    word(rt, b" of ");
-    whole(rt, words::count(counts, 5));
-    word(rt, b" cases, ");
-    whole(rt, words::count(counts, 3));
-    word(rt, b" differ\n");
+    let winding = words::count(counts, 0);
+    let area = words::count(counts, 1);
+    let report = words::count(counts, 2);
+    let differ = words::count(counts, 3);
+    let seen = words::count(counts, 4);
+    let all = words::count(counts, 5);
+    let _ = println!(rt; "mask_straight_winding {winding} cases");
+    let _ = println!(rt; "mask_straight_area {area} cases");
+    let _ = println!(rt; "mask_straight_report {report} cases");
+    let _ = println!(rt; "{seen} of {all} cases, {differ} differ");
 }
 
 // A case of an entry. Place 3 counts those that differ, 4 all.
