@@ -1,5 +1,5 @@
 -- Document 02, K3, reopening: whether a view has the same vertices on an old and on a new outline, bit for bit.
-use Rattle.std.specs.Prelude.{ℕ, zero, suc, Bool, true, not, cond, ◌&&◌, ◌≡◌, List, T, eqb, Float}
+use Rattle.std.specs.Prelude.{ℕ, zero, suc, Bool, true, not, cond, ◌&&◌, ◌≡◌, List, T, eqb, Float, Option, Some, None}
 use Rattle.std.specs.Float.{binary64}
 use Rattle.std.specs.Float.Ieee.{is_nan, to_bits}
 use Rattle.basis.specs.Number.{all_within}
@@ -26,6 +26,11 @@ lowest_from q k (suc n) = cond (q k) (lowest_from q (suc k) n) k
 -- the lowest number of a vertex that differs, and the view's vertex count where none does
 unfoldable pub first_moved : List Float → ℕ → List Float → ℕ → ViewData → ℕ
 first_moved o1 vc1 o2 vc2 v = lowest_from (same_at o1 vc1 o2 vc2 v) 0 (vertex_count v)
+
+-- the same as the code tells it: none where no vertex differs
+unfoldable pub moved : List Float → ℕ → List Float → ℕ → ViewData → Option ℕ
+moved o1 vc1 o2 vc2 v =
+    cond (eqb (first_moved o1 vc1 o2 vc2 v) (vertex_count v)) None (Some (first_moved o1 vc1 o2 vc2 v))
 
 -- ---- what a caller has shown
 

@@ -1,6 +1,6 @@
 -- Laws of the vertices of one view on two outlines: which numbers they hold, and how a loop finds the lowest that differs.
 use Prim.Native.Nat.{ℕ, zero, suc, ◌+◌, ◌-◌, ◌≤◌, ◌<◌}
-use Rattle.std.specs.Prelude.{Bool, false, not, cond, ◌≡◌, List, T, ltb, eqb, get_or, Float}
+use Rattle.std.specs.Prelude.{Bool, false, not, cond, ◌≡◌, List, T, ltb, eqb, get_or, Float, Some, None}
 use Rattle.std.proofs.Math.Bool.{true}
 use Rattle.std.proofs.lemmas.Bool.{false≢true}
 use Rattle.std.proofs.Math.Path.{refl, sym, ap, subst}
@@ -20,7 +20,7 @@ use Rattle.outline.specs.Outline.{outline_at}
 use Rattle.view.specs.declared.data.ViewData.{ViewData}
 use Rattle.view.specs.View.{Fit, forward_at, turned_at, inverted_at, vertex_of, vertex_count, view_numbers}
 use Rattle.view.specs.ViewTheorems.{outline-passes}
-use Rattle.unmoved.specs.Unmoved.{same_bits, same_vertex, same_at, lowest_from, first_moved, Vertices, BothFit}
+use Rattle.unmoved.specs.Unmoved.{same_bits, same_vertex, same_at, lowest_from, first_moved, moved, Vertices, BothFit}
 
 -- ---- the numbers of a view's vertex: where all numbers handed in pass a test that does not look at signs, they pass it too
 module _ (p : Float → Bool) (even : (x : Float) → p (neg x) ≡ p x) (none : p +0 ≡ true) where
@@ -175,4 +175,17 @@ module _ (o1 : List Float) (vc1 : ℕ) (o2 : List Float) (vc2 : ℕ) (v : ViewDa
       let all : each_to (same_at o1 vc1 o2 vc2 v) (vertex_count v) ≡ true = subst (λ (i : ℕ). each_to (same_at o1 vc1 o2 vc2 v) i ≡ true) (omega arith) (moved_on k true e (sym last) refl) in
       q ∙ sym (none_below (same_at o1 vc1 o2 vc2 v) (vertex_count v) all)
 
-pub ruleset moving = (moved-begin, moved_on, moved-found, moved_none)
+  -- what the code tells: the number that it stops at, or none
+  pub moved-some : (k : ℕ) (x : Bool) → each_to (same_at o1 vc1 o2 vc2 v) k ≡ true → x ≡ same_at o1 vc1 o2 vc2 v k → not x ≡ true → k ≤ v.end_index_offset → Some k ≡ moved o1 vc1 o2 vc2 v
+  unfolding moved
+  moved-some k x e q n l =
+      let f = moved-found k x e q n l in
+      rw (sym f, ne_eqb k (vertex_count v) (λ z. omega arith))
+
+  pub moved-all : (k : ℕ) → each_to (same_at o1 vc1 o2 vc2 v) k ≡ true → v.end_index_offset < k → k ≤ v.end_index_offset + 1 → None ≡ moved o1 vc1 o2 vc2 v
+  unfolding moved
+  moved-all k e l m =
+      let f = moved_none k (vertex_count v) e l m refl in
+      rw (sym f, eq-eqb (vertex_count v) (vertex_count v) refl)
+
+pub ruleset moving = (moved-begin, moved_on, moved-some, moved-all)

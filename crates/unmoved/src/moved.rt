@@ -1,7 +1,7 @@
 #![tactic(auto, unfolding(crate::specs::Unmoved::same_bits, crate::specs::Unmoved::same_vertex))]
 // The vertices of one view on two outlines, number after number.
 ghost use Rattle.std.specs.Prelude.{◌≡◌};
-ghost use Rattle.unmoved.specs.Unmoved.{Numbers, Vertices, BothFit, same_bits, same_vertex, same_at, first_moved};
+ghost use Rattle.unmoved.specs.Unmoved.{Numbers, Vertices, BothFit, same_bits, same_vertex, same_at, moved};
 
 use outline::point::Vertex;
 use view::data::ViewData;
@@ -39,16 +39,21 @@ fn same_at(
     same_vertex(a, b)
 }
 
-// The lowest number of a vertex that differs, and the view's vertex count where none does. The first and the last come from the view alone: they are not looked at.
-pub fn first_moved(outline1: &[f64], vc1: usize, outline2: &[f64], vc2: usize, v: ViewData) -> usize
+// The lowest number of a vertex that differs, or none where no vertex does. The first and the last come from the view alone: they are not looked at.
+pub fn first_moved(
+    outline1: &[f64],
+    vc1: usize,
+    outline2: &[f64],
+    vc2: usize,
+    v: ViewData,
+) -> Option<usize>
     requires { BothFit outline1.now vc1 outline2.now vc2 v }
-    ensures { result ≡ first_moved outline1.now vc1 outline2.now vc2 v }
+    ensures { result ≡ moved outline1.now vc1 outline2.now vc2 v }
 {
-    let offset = v.end_index_offset;
-    for k in 1..offset + 1 {
+    for k in 1..v.end_index_offset + 1 {
         if !same_at(outline1, vc1, outline2, vc2, v, k) {
-            return k;
+            return Some(k);
         }
     }
-    offset + 2
+    None
 }

@@ -1,15 +1,15 @@
 -- The entry `mask_unmoved`: its refusals, its answer, and what acceptance gives. 6 and 7 look at both outlines.
-use Rattle.std.specs.Prelude.{ℕ, ◌+◌, not, cond, ◌≡◌, List, [], ◌∷◌, ◌++◌, length, ltb, leb, eqb, Float}
+use Rattle.std.specs.Prelude.{ℕ, ◌+◌, not, cond, ◌≡◌, List, [], ◌∷◌, ◌++◌, length, ltb, leb, eqb, Float, Option, Some, None}
 use Rattle.std.proofs.Common.{sym, ap, ◌∙◌}
 use Rattle.std.proofs.Math.Path.{subst}
 use borrow.Author.Tests.{leb-false, ltb-false, not-false}
-use Rattle.basis.specs.Choice.{code_of}
+use Rattle.basis.specs.Choice.{code_of, by-test}
 use Rattle.basis.specs.Number.{all_within}
 use Rattle.basis.specs.Refuse.{Row, row, first_of, first_from, answer, length_fault, size_fault, choice_fault}
 use Rattle.basis.specs.RefuseLaws.{clear, stop-rows, go-rows, length-ok, size_ok}
 use Rattle.view.specs.declared.data.ViewData.{ViewData}
 use Rattle.view.specs.View.{vertex_count, view_numbers}
-use Rattle.unmoved.specs.Unmoved.{first_moved, BothFit}
+use Rattle.unmoved.specs.Unmoved.{first_moved, moved, BothFit}
 use Rattle.view_entries.specs.declared.input.View.{View}
 use Rattle.view_entries.specs.Inputs.{view_data}
 use Rattle.unmoved_entries.specs.declared.answer.UnmovedAnswer.{UnmovedAnswer}
@@ -47,9 +47,18 @@ unmoved_refused n = record { refusal = n; unmoved = 0; first = 0 }
 unfoldable pub unmoved_given : ℕ → ℕ → UnmovedAnswer
 unmoved_given first count = record { refusal = 0; unmoved = code_of (eqb first count); first = cond (eqb first count) 0 first }
 
+-- the same of what the code told: the lowest number of a vertex that differs, or none
+abbrev pub unmoved_told : Option ℕ → UnmovedAnswer
+unmoved_told None = record { refusal = 0; unmoved = 1; first = 0 }
+unmoved_told (Some k) = record { refusal = 0; unmoved = 0; first = k }
+
 abbrev pub unmoved_answer : List Float → ℕ → List Float → ℕ → View → UnmovedAnswer
 unmoved_answer o1 vc1 o2 vc2 v =
     answer unmoved_refused (unmoved_refusal o1 vc1 o2 vc2 v) (unmoved_given (first_moved o1 vc1 o2 vc2 (view_data v)) (vertex_count (view_data v)))
+
+told-given : (n count : ℕ) → unmoved_told (cond (eqb n count) None (Some n)) ≡ unmoved_given n count
+unfolding unmoved_given
+told-given n count = by-test (eqb n count) (λ e. rw e) (λ e. rw e)
 
 module _ (o1 : List Float) (vc1 : ℕ) (o2 : List Float) (vc2 : ℕ) (v : View) where
   -- the first part has a number, or the second is looked at
@@ -86,8 +95,13 @@ module _ (o1 : List Float) (vc1 : ℕ) (o2 : List Float) (vc2 : ℕ) (v : View) 
         own = not-false (all_within (view_numbers (view_data v))) (search ok);
       })
 
-  pub unmoved_of : (w : ViewData) (first : ℕ) (r : UnmovedAnswer) → w ≡ view_data v → first ≡ first_moved o1 vc1 o2 vc2 w → r ≡ unmoved_given first (w.end_index_offset + 2)
+  pub unmoved_of : (w : ViewData) (first : Option ℕ) (r : UnmovedAnswer) → w ≡ view_data v → first ≡ moved o1 vc1 o2 vc2 w → r ≡ unmoved_told first
       → r ≡ unmoved_given (first_moved o1 vc1 o2 vc2 (view_data v)) (vertex_count (view_data v))
-  unmoved_of w first r e q p = p ∙ ap (λ (n : ℕ). unmoved_given n (vertex_count w)) q ∙ ap (λ (u : ViewData). unmoved_given (first_moved o1 vc1 o2 vc2 u) (vertex_count u)) e
+  unfolding moved
+  unmoved_of w first r e q p =
+      p
+      ∙ ap unmoved_told q
+      ∙ told-given (first_moved o1 vc1 o2 vc2 w) (vertex_count w)
+      ∙ ap (λ (u : ViewData). unmoved_given (first_moved o1 vc1 o2 vc2 u) (vertex_count u)) e
 
 pub ruleset unmoved_laws = (unmoved-stops, unmoved-goes, unmoved-accepted, unmoved_of)

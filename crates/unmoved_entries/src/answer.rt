@@ -1,6 +1,6 @@
 // What `mask_unmoved` answers: a flat struct, by value.
 ghost use Rattle.std.specs.Prelude.{◌≡◌};
-ghost use Rattle.unmoved_entries.specs.UnmovedEntry.{unmoved_refused, unmoved_given};
+ghost use Rattle.unmoved_entries.specs.UnmovedEntry.{unmoved_refused, unmoved_told};
 
 #[repr(C)]
 #[derive(Clone, Copy)]
@@ -20,20 +20,20 @@ pub(crate) fn unmoved_refused(number: u32) -> UnmovedAnswer
     }
 }
 
-// The lowest number of a vertex that differs, of `count` vertices; where none differs it is their count.
-pub(crate) fn unmoved_given(first: usize, count: usize) -> UnmovedAnswer
-    ensures { result ≡ unmoved_given first count }
+// The lowest number of a vertex that differs, or none where the view is unmoved.
+pub(crate) fn unmoved_told(first: Option<usize>) -> UnmovedAnswer
+    ensures { result ≡ unmoved_told first }
 {
-    if first == count {
-        return UnmovedAnswer {
+    match first {
+        None => UnmovedAnswer {
             refusal: 0,
             unmoved: 1,
             first: 0,
-        };
-    }
-    UnmovedAnswer {
-        refusal: 0,
-        unmoved: 0,
-        first,
+        },
+        Some(first) => UnmovedAnswer {
+            refusal: 0,
+            unmoved: 0,
+            first,
+        },
     }
 }

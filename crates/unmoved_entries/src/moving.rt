@@ -71,8 +71,7 @@ pub fn entry(
         Err(refusal) => answer::unmoved_refused(refusal.number()),
         Ok(()) => {
             let v = ViewData::from(view);
-            let first = moved::first_moved(outline1, vc1, outline2, vc2, v);
-            answer::unmoved_given(first, v.end_index_offset + 2)
+            answer::unmoved_told(moved::first_moved(outline1, vc1, outline2, vc2, v))
         }
     }
 }

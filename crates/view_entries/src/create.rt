@@ -36,15 +36,6 @@ fn refusal(outline: &[f64], vc: usize, w: Walk, t: Tolerance, split: Split) -> R
     refuse::when(bad_traverse(w.traverse_count, vc), Refusal::Count)
 }
 
-fn made(outline: &[f64], vc: usize, w: Walk, t: Tolerance, split: Split) -> ViewAnswer
-    ensures { result ≡ create_answer outline.now vc w t split }
-{
-    match refusal(outline, vc, w, t, split) {
-        Err(refusal) => answer::view_refused(refusal.number()),
-        Ok(()) => answer::view_made(create::create(outline, vc, w, t)),
-    }
-}
-
 // The view that walks from its start over `traverse_count` segments to an end on the segment at `intersect_index`.
 pub fn entry(
     outline: &[f64],
@@ -60,18 +51,20 @@ pub fn entry(
 ) -> ViewAnswer
     ensures { result ≡ create_answer outline.now vc (walk_of start_index end_intersect intersect_index updated_start traverse_count split) (tolerance_of tolerance_x tolerance_y) split }
 {
-    let part = split.updated_start;
     let w = Walk {
         start_index,
         end_intersect,
         intersect_index,
         updated_start,
         traverse_count,
-        split_bulge: part.bulge,
+        split_bulge: split.updated_start.bulge,
     };
     let t = Tolerance {
         x: tolerance_x,
         y: tolerance_y,
     };
-    made(outline, vc, w, t, split)
+    match refusal(outline, vc, w, t, split) {
+        Err(refusal) => answer::view_refused(refusal.number()),
+        Ok(()) => answer::view_made(create::create(outline, vc, w, t)),
+    }
 }

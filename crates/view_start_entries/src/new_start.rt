@@ -33,27 +33,6 @@ fn refusal(
     refuse::when(vc <= i, Refusal::Index)
 }
 
-fn made(
-    outline: &[f64],
-    vc: usize,
-    closed: u32,
-    i: usize,
-    p: Point,
-    t: Tolerance,
-    start: Split,
-    end: Split,
-) -> ViewAnswer
-    ensures { result ≡ new_start_answer outline.now vc closed i p t start end }
-{
-    match refusal(outline, vc, closed, i, p, t, start, end) {
-        Err(refusal) => answer::view_refused(refusal.number()),
-        Ok(()) => {
-            let s = faults::splits_of(start, end);
-            answer::segment_made(new_start::from_new_start(outline, vc, closed == 1, i, p, t, s))
-        }
-    }
-}
-
 // The view that starts a closed outline at a point of it and goes once round, or leads from a point of an open one to its last vertex; none where that point is the last vertex.
 pub fn entry(
     outline: &[f64],
@@ -72,7 +51,7 @@ pub fn entry(
         x: tolerance_x,
         y: tolerance_y,
     };
-    made(
+    match refusal(
         outline,
         vc,
         closed,
@@ -81,5 +60,19 @@ pub fn entry(
         t,
         start_split,
         end_split,
-    )
+    ) {
+        Err(refusal) => answer::view_refused(refusal.number()),
+        Ok(()) => {
+            let s = faults::splits_of(start_split, end_split);
+            answer::segment_made(new_start::from_new_start(
+                outline,
+                vc,
+                closed == 1,
+                start_index,
+                start_point,
+                t,
+                s,
+            ))
+        }
+    }
 }

@@ -34,26 +34,6 @@ fn refusal(
     faults::index_refusal(vc, e)
 }
 
-fn made(
-    outline: &[f64],
-    vc: usize,
-    closed: u32,
-    e: Ends,
-    t: Tolerance,
-    start: Split,
-    end: Split,
-) -> ViewAnswer
-    ensures { result ≡ slice_answer outline.now vc closed e t start end }
-{
-    match refusal(outline, vc, closed, e, t, start, end) {
-        Err(refusal) => answer::view_refused(refusal.number()),
-        Ok(()) => {
-            let p = faults::splits_of(start, end);
-            answer::segment_made(slice_points::from_slice_points(outline, vc, e, t, p))
-        }
-    }
-}
-
 // The view from a point on one segment to a point on another, or none where nothing lies between them.
 pub fn entry(
     outline: &[f64],
@@ -81,5 +61,11 @@ pub fn entry(
         x: tolerance_x,
         y: tolerance_y,
     };
-    made(outline, vc, closed, e, t, start_split, end_split)
+    match refusal(outline, vc, closed, e, t, start_split, end_split) {
+        Err(refusal) => answer::view_refused(refusal.number()),
+        Ok(()) => {
+            let p = faults::splits_of(start_split, end_split);
+            answer::segment_made(slice_points::from_slice_points(outline, vc, e, t, p))
+        }
+    }
 }

@@ -23,15 +23,6 @@ fn refusal(outline: &[f64], vc: usize, closed: u32, e: Ends, t: Tolerance) -> Re
     faults::index_refusal(vc, e)
 }
 
-fn told(outline: &[f64], vc: usize, closed: u32, e: Ends, t: Tolerance) -> SpanAnswer
-    ensures { result ≡ span_answer outline.now vc closed e t }
-{
-    match refusal(outline, vc, closed, e, t) {
-        Err(refusal) => answer::span_refused(refusal.number()),
-        Ok(()) => answer::span_told(span::span_of(outline, vc, e, t)),
-    }
-}
-
 // The segment that the view between two points starts on, and how many segments further on it ends: what the host has to split.
 pub fn entry(
     outline: &[f64],
@@ -57,5 +48,8 @@ pub fn entry(
         x: tolerance_x,
         y: tolerance_y,
     };
-    told(outline, vc, closed, e, t)
+    match refusal(outline, vc, closed, e, t) {
+        Err(refusal) => answer::span_refused(refusal.number()),
+        Ok(()) => answer::span_told(span::span_of(outline, vc, e, t)),
+    }
 }

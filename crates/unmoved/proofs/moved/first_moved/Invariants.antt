@@ -6,4 +6,4 @@ use Rattle.unmoved.specs.Unmoved.{same_at}
 use Rattle.unmoved.proofs.moved.first_moved.Given as goal
 
 abbrev pub invariant-loop-k : goal.invariant-loop-k
-invariant-loop-k l = (l.k ≤ l.offset + 1) × (each_to (same_at l.outline1 l.vc1 l.outline2 l.vc2 l.v) l.k ≡ true)
+invariant-loop-k l = (l.k ≤ l.v.end_index_offset + 1) × (each_to (same_at l.outline1 l.vc1 l.outline2 l.vc2 l.v) l.k ≡ true)

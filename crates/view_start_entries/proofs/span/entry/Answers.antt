@@ -2,7 +2,7 @@ use Rattle.view_start_entries.specs.SpanEntry.{span_laws}
 use Rattle.basis.specs.RefusalLaws.{looks}
 use Rattle.basis.specs.RefuseLaws.{answers}
 use borrow.Author.Rules.{rules}
-use Rattle.view_start_entries.proofs.span.told.Goals as goal
+use Rattle.view_start_entries.proofs.span.entry.Goals as goal
 
 pub returns-in-Err : goal.returns-in-Err
 returns-in-Err c = search (rules, answers, span_laws, looks)

@@ -2,7 +2,7 @@ use Rattle.basis.specs.RefusalLaws.{looks}
 use Rattle.basis.specs.RefuseLaws.{answers}
 use Rattle.view_entries.specs.CreateEntry.{create_laws}
 use borrow.Author.Rules.{rules}
-use Rattle.view_entries.proofs.create.made.Goals as goal
+use Rattle.view_entries.proofs.create.entry.Goals as goal
 
 pub returns-in-Err : goal.returns-in-Err
 returns-in-Err c = search (rules, answers, create_laws, looks)
