@@ -8,13 +8,12 @@ use lib.ListN.{get_or}
 use lib.Dec.{eqb}
 use lib.Ieee.{Float}
 use borrow.Author.Tests.{lt-ltb, ne_eqb}
-use Rattle.basis.specs.Choice.{cond_yes}
+use Rattle.basis.specs.Choice.{cond_yes, cases}
 use Rattle.outline.specs.Outline.{point_at, Segment}
 use Rattle.basis.specs.declared.number.Tolerance.{Tolerance}
 use Rattle.outline.specs.declared.point.Point.{Point}
-use Rattle.cut.specs.declared.arrival.Case.{Case}
 use Rattle.cut.specs.declared.arrival.Cut.{Cut}
-use Rattle.cut.specs.Cuts.{given, which_of, hit_cut, moved, marked_end, lap_cut, cut_of, Which, Arrival, LapFit}
+use Rattle.cut.specs.Cuts.{Given, which_of, hit_cut, moved, marked_end, lap_cut, cut_of, Which, Arrival, LapFit}
 
 pub which-yes : (source : ℕ) → source ≡ 2 → Which source 1
 unfolding which_of
@@ -40,22 +39,20 @@ module _ (o : List Float) (vc source : ℕ) (la : List ℕ) (l : List Float) (t 
   lap-inside j end w d f = record { whole = f.whole; inside = rw d.is f.inside }
 
 -- without overlaps every arrival is an intersection's
-pub hits-alone : (o : List Float) (ha : List ℕ) (h : List Float) (la : List ℕ) (l : List Float) (s : Case) (n : ℕ) (r : Cut) → Arrival (given o ha h la l s) n → s.laps ≡ 0
-    → r ≡ hit_cut ha h s.source n → r ≡ cut_of (given o ha h la l s) n
+pub hits-alone : (g : Given) (n : ℕ) (r : Cut) → Arrival g n → g.laps ≡ 0 → r ≡ hit_cut g.hit_at g.hit g.source n → r ≡ cut_of g n
 unfolding cut_of
-hits-alone o ha h la l s n r a z e = cond_yes _ _ _ r (lt-ltb n s.hits (omega (arith, a.arrives))) e
+hits-alone g n r a z e = cond_yes _ _ _ r (lt-ltb n g.hits (omega (arith, a.arrives))) e
 
 -- past the intersections stands an overlap
-pub lap-fit : (o : List Float) (ha : List ℕ) (h : List Float) (la : List ℕ) (l : List Float) (s : Case) (n : ℕ) → Arrival (given o ha h la l s) n → s.hits ≤ n
-    → LapFit o s.vc s.source la l ((n - s.hits) / 2) ((n - s.hits) % 2)
-lap-fit o ha h la l s n a k =
+pub lap-fit : (g : Given) (n : ℕ) → Arrival g n → g.hits ≤ n → LapFit g.outline g.vc g.source g.lap_at g.lap ((n - g.hits) / 2) ((n - g.hits) % 2)
+lap-fit g n a k =
     record {
       whole = a.ready.whole;
       either = omega arith;
       few = omega arith;
       indexed = omega arith;
       pointed = omega arith;
-      inside = a.ready.laps_inside ((n - s.hits) / 2) ((n - s.hits) % 2) (omega arith) (omega arith);
+      inside = a.ready.laps_inside ((n - g.hits) / 2) ((n - g.hits) % 2) (omega arith) (omega arith);
     }
 
-pub ruleset parts = (which-yes, which-no, hit-of, lap-of, lap-inside, lap-fit)
+pub ruleset parts = (which-yes, which-no, hit-of, lap-of, lap-inside, hits-alone, lap-fit, cases)

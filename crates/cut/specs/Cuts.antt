@@ -7,6 +7,7 @@ use Rattle.outline.specs.Outline.{Whole, wrap, point_at}
 use Rattle.view.specs.Create.{near_vertex}
 use Rattle.cut.specs.declared.arrival.Case.{Case}
 use Rattle.cut.specs.declared.arrival.Cut.{Cut}
+use Rattle.cut.specs.declared.arrival.Cuts.{Cuts}
 
 -- What a call has: an outline and its vertex count; which outline it is, source 1 or 2; the intersections and the overlaps, each as a list of indexes, a list of numbers
 -- and a count; the tolerance.
@@ -26,6 +27,10 @@ pub record Given : Type 0 where
 abbrev pub given : List Float → List ℕ → List Float → List ℕ → List Float → Case → Given
 given o ha h la l s =
     record { outline = o; vc = s.vc; source = s.source; hit_at = ha; hit = h; hits = s.hits; lap_at = la; lap = l; laps = s.laps; tolerance = s.tolerance }
+
+-- the same, of the references that a function is handed
+abbrev pub held : Cuts → Given
+held c = given c.outline.now c.hit_at.now c.hit.now c.lap_at.now c.lap.now c.case
 
 -- what stands beside them, of an entry's parameters in their order
 abbrev pub case_of : ℕ → ℕ → ℕ → ℕ → Tolerance → Case

@@ -15,9 +15,8 @@ use mir.Val.{Fits}
 use borrow.Author.Tests.{ltb-true, eqb-true, eqb-false, ne_eqb, not-true}
 use Rattle.basis.specs.Choice.{code_of, by-test, and_left, and_right}
 use Rattle.outline.specs.Outline.{Triple}
-use Rattle.cut.specs.declared.arrival.Case.{Case}
 use Rattle.cut.specs.declared.arrival.Cut.{Cut}
-use Rattle.cut.specs.Cuts.{Given, given, cut_count, cut_of, Arrival}
+use Rattle.cut.specs.Cuts.{Given, cut_count, cut_of, Arrival}
 use Rattle.cut.specs.Order.{earlier, order_of, cut_numbers, Accepted}
 use Rattle.cut_runs.specs.Sooner.{sooner}
 use Rattle.cut_runs.specs.Runs.{Goes, before-it, arrived-first}
@@ -78,10 +77,7 @@ pub record Following (g : Given) (cut_at : List ℕ) (last : Key) (i : ℕ) : Ty
   pub goes : (p : ℕ) → p + 1 < i → Goes (earlier g) (get_or cut_at (3 * p + 2) 0) (get_or cut_at (3 * (p + 1) + 2) 0)
   pub newest : (p : ℕ) → p + 1 ≡ i → last ≡ key_by g.outline (cut_of g (get_or cut_at (3 * p + 2) 0)) (get_or cut_at (3 * p + 2) 0)
 
-module _ (o : List Float) (ha : List ℕ) (h : List Float) (la : List ℕ) (l : List Float) (s : Case) (cut_at : List ℕ) where
-  abbrev here : Given
-  here = given o ha h la l s
-
+module _ (here : Given) (cut_at : List ℕ) where
   -- the arrival number that the hint has at a place
   abbrev said : ℕ → ℕ
   said p = get_or cut_at (3 * p + 2) 0
@@ -110,13 +106,13 @@ module _ (o : List Float) (ha : List ℕ) (h : List Float) (la : List ℕ) (l : 
     pub follow-next : Fits w64 (i + 1)
     follow-next = let a = f.accepted.ready.few_hits in let b = f.accepted.ready.few_laps in record { fits = omega arith }
 
-    pub follow-triple : (c : Cut) → said i < cut_count here → c ≡ cut_of here (said i) → Triple o c.segment
-    follow-triple c n e = distance-fit o ha h la l s (said i) c f.accepted.ready n e
+    pub follow-triple : (o : List Float) → o ≡ here.outline → (c : Cut) → said i < cut_count here → c ≡ cut_of here (said i) → Triple o c.segment
+    follow-triple o same c n e = distance-fit here o same (said i) c f.accepted.ready n e
 
     pub follow-third : Third cut_at i
     follow-third = record { inside = omega (arith, f.exact) }
 
-    pub follow-more : (c : Cut) (key : Key) (x : Bool) → said i < cut_count here → c ≡ cut_of here (said i) → key ≡ key_by o c (said i)
+    pub follow-more : (c : Cut) (key : Key) (x : Bool) → said i < cut_count here → c ≡ cut_of here (said i) → key ≡ key_by here.outline c (said i)
         → x ≡ follows_by cut_at i c last key → x ≡ true → Following here cut_at key (i + 1)
     unfolding follows_by goes_on
     follow-more c key x n e d q t =
@@ -128,7 +124,7 @@ module _ (o : List Float) (ha : List ℕ) (h : List Float) (la : List ℕ) (l : 
         let on : goes_next ≡ true = and_right same_mark goes_next rest in
         let a = eqb-true (get_or cut_at (3 * i) 0) c.segment (and_left same_segment (same_mark && goes_next) told) in
         let b = eqb-true (get_or cut_at (3 * i + 1) 0) (code_of c.mark) (and_left same_mark goes_next rest) in
-        let whole : key ≡ key_by o (cut_of here (said i)) (said i) = d ∙ ap (λ (v : Cut). key_by o v (said i)) e in
+        let whole : key ≡ key_by here.outline (cut_of here (said i)) (said i) = d ∙ ap (λ (v : Cut). key_by here.outline v (said i)) e in
         record {
           accepted = f.accepted;
           exact = f.exact;
@@ -140,8 +136,8 @@ module _ (o : List Float) (ha : List ℕ) (h : List Float) (la : List ℕ) (l : 
               (λ z. let y = eqb-true (p + 1) i z in
               let was = f.newest p y in
               let new : goes_by last key ≡ true = or_cases (eqb i 0) (goes_by last key) on (ne_eqb i 0 (λ v. omega arith)) in
-              let both : goes_by (key_by o (cut_of here (said p)) (said p)) (key_by o (cut_of here (said i)) (said i)) ≡ true =
-              ap (λ (v : Key). goes_by v (key_by o (cut_of here (said i)) (said i))) (sym was) ∙ ap (λ (v : Key). goes_by last v) (sym whole) ∙ new in
+              let both : goes_by (key_by here.outline (cut_of here (said p)) (said p)) (key_by here.outline (cut_of here (said i)) (said i)) ≡ true =
+              ap (λ (v : Key). goes_by v (key_by here.outline (cut_of here (said i)) (said i))) (sym was) ∙ ap (λ (v : Key). goes_by last v) (sym whole) ∙ new in
               rw y (goes-told here (said p) (said i) both))
               (λ z. f.goes p (lower (p + 1) u z));
           newest = λ p u. let y : p ≡ i = omega arith in rw y whole;

@@ -15,9 +15,8 @@ use Rattle.basis.specs.ItemLaws.{Filling, fill_none, fill_more, fill_end, items-
 use Rattle.basis.specs.Number.{+0}
 use Rattle.basis.specs.Room.{room_of, RoomFor}
 use Rattle.outline.specs.Points.{point_numbers}
-use Rattle.cut.specs.declared.arrival.Case.{Case}
 use Rattle.cut.specs.declared.arrival.Cut.{Cut}
-use Rattle.cut.specs.Cuts.{Given, given, cut_count, cut_of, Arrival}
+use Rattle.cut.specs.Cuts.{Given, cut_count, cut_of, Arrival}
 use Rattle.cut.specs.Order.{order_of, numbers_of, point_of, cut_numbers, cut_points, Roomy, Written}
 use Rattle.cut_order.specs.Sort.{OrderRoom, Found}
 use Rattle.cut_order.specs.Write.{Known, WriteRoom}
@@ -39,10 +38,7 @@ pub record Writing (g : Given) (cut_at : List ℕ) (cut : List Float) (cut_at_no
   pub numbers : Filling (numbers_at g) 3 cut_at cut_at_now i
   pub points : Filling (point_at g) 2 cut cut_now i
 
-module _ (o : List Float) (ha : List ℕ) (h : List Float) (la : List ℕ) (l : List Float) (s : Case) (cut_at : List ℕ) (cut : List Float) where
-  abbrev here : Given
-  here = given o ha h la l s
-
+module _ (here : Given) (cut_at : List ℕ) (cut : List Float) where
   pub write-none : Writing here cut_at cut cut_at cut 0
   write-none = record { ahead = omega arith; numbers = fill_none (numbers_at here) 3 (λ n. refl) cut_at; points = fill_none (point_at here) 2 (λ n. refl) cut }
 

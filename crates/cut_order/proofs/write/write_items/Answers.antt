@@ -1,31 +1,15 @@
-use Prim.Native.Nat.{◌-◌}
-use Rattle.cut_order.proofs.Writing.{writing}
-use borrow.Author.Rules.{rules}
+use native.Mathlib.Omega.{arith}
+use Rattle.cut_order.proofs.Writing.{known-arrival, write-none, write-more, write-end}
 use Rattle.cut_order.proofs.write.write_items.Goals as goal
 
 pub loop-i-init : goal.loop-i-init
-loop-i-init c = search (rules, writing)
+loop-i-init c = write-none _ _ _
 
 pub cut_of-c-requires : goal.cut_of-c-requires
-cut_of-c-requires c = search (rules, writing)
-
-pub overflow_mul-i : goal.overflow_mul-i
-overflow_mul-i c = search (rules, writing)
-
-pub put_numbers-requires : goal.put_numbers-requires
-put_numbers-requires c = search (rules, writing)
-
-pub overflow_mul-i-in-loop-i : goal.overflow_mul-i-in-loop-i
-overflow_mul-i-in-loop-i c = search (rules, writing)
-
-pub put_point-requires : goal.put_point-requires
-put_point-requires c = search (rules, writing)
-
-pub overflow_add-i : goal.overflow_add-i
-overflow_add-i c = search (rules, writing)
+cut_of-c-requires c = known-arrival _ _ _ _ c.requires _ (omega (arith, c.loop-i-test.true, c.count-i-end.ensures))
 
 pub loop-i-preserved : goal.loop-i-preserved
-loop-i-preserved c = search (rules, writing)
+loop-i-preserved c = write-more _ _ _ _ c.requires _ (omega (arith, c.loop-i-test.true, c.count-i-end.ensures)) _ _ _ _ _ c.loop-i.invariant c.cut_of-c.ensures c.put_numbers.ensures c.put_point.ensures
 
 pub returns : goal.returns
-returns c = search (rules, writing)
+returns c = write-end _ _ _ _ _ _ c.loop-i.invariant (omega (arith, c.loop-i-test.false, c.count-i-end.ensures))
