@@ -4,6 +4,7 @@ use Rattle.outline.specs.Outline.{point_at}
 use Rattle.cut.specs.Cuts as cuts
 use Rattle.cut.specs.Cuts.{cut_count, cut_of}
 use Rattle.cut.specs.Order.{cut_points}
+use Rattle.candidate.specs.declared.at_cut.Along.{Along}
 use Rattle.candidate.specs.Candidates.{Given}
 use Rattle.candidate.specs.Ready.{Rooms, Ready}
 use Rattle.candidate.specs.Steps.{Place, LastPlace}
@@ -12,6 +13,10 @@ use Rattle.candidate.specs.Steps.{Place, LastPlace}
 abbrev pub along : cuts.Given → List ℕ → List Float → Given
 along g cut_at splits =
     record { outline = g.outline; vc = g.vc; cut_at = cut_at; cut = cut_points g; count = cut_count g; splits = splits; tolerance = g.tolerance }
+
+-- the same, of the references that a function is handed
+abbrev pub told : Along → Given
+told a = along (cuts.held a.cuts) a.cut_at.now a.splits.now
 
 -- each place has the number of a cut, and the point there is that cut's
 pub record Told (g : cuts.Given) (cut_at : List ℕ) : Type 0 where

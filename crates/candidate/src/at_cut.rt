@@ -1,15 +1,15 @@
+#![tactic(auto, using(crate::specs::PlaceLaws::pieces, crate::specs::PlaceLaws::walks, crate::specs::PlaceLaws::places, basis::specs::Choice::cases), unfolding(crate::specs::Candidates::same_next, crate::specs::Candidates::candidate_at))]
 // What the cut at a place of the order gives: nothing, a piece or a walk.
 ghost use Rattle.std.specs.Prelude.{◌≡◌};
-ghost use Rattle.cut.specs.Cuts.{given};
+ghost use Rattle.cut.specs.Cuts.{held};
 ghost use Rattle.candidate.specs.Candidates.{same_next, piece_of, walked, walk_at, candidate_at};
 ghost use Rattle.candidate.specs.Steps.{NextFit, walk_with, WalkParts, WalkReady};
-ghost use Rattle.candidate.specs.Told.{along, ToldPlace, ToldLast};
+ghost use Rattle.candidate.specs.Told.{told, ToldPlace, ToldLast};
 
 use crate::next;
 use crate::next::Next;
 use basis::number::Tolerance;
-use cut::arrival;
-use cut::arrival::Case;
+use cut::arrival::Cuts;
 use outline::point::{Point, Vertex};
 use outline::{point, read};
 use view::create;
@@ -70,52 +70,43 @@ fn walk_by(end: Point, splits: &[f64], segment: usize, p: usize, next: Next) -> 
     }
 }
 
-// The walk from the cut at place p, its segment's last, to the first cut of the next segment that has one. That cut's point is the one of its number of arrival.
-fn walk(
-    outline: &[f64],
-    hit_at: &[usize],
-    hit: &[f64],
-    lap_at: &[usize],
-    lap: &[f64],
-    cut_at: &[usize],
-    splits: &[f64],
-    s: Case,
-    p: usize,
-) -> Candidate
-    requires { ToldLast (given outline.now hit_at.now hit.now lap_at.now lap.now s) cut_at.now splits.now p }
-    ensures { result ≡ walk_at (along (given outline.now hit_at.now hit.now lap_at.now lap.now s) cut_at.now splits.now) p }
-{
-    let segment = cut_at[3 * p];
-    let next = next::next_cut(cut_at, s.vc, s.hits + 2 * s.laps, p);
-    let n = cut_at[3 * next.cut + 2];
-    let end = arrival::cut_of(outline, hit_at, hit, lap_at, lap, s, n);
-    let w = walk_by(end.point, splits, segment, p, next);
-    walk_candidate(outline, s.vc, w, s.tolerance)
+// The cuts of one outline in an order that a list tells, three numbers a cut, and the splits along them.
+#[derive(Clone, Copy)]
+pub struct Along<'a> {
+    pub cuts: Cuts<'a>,
+    pub cut_at: &'a [usize],
+    pub splits: &'a [f64],
 }
 
-// What the cut at place p gives: nothing where it is marked, the piece to its neighbour, or the walk.
-pub fn candidate_at(
-    outline: &[f64],
-    hit_at: &[usize],
-    hit: &[f64],
-    lap_at: &[usize],
-    lap: &[f64],
-    cut_at: &[usize],
-    splits: &[f64],
-    s: Case,
-    p: usize,
-) -> Candidate
-    requires { ToldPlace (given outline.now hit_at.now hit.now lap_at.now lap.now s) cut_at.now splits.now p }
-    ensures { result ≡ candidate_at (along (given outline.now hit_at.now hit.now lap_at.now lap.now s) cut_at.now splits.now) p }
-{
-    if cut_at[3 * p + 1] == 1 {
-        return Candidate::Nothing;
+impl Along<'_> {
+    // The walk from the cut at place p, its segment's last, to the first cut of the next segment that has one. That cut's point is the one of its number of arrival.
+    fn walk(&self, p: usize) -> Candidate
+        requires { ToldLast (held self.now.cuts) self.now.cut_at.now self.now.splits.now p }
+        ensures { result ≡ walk_at (told self.now) p }
+    {
+        let s = self.cuts.case;
+        let segment = self.cut_at[3 * p];
+        let next = next::next_cut(self.cut_at, s.vc, s.count(), p);
+        let n = self.cut_at[3 * next.cut + 2];
+        let end = self.cuts.cut_of(n);
+        let w = walk_by(end.point, self.splits, segment, p, next);
+        walk_candidate(self.cuts.outline, s.vc, w, s.tolerance)
     }
-    if same_next(cut_at, s.hits + 2 * s.laps, p) {
-        let q = p + 1;
-        let a = read::vertex_at(splits, 3 * q);
-        let b = read::vertex_at(splits, 3 * q + 1);
-        return piece(cut_at[3 * p], a, b, s.tolerance);
+
+    // What the cut at place p gives: nothing where it is marked, the piece to its neighbour, or the walk.
+    pub fn candidate_at(&self, p: usize) -> Candidate
+        requires { ToldPlace (held self.now.cuts) self.now.cut_at.now self.now.splits.now p }
+        ensures { result ≡ candidate_at (told self.now) p }
+    {
+        if self.cut_at[3 * p + 1] == 1 {
+            return Candidate::Nothing;
+        }
+        if same_next(self.cut_at, self.cuts.case.count(), p) {
+            let q = p + 1;
+            let a = read::vertex_at(self.splits, 3 * q);
+            let b = read::vertex_at(self.splits, 3 * q + 1);
+            return piece(self.cut_at[3 * p], a, b, self.cuts.case.tolerance);
+        }
+        self.walk(p)
     }
-    walk(outline, hit_at, hit, lap_at, lap, cut_at, splits, s, p)
 }
