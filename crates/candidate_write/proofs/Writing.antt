@@ -89,9 +89,9 @@ pub ruleset uptos = (upto-none, upto-fit, upto_turn, upto-end)
 -- ---- the whole call
 
 -- behind the items there is room to be cleared
-pub rest-fit : (g : Given) (l l' : Rooms) (m : ℕ) → Ready g l → Items g l m l' → ClearFit l' m g.count
+pub rest-fit : (g : Given) (l l' : Rooms) (m need : ℕ) → need ≡ g.count → Ready g l → Items g l m l' → ClearFit l' m need
 unfolding candidates_of
-rest-fit g l l' m ready i =
+rest-fit g l l' m need all ready i =
     let r = ready.roomy in
     let a : length l'.at ≡ length (cand_numbers g) + (length l.at - 2 * m) = ap length i.at ∙ length-append (cand_numbers g) (drop (2 * m) l.at) ∙ rw (length-drop (2 * m) l.at) in
     let b : length l'.cand ≡ length (cand_shapes g) + (length l.cand - 6 * m) = ap length i.cand ∙ length-append (cand_shapes g) (drop (6 * m) l.cand) ∙ rw (length-drop (6 * m) l.cand) in
@@ -99,7 +99,7 @@ rest-fit g l l' m ready i =
     let x = flat-length 2 numbers_of wide-numbers g g.count in
     let y = flat-length 6 shape_of wide-shapes g g.count in
     let z = flat-length 6 probe_of wide-probes g g.count in
-    record {
+    rw all (record {
       within = i.few;
       roomy =
           record {
@@ -107,13 +107,13 @@ rest-fit g l l' m ready i =
             cand = omega (arith, b, y, i.counted, i.few, r.cand);
             probe = omega (arith, c, z, i.counted, i.few, r.probe);
           };
-    }
+    })
 
 -- the items, then what was cleared behind them
-pub written_of : (g : Given) (l l' l'' : Rooms) (m : ℕ) → Items g l m l'
-    → Cleared l' m g.count l'' → Written g l m l''
+pub written_of : (g : Given) (l l' l'' : Rooms) (m need : ℕ) → need ≡ g.count → Items g l m l' → Cleared l' m need l'' → Written g l m l''
 unfolding candidates_of
-written_of g l l' l'' m i z =
+written_of g l l' l'' m need all i cleared_rest =
+    let z : Cleared l' m g.count l'' = rw all at cleared_rest in
     record {
       counted = i.counted;
       at = room-left 0 2 g.count (cand_numbers g) l.at l'.at l''.at (2 * m) (2 * g.count) z.at i.at (rw i.counted (sym (flat-length 2 numbers_of wide-numbers g g.count))) refl (omega (arith, i.few));
@@ -136,4 +136,4 @@ module _ (l l₁ : List ℕ) (m need edition : ℕ) (h : Stretch l m need) (p : 
   editions-written l₂ q =
       room-left 0 1 need (replicate m edition) l l₁ l₂ m need q (fill-front l l₁ m edition p) (sym (length-replicate m edition)) (omega arith) h.ordered
 
-pub ruleset wholes = (rest-fit, written_of)
+pub ruleset wholes = (rest-fit, written_of, editions-front, editions-written)

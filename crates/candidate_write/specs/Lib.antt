@@ -1,3 +1,4 @@
+pub mod Lent
 pub mod ItemLaws
 pub mod CandidateTheorems
 pub mod RangeTheorems

@@ -1,10 +1,11 @@
+#![tactic(auto, using(crate::proofs::Putting::putting))]
 // Writing candidates into lent room.
 ghost use Rattle.std.specs.Prelude.{◌≡◌, ◌++◌};
 ghost use Rattle.std.proofs.lemmas.List.Edits.{sets};
 ghost use Rattle.basis.specs.Room.{RoomFor};
 ghost use Rattle.outline.specs.Points.{vertex_numbers};
 ghost use Rattle.view.specs.View.{view_numbers};
-ghost use Rattle.candidate.specs.Ready.{rooms};
+ghost use Rattle.candidate_write.specs.Lent.{lent};
 ghost use Rattle.candidate.specs.Steps.{PutFit, Put};
 
 use candidate::at_cut::Candidate;
@@ -38,22 +39,26 @@ fn put_probe(probe: &mut [f64], at: usize, a: Vertex, b: Vertex)
     write::put_vertex(probe, at + 3, b);
 }
 
-// Writes a candidate after the m that stand there already, and says how many there are now.
-pub(crate) fn put_candidate(
-    cand_at: &mut [usize],
-    cand: &mut [f64],
-    probe: &mut [f64],
-    m: usize,
-    c: Candidate,
-) -> usize
-    requires { PutFit (rooms cand_at.old cand.old probe.old) m }
-    ensures { Put c m (rooms cand_at.old cand.old probe.old) result (rooms cand_at.new cand.new probe.new) }
-{
-    let Candidate::Slice(v, a, b) = c else {
-        return m;
-    };
-    write::put_pair(cand_at, 2 * m, v.start_index, v.end_index_offset);
-    put_view(cand, 6 * m, v);
-    put_probe(probe, 6 * m, a, b);
-    m + 1
+// The lists lent to candidates: start and offset of each, the six numbers of its view, and the two vertices to be tested.
+#[derive(Drop)]
+pub struct Lent<'a> {
+    pub at: &'a mut [usize],
+    pub cand: &'a mut [f64],
+    pub probe: &'a mut [f64],
+}
+
+impl Lent<'_> {
+    // Writes a candidate after the m that stand there already, and says how many there are now.
+    pub(crate) fn put(&mut self, m: usize, c: Candidate) -> usize
+        requires { PutFit (lent self.old) m }
+        ensures { Put c m (lent self.old) result (lent self.new) }
+    {
+        let Candidate::Slice(v, a, b) = c else {
+            return m;
+        };
+        write::put_pair(self.at, 2 * m, v.start_index, v.end_index_offset);
+        put_view(self.cand, 6 * m, v);
+        put_probe(self.probe, 6 * m, a, b);
+        m + 1
+    }
 }

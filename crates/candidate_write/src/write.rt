@@ -1,77 +1,47 @@
+#![tactic(auto, using(crate::proofs::Writing::uptos, crate::proofs::Writing::wholes))]
 // The candidates of one outline, written into lent room.
 ghost use Rattle.std.specs.Prelude.{◌≡◌, replicate};
 ghost use Rattle.basis.specs.Room.{room_of, Stretch};
-ghost use Rattle.cut.specs.Cuts.{given};
-ghost use Rattle.candidate.specs.Ready.{rooms, Written};
+ghost use Rattle.cut.specs.Cuts.{held};
+ghost use Rattle.candidate.specs.Ready.{Written};
 ghost use Rattle.candidate.specs.Steps.{Items, ClearFit, Cleared};
-ghost use Rattle.candidate.specs.Told.{along, ToldReady};
+ghost use Rattle.candidate.specs.Told.{told, ToldReady};
+ghost use Rattle.candidate_write.specs.Lent.{lent};
 
-use crate::put;
+use crate::put::Lent;
 use basis::room;
-use candidate::at_cut;
-use cut::arrival::Case;
-use slice::edition as editions;
+use candidate::at_cut::Along;
 
 // Writes the candidates in order of places, and says how many there are.
-fn write_items(
-    outline: &[f64],
-    hit_at: &[usize],
-    hit: &[f64],
-    lap_at: &[usize],
-    lap: &[f64],
-    cut_at: &[usize],
-    splits: &[f64],
-    s: Case,
-    cand_at: &mut [usize],
-    cand: &mut [f64],
-    probe: &mut [f64],
-) -> usize
-    requires { ToldReady (given outline.now hit_at.now hit.now lap_at.now lap.now s) cut_at.now splits.now (rooms cand_at.old cand.old probe.old) }
-    ensures { Items (along (given outline.now hit_at.now hit.now lap_at.now lap.now s) cut_at.now splits.now) (rooms cand_at.old cand.old probe.old) result (rooms cand_at.new cand.new probe.new) }
+fn write_items(along: &Along, lists: &mut Lent) -> usize
+    requires { ToldReady (held along.now.cuts) along.now.cut_at.now along.now.splits.now (lent lists.old) }
+    ensures { Items (told along.now) (lent lists.old) result (lent lists.new) }
 {
-    let count = s.hits + 2 * s.laps;
     let mut m = 0;
-    let mut p = 0;
-    while p < count {
-        let c = at_cut::candidate_at(outline, hit_at, hit, lap_at, lap, cut_at, splits, s, p);
-        m = put::put_candidate(cand_at, cand, probe, m, c);
-        p += 1;
+    for p in 0..along.cuts.case.count() {
+        let c = along.candidate_at(p);
+        m = lists.put(m, c);
     }
     m
 }
 
 // Sets each list to zero from candidate number m up to the need.
-fn clear_rest(cand_at: &mut [usize], cand: &mut [f64], probe: &mut [f64], m: usize, need: usize)
-    requires { ClearFit (rooms cand_at.old cand.old probe.old) m need }
-    ensures { Cleared (rooms cand_at.old cand.old probe.old) m need (rooms cand_at.new cand.new probe.new) }
+fn clear_rest(lists: &mut Lent, m: usize, need: usize)
+    requires { ClearFit (lent lists.old) m need }
+    ensures { Cleared (lent lists.old) m need (lent lists.new) }
 {
-    room::clear_counts(cand_at, 2 * m, 2 * need);
-    room::clear_numbers(cand, 6 * m, 6 * need);
-    room::clear_numbers(probe, 6 * m, 6 * need);
+    room::fill(lists.at, 2 * m, 2 * need, 0);
+    room::fill(lists.cand, 6 * m, 6 * need, 0.0);
+    room::fill(lists.probe, 6 * m, 6 * need, 0.0);
 }
 
 // Writes the candidates along the order that the list tells, then zero up to one candidate per cut, and says how many candidates there are.
-pub fn write_candidates(
-    outline: &[f64],
-    hit_at: &[usize],
-    hit: &[f64],
-    lap_at: &[usize],
-    lap: &[f64],
-    cut_at: &[usize],
-    splits: &[f64],
-    s: Case,
-    cand_at: &mut [usize],
-    cand: &mut [f64],
-    probe: &mut [f64],
-) -> usize
-    requires { ToldReady (given outline.now hit_at.now hit.now lap_at.now lap.now s) cut_at.now splits.now (rooms cand_at.old cand.old probe.old) }
-    ensures { Written (along (given outline.now hit_at.now hit.now lap_at.now lap.now s) cut_at.now splits.now) (rooms cand_at.old cand.old probe.old) result (rooms cand_at.new cand.new probe.new) }
+pub fn write_candidates(along: &Along, lists: &mut Lent) -> usize
+    requires { ToldReady (held along.now.cuts) along.now.cut_at.now along.now.splits.now (lent lists.old) }
+    ensures { Written (told along.now) (lent lists.old) result (lent lists.new) }
 {
-    let need = s.hits + 2 * s.laps;
-    let m = write_items(
-        outline, hit_at, hit, lap_at, lap, cut_at, splits, s, cand_at, cand, probe,
-    );
-    clear_rest(cand_at, cand, probe, m, need);
+    let m = write_items(along, lists);
+    clear_rest(lists, m, along.cuts.case.count());
     m
 }
 
@@ -80,6 +50,6 @@ pub fn write_editions(cand_edition: &mut [u32], m: usize, need: usize, edition: 
     requires { Stretch cand_edition.old m need }
     ensures { cand_edition.new ≡ room_of 0 1 need (replicate m edition) cand_edition.old }
 {
-    editions::fill(cand_edition, 0, m, edition);
-    editions::fill(cand_edition, m, need, 0);
+    room::fill(cand_edition, 0, m, edition);
+    room::fill(cand_edition, m, need, 0);
 }
