@@ -1,101 +1,56 @@
-// The refusals that `mask_cut_order` and `mask_candidates` share, part by part of their table. Each row has a way out of its own: an accepted call then keeps no number on the way.
+#![tactic(auto, unfolding(basis::specs::Refuse::first_from, basis::specs::Refuse::or_else, crate::specs::CutRows::list_rows, crate::specs::CutRows::value_rows, crate::specs::CutRows::index_rows, crate::specs::CutRows::view_start_fault, crate::specs::CutRows::view_offset_fault))]
+// The refusals that `mask_cut_order` and `mask_candidates` share, part by part of their table.
 ghost use Rattle.std.specs.Prelude.{◌≡◌};
 ghost use Rattle.basis.specs.Refuse.{first_from};
-ghost use Rattle.cut.specs.Cuts.{given};
+ghost use Rattle.basis.specs.Refusals.{found};
+ghost use Rattle.cut.specs.Cuts.{held};
 ghost use Rattle.cut_entries.specs.CutRows.{list_rows, code_rows, range_rows, value_rows, view_start_fault, view_offset_fault, lap_index_rows, index_rows};
 
-use basis::number::Tolerance;
+use basis::refuse::Refusal;
 use basis::sizes::{MOST_HITS, MOST_LAPS};
 use basis::{items, number, refuse};
 use cut::arrival;
-use cut::arrival::Case;
+use cut::arrival::{Case, Cuts};
 
 // Number 1.
-pub fn list_refusal(
-    outline: &[f64],
-    hit_at: &[usize],
-    hit: &[f64],
-    lap_at: &[usize],
-    lap: &[f64],
-    s: Case,
-) -> u32
-    ensures { result ≡ first_from 0 (list_rows (given outline.now hit_at.now hit.now lap_at.now lap.now s)) }
+pub fn list_refusal(cuts: &Cuts) -> Result<(), Refusal>
+    ensures { found result ≡ first_from 0 (list_rows (held cuts.now)) }
 {
-    if refuse::bad_length(outline.len(), 3, s.vc) {
-        return 1;
-    }
-    if refuse::bad_length(hit_at.len(), 2, s.hits) {
-        return 1;
-    }
-    if refuse::bad_length(hit.len(), 2, s.hits) {
-        return 1;
-    }
-    if refuse::bad_length(lap_at.len(), 7, s.laps) {
-        return 1;
-    }
-    if refuse::bad_length(lap.len(), 6, s.laps) {
-        return 1;
-    }
-    if MOST_HITS < s.hits {
-        return 1;
-    }
-    if MOST_LAPS < s.laps {
-        return 1;
-    }
-    0
+    let s = cuts.case;
+    refuse::when(refuse::bad_length(cuts.outline.len(), 3, s.vc), Refusal::Length)?;
+    refuse::when(refuse::bad_length(cuts.hit_at.len(), 2, s.hits), Refusal::Length)?;
+    refuse::when(refuse::bad_length(cuts.hit.len(), 2, s.hits), Refusal::Length)?;
+    refuse::when(refuse::bad_length(cuts.lap_at.len(), 7, s.laps), Refusal::Length)?;
+    refuse::when(refuse::bad_length(cuts.lap.len(), 6, s.laps), Refusal::Length)?;
+    refuse::when(MOST_HITS < s.hits, Refusal::Length)?;
+    refuse::when(MOST_LAPS < s.laps, Refusal::Length)
 }
 
 // Numbers 2 to 4.
-fn code_refusal(vc: usize, source: usize, t: Tolerance, lap_at: &[usize]) -> u32
-    ensures { result ≡ first_from 0 (code_rows vc source t lap_at.now) }
+fn code_refusal(case: Case, lap_at: &[usize]) -> Result<(), Refusal>
+    ensures { found result ≡ first_from 0 (code_rows case.vc case.source case.tolerance lap_at.now) }
 {
-    if refuse::bad_size(vc) {
-        return 2;
-    }
-    if refuse::bad_source(source) {
-        return 3;
-    }
-    if !items::choices_known(lap_at, 7, 4) {
-        return 3;
-    }
-    if !number::in_tolerance(t) {
-        return 4;
-    }
-    0
+    refuse::when(refuse::bad_size(case.vc), Refusal::Outline)?;
+    refuse::when(refuse::bad_source(case.source), Refusal::Code)?;
+    refuse::when(!items::choices_known(lap_at, 7, 4), Refusal::Code)?;
+    refuse::when(!number::in_tolerance(case.tolerance), Refusal::Tolerance)
 }
 
 // Number 5.
-fn range_refusal(outline: &[f64], hit: &[f64], lap: &[f64]) -> u32
-    ensures { result ≡ first_from 0 (range_rows outline.now hit.now lap.now) }
+fn range_refusal(outline: &[f64], hit: &[f64], lap: &[f64]) -> Result<(), Refusal>
+    ensures { found result ≡ first_from 0 (range_rows outline.now hit.now lap.now) }
 {
-    if !number::all_in_range(outline) {
-        return 5;
-    }
-    if !number::all_in_range(hit) {
-        return 5;
-    }
-    if !number::all_in_range(lap) {
-        return 5;
-    }
-    0
+    refuse::when(!number::all_in_range(outline), Refusal::Number)?;
+    refuse::when(!number::all_in_range(hit), Refusal::Number)?;
+    refuse::when(!number::all_in_range(lap), Refusal::Number)
 }
 
 // Numbers 2 to 5.
-pub fn value_refusal(
-    outline: &[f64],
-    hit_at: &[usize],
-    hit: &[f64],
-    lap_at: &[usize],
-    lap: &[f64],
-    s: Case,
-) -> u32
-    ensures { result ≡ first_from 0 (value_rows (given outline.now hit_at.now hit.now lap_at.now lap.now s)) }
+pub fn value_refusal(cuts: &Cuts) -> Result<(), Refusal>
+    ensures { found result ≡ first_from 0 (value_rows (held cuts.now)) }
 {
-    let r = code_refusal(s.vc, s.source, s.tolerance, lap_at);
-    if r != 0 {
-        return r;
-    }
-    range_refusal(outline, hit, lap)
+    code_refusal(cuts.case, cuts.lap_at)?;
+    range_refusal(cuts.outline, cuts.hit, cuts.lap)
 }
 
 // Number 6: an overlap's own view, which is of outline 2, starts at an index that the outline has not.
@@ -113,39 +68,22 @@ fn bad_view_offset(source: usize, vc: usize, lap_at: &[usize]) -> bool
 }
 
 // Numbers 6 and 7, of the overlaps.
-fn lap_index_refusal(source: usize, vc: usize, lap_at: &[usize]) -> u32
-    ensures { result ≡ first_from 0 (lap_index_rows source vc lap_at.now) }
+fn lap_index_refusal(source: usize, vc: usize, lap_at: &[usize]) -> Result<(), Refusal>
+    ensures { found result ≡ first_from 0 (lap_index_rows source vc lap_at.now) }
 {
     let which = arrival::which_of(source);
-    if !items::all_below(lap_at, 7, which, vc) {
-        return 6;
-    }
-    if !items::all_below(lap_at, 7, 2 + which, vc) {
-        return 6;
-    }
-    if bad_view_start(source, vc, lap_at) {
-        return 6;
-    }
-    if bad_view_offset(source, vc, lap_at) {
-        return 7;
-    }
-    0
+    refuse::when(!items::all_below(lap_at, 7, which, vc), Refusal::Index)?;
+    refuse::when(!items::all_below(lap_at, 7, 2 + which, vc), Refusal::Index)?;
+    refuse::when(bad_view_start(source, vc, lap_at), Refusal::Index)?;
+    refuse::when(bad_view_offset(source, vc, lap_at), Refusal::Count)
 }
 
 // Numbers 6 and 7.
-pub fn index_refusal(
-    outline: &[f64],
-    hit_at: &[usize],
-    hit: &[f64],
-    lap_at: &[usize],
-    lap: &[f64],
-    s: Case,
-) -> u32
-    ensures { result ≡ first_from 0 (index_rows (given outline.now hit_at.now hit.now lap_at.now lap.now s)) }
+pub fn index_refusal(cuts: &Cuts) -> Result<(), Refusal>
+    ensures { found result ≡ first_from 0 (index_rows (held cuts.now)) }
 {
+    let s = cuts.case;
     let which = arrival::which_of(s.source);
-    if !items::all_below(hit_at, 2, which, s.vc) {
-        return 6;
-    }
-    lap_index_refusal(s.source, s.vc, lap_at)
+    refuse::when(!items::all_below(cuts.hit_at, 2, which, s.vc), Refusal::Index)?;
+    lap_index_refusal(s.source, s.vc, cuts.lap_at)
 }

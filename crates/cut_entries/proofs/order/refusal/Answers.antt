@@ -1,21 +1,17 @@
+use Rattle.std.proofs.Common.{rules}
 use native.Mathlib.Omega.{arith}
-use Rattle.cut_entries.proofs.Ordering.{input-few, parts}
-use borrow.Author.Rules.{rules}
+use Rattle.basis.specs.RefusalLaws.{looks, found-none}
+use Rattle.cut_entries.proofs.Ordering.{parts, input-few}
 use Rattle.cut_entries.proofs.order.refusal.Goals as goal
 
-pub returns-then-r-ne0 : goal.returns-then-r-ne0
-returns-then-r-ne0 c = search (rules, parts)
+pub returns-in_err-input_refusal : goal.returns-in_err-input_refusal
+returns-in_err-input_refusal c = search (rules, parts, looks)
 
-pub overflow_mul-s : goal.overflow_mul-s
-overflow_mul-s c =
-    record { fits = omega (arith, input-few _ _ c.input_refusal-r.ensures c.if-r-ne0.false) }
-
-pub overflow_add-s : goal.overflow_add-s
-overflow_add-s c =
-    record { fits = omega (arith, input-few _ _ c.input_refusal-r.ensures c.if-r-ne0.false) }
+pub count-requires : goal.count-requires
+count-requires c = omega (arith, input-few _ _ c.input_refusal.ensures (found-none _ _ c.in_ok-input_refusal.was))
 
 pub room_refusal-requires : goal.room_refusal-requires
-room_refusal-requires c = input-few _ _ c.input_refusal-r.ensures c.if-r-ne0.false
+room_refusal-requires c = search (rules, input-few, looks)
 
 pub returns : goal.returns
-returns c = search (rules, parts)
+returns c = search (rules, parts, looks)
