@@ -19,15 +19,9 @@ use Rattle.candidate_lists.specs.ListsLaws.{along-sound, cuts-told}
 
 -- ---- the cuts in lists of their own
 module _ (g : Given) (splits : List Float) (l : Rooms) (sorted cut_at : List ℕ) (cut : List Float) where
-  -- lists for so many cuts are enough for a call that has no more, and lists for 768 cuts for every call
+  -- lists for so many cuts are enough for a call that has no more
   pub few-lists : (most : ℕ) → Few most g splits l → length sorted ≡ most → length cut_at ≡ 3 * most → length cut ≡ 2 * most → FoundRoom g splits l sorted cut_at cut
   few-lists most f c d e = let h = f.few in record { ok = f.ok; sorted_long = omega arith; number_room = omega arith; point_room = omega arith }
-
-  pub most-lists : Accepted g splits l → length sorted ≡ most_candidates → length cut_at ≡ 3 * most_candidates → length cut ≡ 2 * most_candidates → FoundRoom g splits l sorted cut_at cut
-  most-lists ok =
-      let h = ok.along.accepted.ready.few_hits in
-      let k = ok.along.accepted.ready.few_laps in
-      few-lists most_candidates (record { ok = ok; few = omega arith })
 
   pub sort-room : FoundRoom g splits l sorted cut_at cut → WriteRoom g sorted cut_at cut
   sort-room r = record { roomy = record { accepted = r.ok.along.accepted; number_room = r.number_room; point_room = r.point_room }; long = r.sorted_long }
@@ -53,4 +47,4 @@ module _ (g : Given) (splits : List Float) (lent : Rooms) (told : List ℕ) (e :
   pub told-written : (left : Rooms) (r : ℕ) → Written (along g told splits) lent r left → Written (along_cuts g splits) lent r left
   told-written left r q = subst (λ (x : List ℕ). Written (along g x splits) lent r left) e q
 
-pub ruleset fronts = (sort-room, in-front, told-ready, told-written)
+pub ruleset fronts = (few-lists, sort-room, front_length, in-front, told-ready, told-written)

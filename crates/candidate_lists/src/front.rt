@@ -1,40 +1,24 @@
+#![tactic(auto, using(crate::proofs::Finding::fronts))]
 // The candidates along an order that stands in front of its list.
-ghost use Rattle.cut.specs.Cuts.{given};
-ghost use Rattle.candidate.specs.Ready.{rooms, Written};
+ghost use Rattle.cut.specs.Cuts.{held};
+ghost use Rattle.candidate.specs.Ready.{Written};
+ghost use Rattle.candidate_write.specs.Lent.{lent};
 ghost use Rattle.candidate_lists.specs.Lists.{along_cuts, InFront};
 
+use candidate::at_cut::Along;
+use candidate_write::put::Lent;
 use candidate_write::write;
-use cut::arrival::Case;
 
 // The candidates along the order in front of the list.
-pub(crate) fn walked(
-    outline: &[f64],
-    hit_at: &[usize],
-    hit: &[f64],
-    lap_at: &[usize],
-    lap: &[f64],
-    cut_at: &[usize],
-    splits: &[f64],
-    s: Case,
-    cand_at: &mut [usize],
-    cand: &mut [f64],
-    probe: &mut [f64],
-) -> usize
-    requires { InFront (given outline.now hit_at.now hit.now lap_at.now lap.now s) cut_at.now splits.now (rooms cand_at.old cand.old probe.old) }
-    ensures { Written (along_cuts (given outline.now hit_at.now hit.now lap_at.now lap.now s) splits.now) (rooms cand_at.old cand.old probe.old) result (rooms cand_at.new cand.new probe.new) }
+pub(crate) fn walked(along: &Along, lists: &mut Lent) -> usize
+    requires { InFront (held along.now.cuts) along.now.cut_at.now along.now.splits.now (lent lists.old) }
+    ensures { Written (along_cuts (held along.now.cuts) along.now.splits.now) (lent lists.old) result (lent lists.new) }
 {
-    let numbers = 3 * (s.hits + 2 * s.laps);
-    write::write_candidates(
-        outline,
-        hit_at,
-        hit,
-        lap_at,
-        lap,
-        &cut_at[..numbers],
-        splits,
-        s,
-        cand_at,
-        cand,
-        probe,
-    )
+    let numbers = 3 * along.cuts.case.count();
+    let front = Along {
+        cuts: along.cuts,
+        cut_at: &along.cut_at[..numbers],
+        splits: along.splits,
+    };
+    write::write_candidates(&front, lists)
 }

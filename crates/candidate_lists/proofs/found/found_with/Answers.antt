@@ -1,10 +1,5 @@
-use Rattle.candidate_lists.proofs.Finding.{fronts, in-front}
-use borrow.Author.Rules.{rules}
+use Rattle.candidate_lists.proofs.Finding.{in-front}
 use Rattle.candidate_lists.proofs.found.found_with.Goals as goal
 
 pub walked-requires : goal.walked-requires
-walked-requires c =
-    in-front _ _ _ _ _ _ _ c.write_order.ensures c.requires.ok c.requires.number_room c.requires.point_room
-
-pub returns : goal.returns
-returns c = search (rules, fronts)
+walked-requires c = in-front _ _ _ _ _ _ _ c.write_order.ensures c.requires.ok c.requires.number_room c.requires.point_room
