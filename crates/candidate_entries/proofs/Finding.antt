@@ -7,33 +7,23 @@ use lib.ListN.{replicate}
 use lib.Ieee.{Float}
 use Rattle.basis.specs.Room.{room_of, Stretch}
 use Rattle.basis.specs.Refuse.{first_from}
-use Rattle.basis.specs.RefuseLaws.{stop-rows, go-rows, answer-no, answer-yes}
+use Rattle.basis.specs.RefuseLaws.{first-from, answer-no, answer-yes}
 use Rattle.basis.specs.declared.answer.CountAnswer.{CountAnswer}
 use Rattle.basis.specs.Answers.{count_refused, counted}
 use Rattle.cut.specs.Cuts.{Given, cut_count}
-use Rattle.cut.specs.Order as order
-use Rattle.candidate.specs.Candidates as slices
 use Rattle.candidate.specs.Ready.{Rooms, Written}
 use Rattle.candidate_write.specs.CandidateTheorems.{count_most}
 use Rattle.cut_entries.specs.CutRows.{list_rows, value_rows, index_rows}
 use Rattle.cut_entries.specs.CutRowsLaws.{few-passed}
 use Rattle.candidate_faults.specs.declared.Lengths.{Lengths}
 use Rattle.candidate_lists.specs.Lists.{along_cuts}
-use Rattle.candidate_entries.specs.Candidates.{Lent, rooms_of, lengths, later_rows, candidates_refusal, cand_number, Sliced, Roomed, Dated}
+use Rattle.candidate_entries.specs.Candidates.{Lent, lent, rooms_of, lengths, later_rows, candidates_rows, candidates_refusal, cand_number, Sliced, Roomed, Dated}
 use Rattle.candidate_entries.specs.CandidatesLaws.{cand-pass, cand-accepted, editions-roomy}
 
--- ---- the table in parts
-
-module _ (g : Given) (splits : List Float) (lent : Lengths) (p : ℕ) (found : p ≡ first_from 0 (list_rows g)) where
-  pub cand-stops : (p ≡ 0 → ⊥) → p ≡ candidates_refusal g splits lent
-  unfolding candidates_refusal
-  cand-stops h = stop-rows (list_rows g) (later_rows g splits lent) p (unfold list_rows in tt) found h
-
-  pub cand-goes : (r : ℕ) → p ≡ 0 → r ≡ first_from 0 (later_rows g splits lent) → r ≡ candidates_refusal g splits lent
-  unfolding candidates_refusal
-  cand-goes r z e = go-rows (list_rows g) (later_rows g splits lent) p r (unfold list_rows in tt) (unfold later_rows value_rows index_rows in tt) found z e
-
-pub ruleset parts = (cand-stops, cand-goes)
+-- ---- the whole table
+pub looked : (g : Given) (splits : List Float) (lent : Lengths) (p : ℕ) → p ≡ first_from 0 (candidates_rows g splits lent) → p ≡ candidates_refusal g splits lent
+unfolding candidates_refusal
+looked g splits lent p e = first-from (candidates_rows g splits lent) p (unfold list_rows value_rows index_rows later_rows in tt) e
 
 -- ---- the two ways out
 module _ (g : Given) (splits : List Float) (edition : ℕ) (l : Lent) (number : ℕ) (is : number ≡ cand_number g splits l) where
@@ -68,5 +58,11 @@ module _ (g : Given) (splits : List Float) (edition : ℕ) (l : Lent) (number : 
 pub ruleset ways = (cand-ready, cand-refused, cand-given)
 
 -- there are no more candidates than cuts, and an edition for each has its room
-pub editions-ready : (g : Given) (splits : List Float) (l : Lent) (m : ℕ) (left : Rooms) → Roomed g splits l → Written (along_cuts g splits) (rooms_of l) m left → Stretch l.edition m (cut_count g)
-editions-ready g splits l m left k w = record { ordered = omega (arith, w.counted, count_most (along_cuts g splits)); inside = k.editions }
+pub editions-ready : (g : Given) (splits : List Float) (l : Lent) (m : ℕ) (left : Rooms) (count : ℕ) → count ≡ cut_count g → Roomed g splits l → Written (along_cuts g splits) (rooms_of l) m left
+    → Stretch l.edition m count
+editions-ready g splits l m left count all k w = rw all (record { ordered = omega (arith, w.counted, count_most (along_cuts g splits)); inside = k.editions })
+
+-- the lists in their places, as who lent them has them back
+pub cand-back : (g : Given) (splits : List Float) (edition : ℕ) (l : Lent) (r : CountAnswer) (left : Lent) (a : List ℕ) (b p : List Float) → Sliced g splits edition l r left
+    → a ≡ left.at → b ≡ left.cand → p ≡ left.probe → Sliced g splits edition l r (lent a b p left.edition)
+cand-back g splits edition l r left a b p s x y z = record { answers = s.answers; at = x ∙ s.at; cand = y ∙ s.cand; probe = z ∙ s.probe; editions = s.editions }

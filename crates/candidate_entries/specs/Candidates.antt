@@ -1,12 +1,11 @@
 -- The entry `mask_candidates`: its refusals, its answer, and what its four lent lists hold. It works the order out itself, from the same lists as `mask_cut_order`.
-use Rattle.std.specs.Prelude.{ℕ, ◌+◌, ◌≤◌, ◌≡◌, List, ◌++◌, length, replicate, Float}
+use Rattle.std.specs.Prelude.{ℕ, ◌≤◌, ◌≡◌, List, ◌++◌, length, replicate, Float}
 use Rattle.basis.specs.Number.{+0}
 use Rattle.basis.specs.Room.{room_of}
 use Rattle.basis.specs.Refuse.{Row, first_of, answer}
 use Rattle.basis.specs.declared.answer.CountAnswer.{CountAnswer}
 use Rattle.basis.specs.Answers.{count_refused, counted}
 use Rattle.cut.specs.Cuts.{Given, cut_count}
-use Rattle.cut.specs.Order as order
 use Rattle.candidate.specs.Candidates as slices
 use Rattle.candidate_lists.specs.Lists.{along_cuts, Accepted}
 use Rattle.candidate.specs.Ready.{Rooms, rooms, Written}

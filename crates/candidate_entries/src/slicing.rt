@@ -1,77 +1,35 @@
+#![tactic(auto)]
 // The entry over the candidates, without a hint.
 ghost use Rattle.std.specs.Prelude.{◌≡◌};
 ghost use Rattle.basis.specs.Number.{tolerance_of};
-ghost use Rattle.cut.specs.Cuts.{given, case_of};
-ghost use Rattle.candidate_entries.specs.Candidates.{lent, candidates_refusal, Roomed, Dated, Sliced};
+ghost use Rattle.cut.specs.Cuts.{held, given, case_of};
+ghost use Rattle.candidate_write.specs.Lent.{Same};
+ghost use Rattle.candidate_entries.specs.Candidates.{lent, Roomed, Dated, Sliced};
 
+use crate::faults;
 use basis::answer;
 use basis::answer::CountAnswer;
 use basis::number::Tolerance;
 use candidate_faults::Lengths;
 use candidate_lists::found;
+use candidate_write::put::Lent;
 use candidate_write::write;
-use cut::arrival::Case;
-use cut_entries::faults;
-
-// The whole table, part by part. There is no number 10 (request K12).
-fn refusal(
-    outline: &[f64],
-    hit_at: &[usize],
-    hit: &[f64],
-    lap_at: &[usize],
-    lap: &[f64],
-    splits: &[f64],
-    s: Case,
-    lent: Lengths,
-) -> u32
-    ensures { result ≡ candidates_refusal (given outline.now hit_at.now hit.now lap_at.now lap.now s) splits.now lent }
-{
-    let r = faults::list_refusal(outline, hit_at, hit, lap_at, lap, s);
-    if r != 0 {
-        return r;
-    }
-    let count = s.hits + 2 * s.laps;
-    let r = candidate_faults::split_length_refusal(count, splits.len());
-    if r != 0 {
-        return r;
-    }
-    let r = faults::value_refusal(outline, hit_at, hit, lap_at, lap, s);
-    if r != 0 {
-        return r;
-    }
-    let r = candidate_faults::split_refusal(splits);
-    if r != 0 {
-        return r;
-    }
-    let r = faults::index_refusal(outline, hit_at, hit, lap_at, lap, s);
-    if r != 0 {
-        return r;
-    }
-    candidate_faults::room_refusal(count, lent)
-}
+use cut::arrival::{Case, Cuts};
 
 // The candidates of an accepted call, with the edition beside each.
 fn found_dated(
-    outline: &[f64],
-    hit_at: &[usize],
-    hit: &[f64],
-    lap_at: &[usize],
-    lap: &[f64],
+    cuts: &Cuts,
     splits: &[f64],
-    s: Case,
     edition: u32,
-    cand_at: &mut [usize],
-    cand: &mut [f64],
-    probe: &mut [f64],
+    lists: &mut Lent,
     cand_edition: &mut [u32],
 ) -> usize
-    requires { Roomed (given outline.now hit_at.now hit.now lap_at.now lap.now s) splits.now (lent cand_at.old cand.old probe.old cand_edition.old) }
-    ensures { Dated (given outline.now hit_at.now hit.now lap_at.now lap.now s) splits.now edition (lent cand_at.old cand.old probe.old cand_edition.old) result (lent cand_at.new cand.new probe.new cand_edition.new) }
+    requires { Roomed (held cuts.now) splits.now (lent lists.old.at.now lists.old.cand.now lists.old.probe.now cand_edition.old) }
+    ensures same { Same lists.old lists.new }
+    ensures written { Dated (held cuts.now) splits.now edition (lent lists.old.at.now lists.old.cand.now lists.old.probe.now cand_edition.old) result (lent lists.new.at.now lists.new.cand.now lists.new.probe.now cand_edition.new) }
 {
-    let m = found::found(
-        outline, hit_at, hit, lap_at, lap, splits, s, cand_at, cand, probe,
-    );
-    write::write_editions(cand_edition, m, s.hits + 2 * s.laps, edition);
+    let m = found::found(cuts, splits, lists);
+    write::write_editions(cand_edition, m, cuts.case.count(), edition);
     m
 }
 
@@ -98,39 +56,40 @@ pub fn entry(
 ) -> CountAnswer
     ensures { Sliced (given outline.now hit_at.now hit.now lap_at.now lap.now (case_of vc source hits laps (tolerance_of tolerance_x tolerance_y))) splits.now edition (lent cand_at.old cand.old probe.old cand_edition.old) result (lent cand_at.new cand.new probe.new cand_edition.new) }
 {
-    let t = Tolerance {
+    let tolerance = Tolerance {
         x: tolerance_x,
         y: tolerance_y,
     };
-    let s = Case {
+    let case = Case {
         vc,
         source: source as usize,
         hits,
         laps,
-        tolerance: t,
+        tolerance,
     };
-    let lent = Lengths {
-        at: cand_at.len(),
-        cand: cand.len(),
-        probe: probe.len(),
-        edition: cand_edition.len(),
-    };
-    let number = refusal(outline, hit_at, hit, lap_at, lap, splits, s, lent);
-    if number != 0 {
-        return answer::count_refused(number);
-    }
-    answer::counted_as(found_dated(
+    let cuts = Cuts {
         outline,
         hit_at,
         hit,
         lap_at,
         lap,
-        splits,
-        s,
-        edition,
-        cand_at,
-        cand,
-        probe,
-        cand_edition,
-    ))
+        case,
+    };
+    let lengths = Lengths {
+        at: cand_at.len(),
+        cand: cand.len(),
+        probe: probe.len(),
+        edition: cand_edition.len(),
+    };
+    match faults::refusal(&cuts, splits, lengths) {
+        Err(refusal) => answer::count_refused(refusal.number()),
+        Ok(()) => {
+            let mut lists = Lent {
+                at: cand_at,
+                cand,
+                probe,
+            };
+            answer::counted_as(found_dated(&cuts, splits, edition, &mut lists, cand_edition))
+        }
+    }
 }

@@ -3,7 +3,7 @@
 ghost use Rattle.std.specs.Prelude.{◌≡◌, ◌≤◌, ◌*◌};
 ghost use Rattle.cut.specs.Cuts.{held};
 ghost use Rattle.candidate.specs.Ready.{Written};
-ghost use Rattle.candidate_write.specs.Lent.{lent};
+ghost use Rattle.candidate_write.specs.Lent.{lent, Same};
 ghost use Rattle.candidate_lists.specs.Lists.{along_cuts, Accepted, FoundRoom, Few};
 
 use crate::front;
@@ -22,7 +22,8 @@ fn found_with(
     lists: &mut Lent,
 ) -> usize
     requires { FoundRoom (held cuts.now) splits.now (lent lists.old) order.old cut_at.old cut.old }
-    ensures { Written (along_cuts (held cuts.now) splits.now) (lent lists.old) result (lent lists.new) }
+    ensures same { Same lists.old lists.new }
+    ensures written { Written (along_cuts (held cuts.now) splits.now) (lent lists.old) result (lent lists.new) }
 {
     cut_order::write::write_order(cuts, order, cut_at, cut);
     let along = Along {
@@ -43,7 +44,8 @@ fn found_by<const N: usize, const NUMBERS: usize, const POINTS: usize>(
     requires most { N ≤ MOST_CANDIDATES }
     requires numbers { NUMBERS ≡ 3 * N }
     requires points { POINTS ≡ 2 * N }
-    ensures { Written (along_cuts (held cuts.now) splits.now) (lent lists.old) result (lent lists.new) }
+    ensures same { Same lists.old lists.new }
+    ensures written { Written (along_cuts (held cuts.now) splits.now) (lent lists.old) result (lent lists.new) }
 {
     let mut order = [0usize; N];
     let mut cut_at = [0usize; NUMBERS];
@@ -54,7 +56,8 @@ fn found_by<const N: usize, const NUMBERS: usize, const POINTS: usize>(
 // The candidates of an accepted call.
 pub fn found(cuts: &Cuts, splits: &[f64], lists: &mut Lent) -> usize
     requires { Accepted (held cuts.now) splits.now (lent lists.old) }
-    ensures { Written (along_cuts (held cuts.now) splits.now) (lent lists.old) result (lent lists.new) }
+    ensures same { Same lists.old lists.new }
+    ensures written { Written (along_cuts (held cuts.now) splits.now) (lent lists.old) result (lent lists.new) }
 {
     let count = cuts.case.count();
     if count <= 8 {

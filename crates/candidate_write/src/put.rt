@@ -5,7 +5,7 @@ ghost use Rattle.std.proofs.lemmas.List.Edits.{sets};
 ghost use Rattle.basis.specs.Room.{RoomFor};
 ghost use Rattle.outline.specs.Points.{vertex_numbers};
 ghost use Rattle.view.specs.View.{view_numbers};
-ghost use Rattle.candidate_write.specs.Lent.{lent};
+ghost use Rattle.candidate_write.specs.Lent.{lent, Same};
 ghost use Rattle.candidate.specs.Steps.{PutFit, Put};
 
 use candidate::at_cut::Candidate;
@@ -51,7 +51,8 @@ impl Lent<'_> {
     // Writes a candidate after the m that stand there already, and says how many there are now.
     pub(crate) fn put(&mut self, m: usize, c: Candidate) -> usize
         requires { PutFit (lent self.old) m }
-        ensures { Put c m (lent self.old) result (lent self.new) }
+        ensures same { Same self.old self.new }
+        ensures written { Put c m (lent self.old) result (lent self.new) }
     {
         let Candidate::Slice(v, a, b) = c else {
             return m;

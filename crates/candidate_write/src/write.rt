@@ -6,7 +6,7 @@ ghost use Rattle.cut.specs.Cuts.{held};
 ghost use Rattle.candidate.specs.Ready.{Written};
 ghost use Rattle.candidate.specs.Steps.{Items, ClearFit, Cleared};
 ghost use Rattle.candidate.specs.Told.{told, ToldReady};
-ghost use Rattle.candidate_write.specs.Lent.{lent};
+ghost use Rattle.candidate_write.specs.Lent.{lent, Same};
 
 use crate::put::Lent;
 use basis::room;
@@ -15,7 +15,8 @@ use candidate::at_cut::Along;
 // Writes the candidates in order of places, and says how many there are.
 fn write_items(along: &Along, lists: &mut Lent) -> usize
     requires { ToldReady (held along.now.cuts) along.now.cut_at.now along.now.splits.now (lent lists.old) }
-    ensures { Items (told along.now) (lent lists.old) result (lent lists.new) }
+    ensures same { Same lists.old lists.new }
+    ensures written { Items (told along.now) (lent lists.old) result (lent lists.new) }
 {
     let mut m = 0;
     for p in 0..along.cuts.case.count() {
@@ -28,7 +29,8 @@ fn write_items(along: &Along, lists: &mut Lent) -> usize
 // Sets each list to zero from candidate number m up to the need.
 fn clear_rest(lists: &mut Lent, m: usize, need: usize)
     requires { ClearFit (lent lists.old) m need }
-    ensures { Cleared (lent lists.old) m need (lent lists.new) }
+    ensures same { Same lists.old lists.new }
+    ensures written { Cleared (lent lists.old) m need (lent lists.new) }
 {
     room::fill(lists.at, 2 * m, 2 * need, 0);
     room::fill(lists.cand, 6 * m, 6 * need, 0.0);
@@ -38,7 +40,8 @@ fn clear_rest(lists: &mut Lent, m: usize, need: usize)
 // Writes the candidates along the order that the list tells, then zero up to one candidate per cut, and says how many candidates there are.
 pub fn write_candidates(along: &Along, lists: &mut Lent) -> usize
     requires { ToldReady (held along.now.cuts) along.now.cut_at.now along.now.splits.now (lent lists.old) }
-    ensures { Written (told along.now) (lent lists.old) result (lent lists.new) }
+    ensures same { Same lists.old lists.new }
+    ensures written { Written (told along.now) (lent lists.old) result (lent lists.new) }
 {
     let m = write_items(along, lists);
     clear_rest(lists, m, along.cuts.case.count());

@@ -3,4 +3,4 @@ use Rattle.candidate_entries.proofs.along.told_dated.Goals as goal
 
 pub write_editions-requires : goal.write_editions-requires
 write_editions-requires c =
-    editions-ready _ _ _ _ _ c.requires c.sought-m.ensures
+    editions-ready _ _ _ _ _ _ c.count.ensures c.requires c.sought-m.ensures.written
