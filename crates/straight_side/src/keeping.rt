@@ -3,7 +3,7 @@ ghost use Rattle.cut.specs.Cuts.{given};
 ghost use Rattle.slice.specs.Ready.{rooms};
 ghost use Rattle.straight_side.specs.Ready.{KeptWith, Kept};
 
-use cut::arrival::Case;
+use cut::arrival::{Case, Cuts};
 use prune::mode::Part;
 use straight_along::along;
 use straight_cut::microdegrees;
@@ -41,7 +41,15 @@ pub fn kept_with(
 {
     let s = side.cuts;
     let part = side.part;
-    cut_order::write::write_order(outline, hit_at, hit, lap_at, lap, s, order, cut_at, cut);
+    let cuts = Cuts {
+        outline,
+        hit_at,
+        hit,
+        lap_at,
+        lap,
+        case: s,
+    };
+    cut_order::write::write_order(&cuts, order, cut_at, cut);
     microdegrees::write_wholes(other, side.other_vc, wholes);
     along::walk_fronts(
         outline,

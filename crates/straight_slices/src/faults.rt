@@ -1,13 +1,15 @@
 // The refusals of the call, part by part of their table. Each part goes on from what was found so far.
 ghost use Rattle.std.specs.Prelude.{◌≡◌};
 ghost use Rattle.basis.specs.Refuse.{first_from};
+ghost use Rattle.basis.specs.Refusals.{found};
 ghost use Rattle.straight_slices.specs.Slices.{given};
 ghost use Rattle.straight_slices.specs.Rows.{more_list_rows, list_rows, code_rows, number_rows, straight_rows, index_rows, input_rows};
 
 use crate::job::Job;
 use basis::number::Tolerance;
+use basis::refuse::Refusal;
 use basis::{items, number, refuse};
-use cut::arrival::Case;
+use cut::arrival::{Case, Cuts};
 use straight_cut::flat;
 
 const MOST_MODE: u32 = 3;
@@ -18,6 +20,17 @@ fn more_list_refusal(r: u32, len: usize, vc: usize, editions: usize, laps: usize
 {
     let r = refuse::or_else(r, refuse::bad_length(len, 3, vc), 1);
     refuse::or_else(r, refuse::bad_length(editions, 1, laps), 1)
+}
+
+// The number of what was found, 0 where nothing was.
+#[tactic(auto, using(basis::specs::RefusalLaws::looks))]
+fn number_found(looked: Result<(), Refusal>) -> u32
+    ensures { result ≡ found looked }
+{
+    match looked {
+        Err(refusal) => refusal.number(),
+        Ok(()) => 0,
+    }
 }
 
 // Number 1.
@@ -41,7 +54,15 @@ fn list_refusal(
         laps: job.laps,
         tolerance,
     };
-    let r = cut_entries::faults::list_refusal(outline1, hit_at, hit, lap_at, lap, s);
+    let cuts = Cuts {
+        outline: outline1,
+        hit_at,
+        hit,
+        lap_at,
+        lap,
+        case: s,
+    };
+    let r = number_found(cut_entries::faults::list_refusal(&cuts));
     more_list_refusal(r, outline2.len(), job.vc2, lap_edition.len(), job.laps)
 }
 

@@ -1,6 +1,6 @@
+use mathlib.Core.Path.{◌∙◌}
 use Rattle.basis.specs.RefuseLaws.{then-rows}
-use borrow.Author.Rules.{rules}
 use Rattle.straight_slices.proofs.faults.list_refusal.Goals as goal
 
 pub returns : goal.returns
-returns c = search then-rows depth 8
+returns c = let e = c.number_found-r.ensures ∙ c.list_refusal.ensures in search then-rows depth 8
