@@ -63,3 +63,5 @@ steady far a b c = record { far = finite-between far b c; ahead = b; near = a; h
 pub steady-two : Steady (record { far = of_bits binary64 0x4000_0000_0000_0000; near = of_bits binary64 0x3ff0_0000_0000_0000 })
 unfolding lt of_bits
 steady-two = record { far = tt; ahead = refl; near = refl; held = of_bits-fits binary64 0x3ff0_0000_0000_0000 }
+
+pub ruleset planes = (steady, steady-two)

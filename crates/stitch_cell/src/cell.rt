@@ -9,7 +9,8 @@ pub struct Plane {
     pub near: f64,
 }
 
-// z, or `near` where z is below it or is a NaN.
+// z, or `near` where z is below it or is a NaN. Not f64::max: which of two equal numbers it gives is open, and their bits are asked for.
+#[tactic(auto, unfolding(crate::specs::Cell::kept_off))]
 fn kept_off(near: f64, z: f64) -> f64
     ensures { result ≡ kept_off near z }
 {
@@ -27,19 +28,17 @@ pub fn cell(plane: Plane, p: f64) -> usize
 const FARTHEST: f64 = 4611686018427387904.0;
 
 // The axis moved by `far`, where that and its half are above 0 and it is at most 2^62; else by 2.
+#[tactic(auto, using(crate::specs::CellLaws::planes))]
 pub fn moved(far: f64) -> Plane
     ensures { Steady result }
 {
     let near = 0.5 * far;
-    if 0.0 < near {
-        if 0.0 < far {
-            if far <= FARTHEST {
-                return Plane { far, near };
-            }
+    if 0.0 < near && 0.0 < far && far <= FARTHEST {
+        Plane { far, near }
+    } else {
+        Plane {
+            far: 2.0,
+            near: 1.0,
         }
-    }
-    Plane {
-        far: 2.0,
-        near: 1.0,
     }
 }

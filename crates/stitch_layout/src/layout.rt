@@ -1,3 +1,4 @@
+#![tactic(auto, unfolding(crate::specs::Slices::group_of, crate::specs::Slices::list_of, crate::specs::Slices::home_of))]
 // Slices whose start points lie in one cell, of one group, are on one list, in ascending number. Several cells may share a list.
 ghost use Rattle.std.specs.Prelude.{◌≡◌, true};
 ghost use Rattle.stitch_layout.specs.Slices.{group_of, list_of, home_of, meets_of, same_start, Alike};
@@ -34,9 +35,12 @@ pub fn group_of(w: Layout, j: usize) -> usize
     ensures { result ≡ group_of w j }
 {
     if j < w.two {
-        return 0;
+        0
+    } else if j < w.over {
+        1
+    } else {
+        2
     }
-    if j < w.over { 1 } else { 2 }
 }
 
 // The list of a cell and a group: any number below `lists` would do.
@@ -54,10 +58,8 @@ fn home_of(points: &[f64], w: Layout, j: usize) -> usize
     requires { Home points.now w j }
     ensures { result ≡ home_of points.now w j }
 {
-    let i = 2 * j;
-    let k = 2 * j + 1;
-    let cx = cell::cell(w.x, points[i]);
-    let cy = cell::cell(w.y, points[k]);
+    let cx = cell::cell(w.x, points[2 * j]);
+    let cy = cell::cell(w.y, points[2 * j + 1]);
     list_of(w.lists, cx, cy, group_of(w, j))
 }
 
@@ -66,11 +68,7 @@ fn same_start(points: &[f64], i: usize, j: usize) -> bool
     requires { Both points.now i j }
     ensures { result ≡ same_start points.now i j }
 {
-    let xi = 2 * i;
-    let xj = 2 * j;
-    let yi = 2 * i + 1;
-    let yj = 2 * j + 1;
-    (points[xi] == points[xj]) & (points[yi] == points[yj])
+    (points[2 * i] == points[2 * j]) & (points[2 * i + 1] == points[2 * j + 1])
 }
 
 // They are of one group too, so that a look finds both or neither.
@@ -78,10 +76,7 @@ fn alike(points: &[f64], w: Layout, i: usize, j: usize) -> bool
     requires { Both points.now i j }
     ensures { result ≡ true → Alike points.now w i j }
 {
-    if !same_start(points, i, j) {
-        return false;
-    }
-    group_of(w, i) == group_of(w, j)
+    same_start(points, i, j) && group_of(w, i) == group_of(w, j)
 }
 
 // Slices of a list that follow one another and are alike make a run. The last of slice i's run, which is to stand before `next`.
@@ -90,15 +85,11 @@ fn last_of_run(points: &[f64], link: &[usize], w: Layout, i: usize, next: usize)
     requires { Before points.now w link.now i next }
     ensures { Run (home_of points.now w) (meets_of points.now w) w.lists w.count i result }
 {
-    let at = w.lists + i;
-    if w.lists + w.count <= next {
-        return at;
+    if next < w.lists + w.count && alike(points, w, next - w.lists, i) {
+        link[next + w.count]
+    } else {
+        w.lists + i
     }
-    if !alike(points, w, next - w.lists, i) {
-        return at;
-    }
-    let run = next + w.count;
-    link[run]
 }
 
 // A look that did not meet slice j goes on from here: the last of j's run. Where slice `seen`, the one that it did not meet before (0 at first), begins at another point, it goes on from j:
@@ -108,11 +99,11 @@ pub fn passed_to(points: &[f64], link: &[usize], w: Layout, seen: usize, j: usiz
     ensures { Run (home_of points.now w) (meets_of points.now w) w.lists w.count j result }
 {
     let at = w.lists + j;
-    if !same_start(points, seen, j) {
-        return at;
+    if same_start(points, seen, j) {
+        link[at + w.count]
+    } else {
+        at
     }
-    let run = at + w.count;
-    link[run]
 }
 
 // Every slice is put on its list, from the last to the first, so lists ascend. Behind the links stands the last of each slice's run.
@@ -120,9 +111,7 @@ pub fn link_slices(points: &[f64], link: &mut [usize], w: Layout)
     requires { Empty points.now w link.old }
     ensures { Linked ever_free (home_of points.now w) (meets_of points.now w) w.lists w.count link.new }
 {
-    let mut i = w.count;
-    while 0 < i {
-        i -= 1;
+    for i in (0..w.count).rev() {
         let h = home_of(points, w, i);
         let at = w.lists + i;
         let run = at + w.count;

@@ -10,32 +10,17 @@ use stitch_layout::layout;
 use stitch_layout::layout::Layout;
 use stitch_run::plan::Plan;
 
-// How far each axis is moved.
+// A number for each axis.
 #[derive(Clone, Copy)]
-struct Far {
+struct Axes {
     x: f64,
     y: f64,
-}
-
-fn larger(a: f64, b: f64) -> f64 {
-    if a < b { b } else { a }
-}
-
-fn smaller(a: f64, b: f64) -> f64 {
-    if a < b { a } else { b }
 }
 
 // Where the last digit of a number is one wide: 2^52.
 const ONE_WIDE: f64 = 4503599627370496.0;
 
-// How wide a cell is on each axis, in tolerances: at most so wide, and more than half of it.
-#[derive(Clone, Copy)]
-struct Width {
-    x: f64,
-    y: f64,
-}
-
-// Where no slices crowd.
+// How wide a cell is where no slices crowd, in tolerances: at most so wide, and more than half of it.
 const WIDE: f64 = 18.0;
 
 // At the narrowest. The narrower cells are, the more of them the box around an end meets.
@@ -60,50 +45,47 @@ fn is_crowded(points: &[f64], count: usize, middle: Point, near: Tolerance) -> b
     requires { FarFit points.now count }
 {
     let mut crowd = 0.0;
-    let mut i = (count / 2 + 1) % 5;
-    while i < count {
+    for i in ((count / 2 + 1) % 5..count).step_by(5) {
         crowd = crowd + share(read::point_at(points, 2 * i), middle, near);
-        i += 5;
     }
     0.0 < crowd
 }
 
 // Of the slices that crowd, two that follow one another and begin at different points are to be in different cells, by the axis on which they are farther apart.
 // Then slices of a list mostly begin at one point, and make runs. Where points are too near for that, cells are narrow on both axes, and hold few points that an end does not reach.
-fn narrow_of(points: &[f64], count: usize, middle: Point, near: Tolerance, t: Tolerance) -> Width
+fn narrow_of(points: &[f64], count: usize, middle: Point, near: Tolerance, t: Tolerance) -> Axes
     requires { FarFit points.now count }
 {
     let mut x = WIDE;
     let mut y = WIDE;
     let mut last = middle;
-    let mut i = 0;
-    while i < count {
+    for i in 0..count {
         let s = read::point_at(points, 2 * i);
         if is_near(s, middle, near) {
             let dx = number::magnitude(s.x - last.x) / t.x;
             let dy = number::magnitude(s.y - last.y) / t.y;
             if dx < dy {
-                y = smaller(y, dy);
+                y = y.min(dy);
             } else if 0.0 < dx {
-                x = smaller(x, dx);
+                x = x.min(dx);
             }
             last = s;
         }
-        i += 1;
     }
-    if smaller(x, y) < NARROW {
-        return Width {
+    if x.min(y) < NARROW {
+        Axes {
             x: NARROW,
             y: NARROW,
-        };
+        }
+    } else {
+        Axes { x, y }
     }
-    Width { x, y }
 }
 
-fn width_of(points: &[f64], count: usize, t: Tolerance) -> Width
+fn width_of(points: &[f64], count: usize, t: Tolerance) -> Axes
     requires { FarFit points.now count }
 {
-    let wide = Width { x: WIDE, y: WIDE };
+    let wide = Axes { x: WIDE, y: WIDE };
     if count == 0 {
         return wide;
     }
@@ -119,23 +101,21 @@ fn width_of(points: &[f64], count: usize, t: Tolerance) -> Width
 }
 
 // So far that the last digit of a moved coordinate is some tolerances wide, and that no moved start point is below the half. This is for speed alone: there is no promise.
-fn far_of(points: &[f64], count: usize, t: Tolerance) -> Far
+fn far_of(points: &[f64], count: usize, t: Tolerance) -> Axes
     requires { FarFit points.now count }
 {
     let w = width_of(points, count, t);
     let mut x = ONE_WIDE * w.x * t.x;
     let mut y = ONE_WIDE * w.y * t.y;
-    let mut i = 0;
-    while i < count {
+    for i in 0..count {
         let s = read::point_at(points, 2 * i);
-        x = larger(x, 4.0 * number::magnitude(s.x));
-        y = larger(y, 4.0 * number::magnitude(s.y));
-        i += 1;
+        x = x.max(4.0 * number::magnitude(s.x));
+        y = y.max(4.0 * number::magnitude(s.y));
     }
-    Far { x, y }
+    Axes { x, y }
 }
 
-fn layout_of(p: Plan, lists: usize, far: Far) -> Layout
+fn layout_of(p: Plan, lists: usize, far: Axes) -> Layout
     requires { Laying lists }
     ensures { LaidBy result lists p.slices p.starts }
 {
@@ -156,7 +136,7 @@ pub fn hang(points: &[f64], link: &mut [usize], p: Plan, lists: usize) -> Layout
     ensures { Hanged points.now link.new p result }
 {
     if lists == 0 {
-        return layout_of(p, 0, Far { x: 2.0, y: 2.0 });
+        return layout_of(p, 0, Axes { x: 2.0, y: 2.0 });
     }
     let w = layout_of(p, lists, far_of(points, p.slices, p.tolerance));
     layout::link_slices(points, link, w);

@@ -1,3 +1,4 @@
+#![tactic(auto, unfolding(stitch_run::specs::Run::free, stitch_layout::specs::Slices::meets_of))]
 // A look for the lowest free slice of a group in a box. It goes through the lists of the cells that the box meets, and takes off what is not free.
 ghost use Rattle.std.specs.Prelude.{◌≡◌, ◌+◌};
 ghost use Rattle.stitch_run.specs.Run.{free};
@@ -36,10 +37,8 @@ fn starts_in(points: &[f64], q: Query, j: usize) -> bool
     requires { There points.now j }
     ensures { result ≡ starts_in points.now q j }
 {
-    let i = 2 * j;
-    let k = 2 * j + 1;
-    let x = points[i];
-    let y = points[k];
+    let x = points[2 * j];
+    let y = points[2 * j + 1];
     (q.left <= x) & (x <= q.right) & (q.bottom <= y) & (y <= q.top)
 }
 
@@ -48,10 +47,7 @@ fn meets(points: &[f64], w: Layout, q: Query, j: usize) -> bool
     requires { There points.now j }
     ensures { result ≡ meets_of points.now w q j }
 {
-    if !starts_in(points, q, j) {
-        return false;
-    }
-    layout::group_of(w, j) == q.group
+    starts_in(points, q, j) && layout::group_of(w, j) == q.group
 }
 
 // On one list: the lowest slice that is looked for. What is not free is taken off, and where a slice is not met its run is passed.
@@ -104,12 +100,10 @@ fn row(
     ensures { Looked (free visited.now q.first) (hit_of points.now visited.now w q) (home_of points.now w) (meets_of points.now w) (Block points.now w cx (cx + 1) y0 (y1 + 1)) w.lists w.count link.new result }
 {
     let mut best = NO_NUMBER;
-    let mut cy = y0;
-    while cy <= y1 {
+    for cy in y0..=y1 {
         let h = layout::list_of(w.lists, cx, cy, q.group);
         let r = first_on(points, visited, link, w, q, h);
         best = lower::lesser(best, r);
-        cy += 1;
     }
     best
 }
@@ -126,13 +120,10 @@ fn search(
     requires { Rows points.now visited.now w q.first link.old c }
     ensures { Looked (free visited.now q.first) (hit_of points.now visited.now w q) (home_of points.now w) (meets_of points.now w) (Block points.now w c.x0 (c.x1 + 1) c.y0 (c.y1 + 1)) w.lists w.count link.new result }
 {
-    let last = c.x1;
     let mut best = NO_NUMBER;
-    let mut cx = c.x0;
-    while cx <= last {
+    for cx in c.x0..=c.x1 {
         let r = row(points, visited, link, w, q, cx, c.y0, c.y1);
         best = lower::lesser(best, r);
-        cx += 1;
     }
     best
 }

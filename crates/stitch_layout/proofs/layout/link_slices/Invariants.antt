@@ -3,6 +3,3 @@ use Rattle.stitch_layout.proofs.layout.link_slices.Given as goal
 
 abbrev pub invariant-loop-i : goal.invariant-loop-i
 invariant-loop-i l = Putting l.points l.w l.initial.link l.link l.i
-
-abbrev pub decreases-loop-i : goal.decreases-loop-i
-decreases-loop-i l = l.i

@@ -1,9 +1,6 @@
-use Prim.Native.Nat.{◌+◌, ◌-◌}
+use Prim.Native.Nat.{◌+◌}
 use Rattle.stitch_links.proofs.RowLaws.{Swept}
 use Rattle.stitch_links.proofs.look.row.Given as goal
 
 abbrev pub invariant-loop-cy : goal.invariant-loop-cy
 invariant-loop-cy l = Swept l.points l.visited l.w l.q l.initial.link l.link l.cx (l.cx + 1) l.y0 l.cy l.best
-
-abbrev pub decreases-loop-cy : goal.decreases-loop-cy
-decreases-loop-cy l = l.y1 + 1 - l.cy

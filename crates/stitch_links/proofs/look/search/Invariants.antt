@@ -1,10 +1,6 @@
-use mathlib.Core.Path.{◌≡◌}
-use Prim.Native.Nat.{◌+◌, ◌-◌}
+use Prim.Native.Nat.{◌+◌}
 use Rattle.stitch_links.proofs.RowLaws.{Swept}
 use Rattle.stitch_links.proofs.look.search.Given as goal
 
 abbrev pub invariant-loop-cx : goal.invariant-loop-cx
-invariant-loop-cx l = (l.last ≡ l.c.x1) × Swept l.points l.visited l.w l.q l.initial.link l.link l.c.x0 l.cx l.c.y0 (l.c.y1 + 1) l.best
-
-abbrev pub decreases-loop-cx : goal.decreases-loop-cx
-decreases-loop-cx l = l.last + 1 - l.cx
+invariant-loop-cx l = Swept l.points l.visited l.w l.q l.initial.link l.link l.c.x0 l.cx l.c.y0 (l.c.y1 + 1) l.best
