@@ -12,6 +12,7 @@ use prune::call;
 use prune::call::Call;
 use prune::lists::{Cands, Handed, Overlaps};
 use prune_write::write;
+use slice::write::Lent;
 
 // All numbers. The need is worked out only where 1 to 7 found nothing.
 fn refusal(g: &Handed, at: usize, shape: usize, edition: usize) -> Result<(), Refusal>
@@ -64,8 +65,13 @@ pub fn entry(
     match refusal(&g, slice_at.len(), slice.len(), slice_edition.len()) {
         Err(refusal) => answer::prune_refused(refusal.number()),
         Ok(()) => {
-            let kept = write::write_both(&g, slice_at, slice, slice_edition);
-            answer::prune_given(write::finish(c, kept, &g.laps, slice_at, slice, slice_edition))
+            let mut lent = Lent {
+                at: slice_at,
+                shape: slice,
+                edition: slice_edition,
+            };
+            let kept = write::write_both(&g, &mut lent);
+            answer::prune_given(write::finish(c, kept, &g.laps, &mut lent))
         }
     }
 }

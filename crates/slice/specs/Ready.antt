@@ -3,6 +3,7 @@ use Rattle.std.specs.Prelude.{ℕ, ◌+◌, ◌*◌, ◌/◌, ◌≤◌, ◌<◌
 use mathlib.Core.List.{List, flat_map}
 use Rattle.std.proofs.lemmas.List.Edits.{sets}
 use Rattle.basis.specs.Sizes.{most_slices}
+use Rattle.slice.specs.declared.write.Lent.{Lent}
 use Rattle.slice.specs.Slice.{code_width, shape_width, Slice, codes_of, shape_of, editions_of}
 
 -- ---- reading
@@ -35,6 +36,16 @@ pub record Rooms : Type 0 where
 
 abbrev pub rooms : List ℕ → List Float → List ℕ → Rooms
 rooms at shape edition = record { at = at; shape = shape; edition = edition }
+
+-- the same, of the three lists that a function is handed
+abbrev pub rooms_in : Lent → Rooms
+rooms_in l = rooms l.at.now l.shape.now l.edition.now
+
+-- they are the lists that were lent
+pub record Same (l l' : Lent) : Type 0 where
+  pub at : l'.at.ghost_name ≡ l.at.ghost_name
+  pub shape : l'.shape.ghost_name ≡ l.shape.ghost_name
+  pub edition : l'.edition.ghost_name ≡ l.edition.ghost_name
 
 -- there is room for n slices
 pub record Roomy (n : ℕ) (l : Rooms) : Type 0 where

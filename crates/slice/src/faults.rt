@@ -1,4 +1,4 @@
-#![tactic(auto, unfolding(basis::specs::Refuse::first_from, basis::specs::Refuse::or_else))]
+#![tactic(auto, unfolding(basis::specs::Refuse::first_from, basis::specs::Refuse::or_else, basis::specs::Refuse::source_fault, crate::specs::Faults::source_known, crate::specs::Faults::start_inside, crate::specs::Faults::offset_inside))]
 // What is refused of slices: the faults of one, and the parts of a table over lists of them.
 ghost use Rattle.std.specs.Prelude.{◌≡◌};
 ghost use Rattle.basis.specs.Refuse.{first_from, count_for};

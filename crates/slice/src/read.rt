@@ -1,3 +1,4 @@
+#![tactic(auto, unfolding(crate::specs::Slice::codes_at, crate::specs::Slice::shape_at, crate::specs::Slice::slice_view))]
 // Reading a slice.
 ghost use Rattle.std.specs.Prelude.{◌≡◌};
 ghost use Rattle.slice.specs.Slice.{codes_at, shape_at, view_of, slice_view};

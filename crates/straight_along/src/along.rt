@@ -11,6 +11,7 @@ use cut::arrival::Case;
 use prune::mode::Part;
 use slice::data::{Codes, Shape};
 use slice::write;
+use slice::write::Lent;
 use straight_cut::{at_cut, inside};
 use view::data::ViewData;
 
@@ -62,7 +63,12 @@ fn put_stay(
     }
     let codes = codes_of(part, v);
     let shape = shape_of(v);
-    write::put_slice(codes, shape, edition, slice_at, slice, slice_edition, n);
+    let mut lent = Lent {
+        at: slice_at,
+        shape: slice,
+        edition: slice_edition,
+    };
+    write::put_slice(codes, shape, edition, &mut lent, n);
     n + 1
 }
 

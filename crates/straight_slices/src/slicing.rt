@@ -13,6 +13,7 @@ use prune::lists::Overlaps;
 use prune::mode;
 use prune::mode::Part;
 use prune_write::write;
+use slice::write::Lent;
 use straight_kept::keeping::kept;
 use straight_side::keeping::Side;
 
@@ -142,5 +143,10 @@ pub(crate) fn sliced(
         shape: lap,
         edition: lap_edition,
     };
-    write::finish(call, kept, &laps, slice_at, slice, slice_edition)
+    let mut lent = Lent {
+        at: slice_at,
+        shape: slice,
+        edition: slice_edition,
+    };
+    write::finish(call, kept, &laps, &mut lent)
 }

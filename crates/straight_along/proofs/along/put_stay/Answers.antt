@@ -1,3 +1,4 @@
+use Rattle.straight_along.specs.Stays.{stays_of}
 use Rattle.straight_along.proofs.Walking.{stays}
 use native.Mathlib.Omega.{arith}
 use borrow.Author.Rules.{rules}
@@ -20,4 +21,5 @@ overflow_add-result c =
     record { fits = omega (arith, c.requires.low) }
 
 pub returns : goal.returns
+unfolding stays_of
 returns c = search (rules, stays)
