@@ -8,6 +8,7 @@ use select::class;
 use select::class::{Class, Starts};
 use stitch_layout::layout::{Layout, Query};
 use stitch_links::look;
+use stitch_links::look::Look;
 use stitch_run::plan::Plan;
 
 // What the selector answers, a slice or none, where it is asked: where there is a candidate.
@@ -38,30 +39,28 @@ fn of_group(q: Query, group: usize) -> Query
 
 // The candidates of a box, and among them the selector's answer. The query's own group is not looked at.
 fn by_groups(
-    points: &[f64],
-    visited: &[bool],
+    look: &Look,
     link: &mut [usize],
-    w: Layout,
-    q: Query,
     selector: u32,
     starts: Starts,
     current: usize,
 ) -> Answer
-    requires { Ready points.now visited.now w q link.old selector starts }
-    ensures { Grouped points.now visited.now w q selector starts current link.new result }
+    requires { Ready look.now.points.now look.now.visited.now look.now.layout look.now.query link.old selector starts }
+    ensures { Grouped look.now.points.now look.now.visited.now look.now.layout look.now.query selector starts current link.new result }
 {
-    let c = look::cells_of(w, q);
+    let q = look.query;
+    let c = look::cells_of(look.layout, q);
     let class = class::class_of(starts, current);
     let g = group_first(class);
-    let a = look::lowest(points, visited, link, w, of_group(q, g), c);
+    let a = look::lowest(&Look { query: of_group(q, g), ..*look }, link, c);
     if a != NO_NUMBER {
         return Some(Some(a));
     }
-    let b = look::lowest(points, visited, link, w, of_group(q, 1 - g), c);
+    let b = look::lowest(&Look { query: of_group(q, 1 - g), ..*look }, link, c);
     if b != NO_NUMBER {
         return Some(Some(b));
     }
-    let o = look::lowest(points, visited, link, w, of_group(q, 2), c);
+    let o = look::lowest(&Look { query: of_group(q, 2), ..*look }, link, c);
     if o == NO_NUMBER {
         return None;
     }
@@ -85,6 +84,11 @@ pub fn answer_of(
     requires { Asking points.now visited.now link.old w first p }
     ensures { Answered points.now visited.now link.new w first current end p result }
 {
-    let q = look::around(end, p.tolerance, 0, first);
-    by_groups(points, visited, link, w, q, p.selector, p.starts, current)
+    let look = Look {
+        points,
+        visited,
+        layout: w,
+        query: look::around(end, p.tolerance, 0, first),
+    };
+    by_groups(&look, link, p.selector, p.starts, current)
 }

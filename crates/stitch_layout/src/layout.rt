@@ -30,7 +30,7 @@ pub struct Query {
     pub first: usize,
 }
 
-// 0: outline 1; 1: outline 2; 2: overlaps of either.
+// 0: outline 1; 1: outline 2; 2: overlaps of either. No enum: a list's number is computed from it, and the other outline is 1 less it.
 pub fn group_of(w: Layout, j: usize) -> usize
     ensures { result ≡ group_of w j }
 {

@@ -9,9 +9,10 @@ use Rattle.stitch_run.specs.Run.{free}
 use Rattle.stitch_cell.specs.Cell.{cell_of}
 use Rattle.stitch_layout.specs.declared.layout.Layout.{Layout}
 use Rattle.stitch_layout.specs.declared.layout.Query.{Query}
-use Rattle.stitch_layout.specs.Slices.{column_of, line_of, meets_of}
+use Rattle.stitch_layout.specs.Slices.{column_of, line_of, home_of, meets_of}
 use Rattle.stitch_layout.specs.Links.{Linked}
 use Rattle.stitch_links.specs.declared.look.Cells.{Cells}
+use Rattle.stitch_links.specs.declared.look.Look.{Look}
 
 -- slice j is looked for
 abbrev pub hit_of : List Float → List Bool → Layout → Query → ℕ → Bool
@@ -61,3 +62,14 @@ pub record Block (points : List Float) (w : Layout) (x0 x1 y0 y1 j : ℕ) : Type
   pub right : column_of points w j < x1
   pub bottom : y0 ≤ line_of points w j
   pub top : line_of points w j < y1
+
+-- ---- the same of what a look goes through
+abbrev pub LookedBy : Look → (ℕ → Type 0) → List ℕ → ℕ → Type 0
+LookedBy k C link r =
+    Looked (free k.visited.now k.query.first) (hit_of k.points.now k.visited.now k.layout k.query) (home_of k.points.now k.layout) (meets_of k.points.now k.layout) C k.layout.lists k.layout.count link r
+
+abbrev pub ListOf : Look → ℕ → ℕ → Type 0
+ListOf k h j = home_of k.points.now k.layout j ≡ h
+
+abbrev pub BlockOf : Look → ℕ → ℕ → ℕ → ℕ → ℕ → Type 0
+BlockOf k x0 x1 y0 y1 j = Block k.points.now k.layout x0 x1 y0 y1 j

@@ -2,9 +2,8 @@
 // A look for the lowest free slice of a group in a box. It goes through the lists of the cells that the box meets, and takes off what is not free.
 ghost use Rattle.std.specs.Prelude.{◌≡◌, ◌+◌};
 ghost use Rattle.stitch_run.specs.Run.{free};
-ghost use Rattle.stitch_layout.specs.Slices.{home_of, starts_in, meets_of};
-ghost use Rattle.stitch_links.specs.Looks.{hit_of, cells_of, query_of};
-ghost use Rattle.stitch_links.specs.Looks.{Looked, Block};
+ghost use Rattle.stitch_layout.specs.Slices.{starts_in, meets_of};
+ghost use Rattle.stitch_links.specs.Looks.{cells_of, query_of, LookedBy, ListOf, BlockOf};
 ghost use Rattle.stitch_links.specs.Ready.{Marked, OnList, Row, Rows, Sides, Asked, Lowest};
 ghost use Rattle.stitch_layout.specs.Ready.{There};
 
@@ -22,6 +21,15 @@ pub struct Cells {
     pub x1: usize,
     pub y0: usize,
     pub y1: usize,
+}
+
+// What a look goes through: start points, marks, how the slices lie on lists, and what is looked for.
+#[derive(Clone, Copy)]
+pub struct Look<'a> {
+    pub points: &'a [f64],
+    pub visited: &'a [bool],
+    pub layout: Layout,
+    pub query: Query,
 }
 
 // Unvisited or the chain's first slice.
@@ -43,42 +51,35 @@ fn starts_in(points: &[f64], q: Query, j: usize) -> bool
 }
 
 // Slice j is of the group, and starts in the closed box. Most that do not meet fail the box, so the group is looked at last.
-fn meets(points: &[f64], w: Layout, q: Query, j: usize) -> bool
-    requires { There points.now j }
-    ensures { result ≡ meets_of points.now w q j }
+fn meets(look: &Look, j: usize) -> bool
+    requires { There look.now.points.now j }
+    ensures { result ≡ meets_of look.now.points.now look.now.layout look.now.query j }
 {
-    starts_in(points, q, j) && layout::group_of(w, j) == q.group
+    starts_in(look.points, look.query, j) && layout::group_of(look.layout, j) == look.query.group
 }
 
 // On one list: the lowest slice that is looked for. What is not free is taken off, and where a slice is not met its run is passed.
-fn first_on(
-    points: &[f64],
-    visited: &[bool],
-    link: &mut [usize],
-    w: Layout,
-    q: Query,
-    h: usize,
-) -> usize
-    requires { OnList points.now visited.now w q.first link.old h }
-    ensures { Looked (free visited.now q.first) (hit_of points.now visited.now w q) (home_of points.now w) (meets_of points.now w) (λ j. home_of points.now w j ≡ h) w.lists w.count link.new result }
+fn first_on(look: &Look, link: &mut [usize], h: usize) -> usize
+    requires { OnList look.now.points.now look.now.visited.now look.now.layout look.now.query.first link.old h }
+    ensures { LookedBy look.now (ListOf look.now h) link.new result }
 {
-    let lists = w.lists;
-    let end = lists + w.count;
+    let lists = look.layout.lists;
+    let end = lists + look.layout.count;
     let mut at = h;
     let mut next = link[at];
     let mut seen = 0;
     while next < end {
         let j = next - lists;
-        if !is_free(visited, q.first, j) {
+        if !is_free(look.visited, look.query.first, j) {
             let past = link[next];
             link[at] = past;
             next = past;
             continue;
         }
-        if meets(points, w, q, j) {
+        if meets(look, j) {
             return j;
         }
-        at = layout::passed_to(points, link, w, seen, j);
+        at = layout::passed_to(look.points, link, look.layout, seen, j);
         next = link[at];
         seen = j;
     }
@@ -86,43 +87,27 @@ fn first_on(
 }
 
 // In one column of cells, from line y0 to line y1.
-fn row(
-    points: &[f64],
-    visited: &[bool],
-    link: &mut [usize],
-    w: Layout,
-    q: Query,
-    cx: usize,
-    y0: usize,
-    y1: usize,
-) -> usize
-    requires { Row points.now visited.now w q.first link.old y1 }
-    ensures { Looked (free visited.now q.first) (hit_of points.now visited.now w q) (home_of points.now w) (meets_of points.now w) (Block points.now w cx (cx + 1) y0 (y1 + 1)) w.lists w.count link.new result }
+fn row(look: &Look, link: &mut [usize], cx: usize, y0: usize, y1: usize) -> usize
+    requires { Row look.now.points.now look.now.visited.now look.now.layout look.now.query.first link.old y1 }
+    ensures { LookedBy look.now (BlockOf look.now cx (cx + 1) y0 (y1 + 1)) link.new result }
 {
     let mut best = NO_NUMBER;
     for cy in y0..=y1 {
-        let h = layout::list_of(w.lists, cx, cy, q.group);
-        let r = first_on(points, visited, link, w, q, h);
+        let h = layout::list_of(look.layout.lists, cx, cy, look.query.group);
+        let r = first_on(look, link, h);
         best = lower::lesser(best, r);
     }
     best
 }
 
 // In all cells from those of one corner to those of the other.
-fn search(
-    points: &[f64],
-    visited: &[bool],
-    link: &mut [usize],
-    w: Layout,
-    q: Query,
-    c: Cells,
-) -> usize
-    requires { Rows points.now visited.now w q.first link.old c }
-    ensures { Looked (free visited.now q.first) (hit_of points.now visited.now w q) (home_of points.now w) (meets_of points.now w) (Block points.now w c.x0 (c.x1 + 1) c.y0 (c.y1 + 1)) w.lists w.count link.new result }
+fn search(look: &Look, link: &mut [usize], c: Cells) -> usize
+    requires { Rows look.now.points.now look.now.visited.now look.now.layout look.now.query.first link.old c }
+    ensures { LookedBy look.now (BlockOf look.now c.x0 (c.x1 + 1) c.y0 (c.y1 + 1)) link.new result }
 {
     let mut best = NO_NUMBER;
     for cx in c.x0..=c.x1 {
-        let r = row(points, visited, link, w, q, cx, c.y0, c.y1);
+        let r = row(look, link, cx, c.y0, c.y1);
         best = lower::lesser(best, r);
     }
     best
@@ -154,17 +139,10 @@ pub fn cells_of(w: Layout, q: Query) -> Cells
     }
 }
 
-// The lowest slice of the group that is free and starts in the box, or NO_NUMBER.
-pub fn lowest(
-    points: &[f64],
-    visited: &[bool],
-    link: &mut [usize],
-    w: Layout,
-    q: Query,
-    c: Cells,
-) -> usize
-    requires { Asked points.now visited.now w q link.old c }
-    ensures { Lowest points.now visited.now w q link.new result }
+// The lowest slice of the group that is free and starts in the box, or NO_NUMBER. No Option: NO_NUMBER is above every slice, so the lowest of all finds is their least.
+pub fn lowest(look: &Look, link: &mut [usize], c: Cells) -> usize
+    requires { Asked look.now.points.now look.now.visited.now look.now.layout look.now.query link.old c }
+    ensures { Lowest look.now.points.now look.now.visited.now look.now.layout look.now.query link.new result }
 {
-    search(points, visited, link, w, q, c)
+    search(look, link, c)
 }
