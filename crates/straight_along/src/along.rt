@@ -92,8 +92,7 @@ fn walk(
 {
     let count = s.hits + 2 * s.laps;
     let mut n = m;
-    let mut p = 0;
-    while p < count {
+    for p in 0..count {
         let c = at_cut::candidate_at(outline, cut_at, cut, s, p);
         n = put_stay(
             c,
@@ -106,7 +105,6 @@ fn walk(
             slice_edition,
             n,
         );
-        p += 1;
     }
     n
 }

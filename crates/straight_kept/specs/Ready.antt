@@ -1,5 +1,6 @@
--- What a caller has shown, and what the test of the sizes says.
-use Rattle.std.specs.Prelude.{ℕ, ◌+◌, ◌*◌, ◌≤◌, ◌≡◌, Bool, true, List, Float}
+-- What a caller has shown.
+use Rattle.std.specs.Prelude.{ℕ, ◌*◌, ◌≤◌, ◌≡◌, List, Float}
+use Rattle.basis.specs.Sizes.{most_candidates}
 use Rattle.cut.specs.Cuts.{Given, cut_count}
 use Rattle.slice.specs.Ready.{Rooms}
 use Rattle.straight_side.specs.declared.keeping.Side.{Side}
@@ -11,7 +12,10 @@ pub record KeptFew (cuts vertices : ℕ) (g : Given) (other : List Float) (side 
   pub few_cuts : cut_count g ≤ cuts
   pub few_vertices : side.other_vc ≤ vertices
 
--- the test says so
-pub record Fits (side : Side) (cuts vertices : ℕ) (r : Bool) : Type 0 where
-  pub few_cuts : r ≡ true → side.cuts.hits + 2 * side.cuts.laps ≤ cuts
-  pub few_vertices : r ≡ true → side.other_vc ≤ vertices
+-- the sizes of the working lists fit each other, and a call
+pub record Sized (cuts numbers points vertices wholes : ℕ) : Type 0 where
+  pub few_cuts : cuts ≤ most_candidates
+  pub few_vertices : vertices ≤ 1024
+  pub three : numbers ≡ 3 * cuts
+  pub two : points ≡ 2 * cuts
+  pub both : wholes ≡ 2 * vertices

@@ -1,178 +1,45 @@
 // The slices of one outline, with working lists of its own, in three sizes.
-ghost use Rattle.std.specs.Prelude.{◌+◌, ◌*◌};
-ghost use Rattle.cut.specs.Cuts.{given};
+ghost use Rattle.cut.specs.Cuts.{held};
 ghost use Rattle.slice.specs.Ready.{rooms};
-ghost use Rattle.cut_entries.specs.CutRows.{FewCuts};
 ghost use Rattle.straight_side.specs.Ready.{KeptRoom, Kept};
-ghost use Rattle.straight_kept.specs.Ready.{KeptFew, Fits};
+ghost use Rattle.straight_kept.specs.Ready.{KeptFew, Sized};
 
-use basis::sizes::{MOST_CANDIDATES, MOST_VERTICES};
+use basis::sizes::MOST_CANDIDATES;
+use cut::arrival::Cuts;
 use straight_side::keeping::{Side, kept_with};
 
-// With working lists for 8 cuts and 16 vertices, which cost little to set up. The next two functions have lists for 64 and 128, and for 768 and 1,024, which is
-// the most.
-fn kept_few(
-    outline: &[f64],
+// With working lists for so many cuts and so many vertices of the other outline: few of them cost little to set up.
+#[tactic(auto, using(crate::proofs::Sizes::sizes))]
+fn kept_in<
+    const CUTS: usize,
+    const NUMBERS: usize,
+    const POINTS: usize,
+    const VERTICES: usize,
+    const WHOLES: usize,
+>(
+    cuts: &Cuts,
     other: &[f64],
-    hit_at: &[usize],
-    hit: &[f64],
-    lap_at: &[usize],
-    lap: &[f64],
     side: Side,
     slice_at: &mut [usize],
     slice: &mut [f64],
     slice_edition: &mut [u32],
 ) -> usize
-    requires { KeptFew 8 16 (given outline.now hit_at.now hit.now lap_at.now lap.now side.cuts) other.now side (rooms slice_at.old slice.old slice_edition.old) }
-    ensures { Kept (given outline.now hit_at.now hit.now lap_at.now lap.now side.cuts) other.now side (rooms slice_at.old slice.old slice_edition.old) result (rooms slice_at.new slice.new slice_edition.new) }
+    requires room { KeptFew CUTS VERTICES (held cuts.now) other.now side (rooms slice_at.old slice.old slice_edition.old) }
+    requires sizes { Sized CUTS NUMBERS POINTS VERTICES WHOLES }
+    ensures { Kept (held cuts.now) other.now side (rooms slice_at.old slice.old slice_edition.old) result (rooms slice_at.new slice.new slice_edition.new) }
 {
-    let mut order = [0usize; 8];
-    let mut cut_at = [0usize; 24];
-    let mut cut = [0.0f64; 16];
-    let mut wholes = [0i64; 32];
+    let mut order = [0usize; CUTS];
+    let mut cut_at = [0usize; NUMBERS];
+    let mut cut = [0.0f64; POINTS];
+    let mut wholes = [0i64; WHOLES];
     kept_with(
-        outline,
+        cuts,
         other,
-        hit_at,
-        hit,
-        lap_at,
-        lap,
         side,
         &mut order,
         &mut cut_at,
         &mut cut,
         &mut wholes,
-        slice_at,
-        slice,
-        slice_edition,
-    )
-}
-
-fn kept_some(
-    outline: &[f64],
-    other: &[f64],
-    hit_at: &[usize],
-    hit: &[f64],
-    lap_at: &[usize],
-    lap: &[f64],
-    side: Side,
-    slice_at: &mut [usize],
-    slice: &mut [f64],
-    slice_edition: &mut [u32],
-) -> usize
-    requires { KeptFew 64 128 (given outline.now hit_at.now hit.now lap_at.now lap.now side.cuts) other.now side (rooms slice_at.old slice.old slice_edition.old) }
-    ensures { Kept (given outline.now hit_at.now hit.now lap_at.now lap.now side.cuts) other.now side (rooms slice_at.old slice.old slice_edition.old) result (rooms slice_at.new slice.new slice_edition.new) }
-{
-    let mut order = [0usize; 64];
-    let mut cut_at = [0usize; 192];
-    let mut cut = [0.0f64; 128];
-    let mut wholes = [0i64; 256];
-    kept_with(
-        outline,
-        other,
-        hit_at,
-        hit,
-        lap_at,
-        lap,
-        side,
-        &mut order,
-        &mut cut_at,
-        &mut cut,
-        &mut wholes,
-        slice_at,
-        slice,
-        slice_edition,
-    )
-}
-
-fn kept_many(
-    outline: &[f64],
-    other: &[f64],
-    hit_at: &[usize],
-    hit: &[f64],
-    lap_at: &[usize],
-    lap: &[f64],
-    side: Side,
-    slice_at: &mut [usize],
-    slice: &mut [f64],
-    slice_edition: &mut [u32],
-) -> usize
-    requires { KeptRoom (given outline.now hit_at.now hit.now lap_at.now lap.now side.cuts) other.now side (rooms slice_at.old slice.old slice_edition.old) }
-    ensures { Kept (given outline.now hit_at.now hit.now lap_at.now lap.now side.cuts) other.now side (rooms slice_at.old slice.old slice_edition.old) result (rooms slice_at.new slice.new slice_edition.new) }
-{
-    let mut order = [0usize; MOST_CANDIDATES];
-    let mut cut_at = [0usize; 3 * MOST_CANDIDATES];
-    let mut cut = [0.0f64; 2 * MOST_CANDIDATES];
-    let mut wholes = [0i64; 2 * MOST_VERTICES];
-    kept_with(
-        outline,
-        other,
-        hit_at,
-        hit,
-        lap_at,
-        lap,
-        side,
-        &mut order,
-        &mut cut_at,
-        &mut cut,
-        &mut wholes,
-        slice_at,
-        slice,
-        slice_edition,
-    )
-}
-
-// Whether lists for so many cuts and so many vertices are long enough.
-fn fits(side: Side, cuts: usize, vertices: usize) -> bool
-    requires { FewCuts (side.cuts.hits + 2 * side.cuts.laps) }
-    ensures { Fits side cuts vertices result }
-{
-    if side.cuts.hits + 2 * side.cuts.laps <= cuts {
-        if side.other_vc <= vertices {
-            return true;
-        }
-    }
-    false
-}
-
-// Writes the slices of an outline with more cuts or vertices than the smallest lists hold.
-fn kept_more(
-    outline: &[f64],
-    other: &[f64],
-    hit_at: &[usize],
-    hit: &[f64],
-    lap_at: &[usize],
-    lap: &[f64],
-    side: Side,
-    slice_at: &mut [usize],
-    slice: &mut [f64],
-    slice_edition: &mut [u32],
-) -> usize
-    requires { KeptRoom (given outline.now hit_at.now hit.now lap_at.now lap.now side.cuts) other.now side (rooms slice_at.old slice.old slice_edition.old) }
-    ensures { Kept (given outline.now hit_at.now hit.now lap_at.now lap.now side.cuts) other.now side (rooms slice_at.old slice.old slice_edition.old) result (rooms slice_at.new slice.new slice_edition.new) }
-{
-    if fits(side, 64, 128) {
-        return kept_some(
-            outline,
-            other,
-            hit_at,
-            hit,
-            lap_at,
-            lap,
-            side,
-            slice_at,
-            slice,
-            slice_edition,
-        );
-    }
-    kept_many(
-        outline,
-        other,
-        hit_at,
-        hit,
-        lap_at,
-        lap,
-        side,
         slice_at,
         slice,
         slice_edition,
@@ -180,42 +47,28 @@ fn kept_more(
 }
 
 // Writes the slices of one outline, and says where they end.
+#[tactic(auto, using(crate::proofs::Sizes::sizes))]
 pub fn kept(
-    outline: &[f64],
+    cuts: &Cuts,
     other: &[f64],
-    hit_at: &[usize],
-    hit: &[f64],
-    lap_at: &[usize],
-    lap: &[f64],
     side: Side,
     slice_at: &mut [usize],
     slice: &mut [f64],
     slice_edition: &mut [u32],
 ) -> usize
-    requires { KeptRoom (given outline.now hit_at.now hit.now lap_at.now lap.now side.cuts) other.now side (rooms slice_at.old slice.old slice_edition.old) }
-    ensures { Kept (given outline.now hit_at.now hit.now lap_at.now lap.now side.cuts) other.now side (rooms slice_at.old slice.old slice_edition.old) result (rooms slice_at.new slice.new slice_edition.new) }
+    requires { KeptRoom (held cuts.now) other.now side (rooms slice_at.old slice.old slice_edition.old) }
+    ensures { Kept (held cuts.now) other.now side (rooms slice_at.old slice.old slice_edition.old) result (rooms slice_at.new slice.new slice_edition.new) }
 {
-    if fits(side, 8, 16) {
-        return kept_few(
-            outline,
-            other,
-            hit_at,
-            hit,
-            lap_at,
-            lap,
-            side,
-            slice_at,
-            slice,
-            slice_edition,
-        );
+    let count = cuts.case.count();
+    if count <= 8 && side.other_vc <= 16 {
+        return kept_in::<8, 24, 16, 16, 32>(cuts, other, side, slice_at, slice, slice_edition);
     }
-    kept_more(
-        outline,
+    if count <= 64 && side.other_vc <= 128 {
+        return kept_in::<64, 192, 128, 128, 256>(cuts, other, side, slice_at, slice, slice_edition);
+    }
+    kept_in::<MOST_CANDIDATES, 2304, 1536, 1024, 2048>(
+        cuts,
         other,
-        hit_at,
-        hit,
-        lap_at,
-        lap,
         side,
         slice_at,
         slice,

@@ -9,6 +9,7 @@ use lib.Ieee.{Float}
 use Rattle.basis.specs.Number.{+0}
 use Rattle.basis.specs.Room.{room_of}
 use Rattle.basis.specs.RoomLaws.{room-front}
+use Rattle.cut.specs.declared.arrival.Case.{Case}
 use Rattle.cut.specs.Cuts.{Given, given, cut_count}
 use Rattle.cut.specs.Order as order
 use Rattle.cut.specs.Order.{cut_numbers, cut_points}
@@ -37,10 +38,10 @@ use Rattle.straight_side.proofs.Staying.{stays-kept}
 front_long : {A : Type 0} (n : ℕ) (l : List A) → length (take n l) ≡ n → n ≤ length l
 front_long n l e = omega (arith, simp length-take at e)
 
-module _ (o : List Float) (ha : List ℕ) (h : List Float) (la : List ℕ) (l : List Float) (other : List Float) (side : Side) (sorted a : List ℕ) (b : List Float) (wholes : List ℤ) (room : Rooms)
-    (k : KeptWith (given o ha h la l side.cuts) other side sorted a b wholes room) where
+module _ (o : List Float) (ha : List ℕ) (h : List Float) (la : List ℕ) (l : List Float) (s : Case) (other : List Float) (side : Side) (sorted a : List ℕ) (b : List Float) (wholes : List ℤ) (room : Rooms)
+    (k : KeptWith (given o ha h la l s) other side sorted a b wholes room) where
   abbrev g : Given
-  g = given o ha h la l side.cuts
+  g = given o ha h la l s
 
   pub sort-room : WriteRoom g sorted a b
   sort-room = record { roomy = record { accepted = k.ok.both.accepted; number_room = k.number_room; point_room = k.point_room }; long = k.sorted_long }
@@ -59,10 +60,10 @@ module _ (o : List Float) (ha : List ℕ) (h : List Float) (la : List ℕ) (l : 
     wholes-front : take (2 * side.other_vc) wholes' ≡ wholes_of other side.other_vc
     wholes-front = room-front (pos 0) 2 side.other_vc (wholes_of other side.other_vc) wholes wholes' (2 * side.other_vc) e (wholes-length other side.other_vc)
 
-    same : straight_given o (take (3 * cut_count g) a') (take (2 * cut_count g) b') side.cuts ≡ along_straight g
+    same : straight_given o (take (3 * cut_count g) a') (take (2 * cut_count g) b') s ≡ along_straight g
     same = rw (numbers-front, points-front)
 
-    pub fronts-room : FrontsRoom o a' b' side.cuts wholes' side.other_vc room side.from
+    pub fronts-room : FrontsRoom o a' b' s wholes' side.other_vc room side.from
     fronts-room =
         let c = k.ok.both.accepted.ready in
         let v = k.ok.both.whole in
@@ -71,7 +72,7 @@ module _ (o : List Float) (ha : List ℕ) (h : List Float) (la : List ℕ) (l : 
         let there : PlacesRoom (along_straight g) (wholes_of other side.other_vc) side.other_vc room side.from =
         record {
           sound = sound;
-          known = probe-known o (cut_numbers g) (cut_points g) side.cuts sound k.ok.both.own (points-pass readable g c k.ok.both.hits k.ok.both.laps);
+          known = probe-known o (cut_numbers g) (cut_points g) s sound k.ok.both.own (points-pass readable g c k.ok.both.hits k.ok.both.laps);
           outline = record { long = wholes-length other side.other_vc; least = v.least; most = v.most; close = wholes-close other side.other_vc };
           low = k.ok.low;
           roomy = k.ok.roomy;
@@ -88,14 +89,14 @@ module _ (o : List Float) (ha : List ℕ) (h : List Float) (la : List ℕ) (l : 
         }
 
     pub fronts-kept : (room' : Rooms) (r : ℕ)
-        → Wrote (stays_to (take (2 * side.other_vc) wholes') side.edition side.part (straight_given o (take (3 * cut_count g) a') (take (2 * cut_count g) b') side.cuts) (cut_count g)) (cut_count g) room side.from r room'
+        → Wrote (stays_to (take (2 * side.other_vc) wholes') side.edition side.part (straight_given o (take (3 * cut_count g) a') (take (2 * cut_count g) b') s) (cut_count g)) (cut_count g) room side.from r room'
         → Kept g other side room r room'
     fronts-kept room' r q =
         let vc = side.other_vc in
-        let is : stays_to (take (2 * vc) wholes') side.edition side.part (straight_given o (take (3 * cut_count g) a') (take (2 * cut_count g) b') side.cuts) (cut_count g)
+        let is : stays_to (take (2 * vc) wholes') side.edition side.part (straight_given o (take (3 * cut_count g) a') (take (2 * cut_count g) b') s) (cut_count g)
         ≡ kept_to (side_cands g other vc side.edition) side.part (side_count g) =
         (λ i. stays_to (wholes-front i) side.edition side.part (same i) (cut_count g)) ∙ stays-kept g other vc side.edition side.part in
-        let p = subst (λ (s : List slice.Slice). Wrote s (cut_count g) room side.from r room') is q in
+        let p = subst (λ (t : List slice.Slice). Wrote t (cut_count g) room side.from r room') is q in
         record {
           placed = p.placed;
           few = omega (arith, p.placed.counted, kept-few (side_cands g other vc side.edition) side.part (side_count g));

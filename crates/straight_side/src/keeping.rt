@@ -1,17 +1,16 @@
 // The slices of one outline: those of its candidates that stay.
-ghost use Rattle.cut.specs.Cuts.{given};
+ghost use Rattle.cut.specs.Cuts.{held};
 ghost use Rattle.slice.specs.Ready.{rooms};
 ghost use Rattle.straight_side.specs.Ready.{KeptWith, Kept};
 
-use cut::arrival::{Case, Cuts};
+use cut::arrival::Cuts;
 use prune::mode::Part;
 use straight_along::along;
 use straight_cut::microdegrees;
 
-// The numbers of one outline's turn: its cuts, the other outline's vertex count, its edition, how its candidates become slices, and from which slice number on.
+// The numbers of one outline's turn: the other outline's vertex count, its edition, how its candidates become slices, and from which slice number on.
 #[derive(Clone, Copy)]
 pub struct Side {
-    pub cuts: Case,
     pub other_vc: usize,
     pub edition: u32,
     pub part: Part,
@@ -21,12 +20,8 @@ pub struct Side {
 // Writes the slices of one outline, and says where they end. The lists lent beside the rooms are for the order of the cuts, the cuts in it, and the other outline in whole
 // microdegrees.
 pub fn kept_with(
-    outline: &[f64],
+    cuts: &Cuts,
     other: &[f64],
-    hit_at: &[usize],
-    hit: &[f64],
-    lap_at: &[usize],
-    lap: &[f64],
     side: Side,
     order: &mut [usize],
     cut_at: &mut [usize],
@@ -36,26 +31,17 @@ pub fn kept_with(
     slice: &mut [f64],
     slice_edition: &mut [u32],
 ) -> usize
-    requires { KeptWith (given outline.now hit_at.now hit.now lap_at.now lap.now side.cuts) other.now side order.old cut_at.old cut.old wholes.old (rooms slice_at.old slice.old slice_edition.old) }
-    ensures { Kept (given outline.now hit_at.now hit.now lap_at.now lap.now side.cuts) other.now side (rooms slice_at.old slice.old slice_edition.old) result (rooms slice_at.new slice.new slice_edition.new) }
+    requires { KeptWith (held cuts.now) other.now side order.old cut_at.old cut.old wholes.old (rooms slice_at.old slice.old slice_edition.old) }
+    ensures { Kept (held cuts.now) other.now side (rooms slice_at.old slice.old slice_edition.old) result (rooms slice_at.new slice.new slice_edition.new) }
 {
-    let s = side.cuts;
     let part = side.part;
-    let cuts = Cuts {
-        outline,
-        hit_at,
-        hit,
-        lap_at,
-        lap,
-        case: s,
-    };
-    cut_order::write::write_order(&cuts, order, cut_at, cut);
+    cut_order::write::write_order(cuts, order, cut_at, cut);
     microdegrees::write_wholes(other, side.other_vc, wholes);
     along::walk_fronts(
-        outline,
+        cuts.outline,
         cut_at,
         cut,
-        s,
+        cuts.case,
         wholes,
         side.other_vc,
         side.edition,

@@ -1,7 +1,4 @@
-use Prim.Native.Nat.{◌-◌}
-use Rattle.slice.specs.Ready.{rooms}
-use Rattle.straight_cut.specs.Splits.{straight_given}
-use Rattle.straight_along.proofs.Walking.{Walking, walking, walk_more}
+use Rattle.straight_along.proofs.Walking.{walking, walk_more}
 use borrow.Author.Rules.{rules}
 use Rattle.straight_along.proofs.along.walk.Goals as goal
 
@@ -19,12 +16,6 @@ candidate_at-c-requires c = search (rules, walking)
 
 pub put_stay-n-requires : goal.put_stay-n-requires
 put_stay-n-requires c = search (rules, walking)
-
-pub overflow_add-p : goal.overflow_add-p
-overflow_add-p c = search (rules, walking)
-
-pub loop-p-smaller : goal.loop-p-smaller
-loop-p-smaller c = search (rules, walking)
 
 pub loop-p-preserved : goal.loop-p-preserved
 loop-p-preserved c =

@@ -4,8 +4,8 @@ use Rattle.straight_side.proofs.keeping.kept_with.Goals as goal
 
 pub walk_fronts-requires : goal.walk_fronts-requires
 walk_fronts-requires c =
-    fronts-room _ _ _ _ _ _ _ _ _ _ _ _ c.requires _ _ c.write_order.ensures _ c.write_wholes.ensures
+    fronts-room _ _ _ _ _ _ _ _ _ _ _ _ _ c.requires _ _ c.write_order.ensures _ c.write_wholes.ensures
 
 pub returns : goal.returns
 returns c =
-    fronts-kept _ _ _ _ _ _ _ _ _ _ _ _ c.requires _ _ c.write_order.ensures _ c.write_wholes.ensures _ _ c.walk_fronts.ensures
+    fronts-kept _ _ _ _ _ _ _ _ _ _ _ _ _ c.requires _ _ c.write_order.ensures _ c.write_wholes.ensures _ _ c.walk_fronts.ensures
