@@ -29,45 +29,45 @@ second-few g = count_most (along_straight (second_cuts g))
 
 -- ---- one outline behind the other
 module _ (g : Given) (room : Rooms) (k : SidesRoom g room) where
-  -- the cuts of each outline, by the numbers of its turn
-  abbrev of_first : Side → cuts.Given
-  of_first s = cuts.given g.outline1 g.hit_at g.hit g.lap_at g.lap s.cuts
-
-  abbrev of_second : Side → cuts.Given
-  of_second s = cuts.given g.outline2 g.hit_at g.hit g.lap_at g.lap s.cuts
-
-  module _ (p : Part) (one : Side) (is : one ≡ first_side g.job p) where
-    pub first-room : KeptRoom (of_first one) g.outline2 one room
+  -- the code has the cuts of outline 1 as `own`, and those of outline 2 as `others`
+  module _ (p : Part) (one : Side) (is : one ≡ first_side g.job p) (own : cuts.Given) (first : own ≡ first_cuts g) where
+    pub first-room : KeptRoom own g.outline2 one room
     first-room =
         let r = k.roomy in
-        subst (λ (s : Side). KeptRoom (of_first s) g.outline2 s room) (sym is)
+        subst (λ (s : Side). KeptRoom own g.outline2 s room) (sym is)
+        (subst (λ (c : cuts.Given). KeptRoom c g.outline2 (first_side g.job p) room) (sym first)
         (record {
           both = k.first;
           low = zero-le;
           roomy = record { at = omega (arith, r.at); shape = omega (arith, r.shape); edition = omega (arith, r.edition) };
-        })
+        }))
 
-    module _ (n : ℕ) (room₁ : Rooms) (x₀ : Kept (of_first one) g.outline2 one room n room₁) where
+    module _ (n : ℕ) (room₁ : Rooms) (x₀ : Kept own g.outline2 one room n room₁) where
       x : Kept (first_cuts g) g.outline2 (first_side g.job p) room n room₁
-      x = subst (λ (s : Side). Kept (of_first s) g.outline2 s room n room₁) is x₀
+      x =
+          subst (λ (c : cuts.Given). Kept c g.outline2 (first_side g.job p) room n room₁) first
+          (subst (λ (s : Side). Kept own g.outline2 s room n room₁) is x₀)
 
-      module _ (q : Part) (two : Side) (is₂ : two ≡ second_side g.job q n) where
-        pub second-room : KeptRoom (of_second two) g.outline1 two room₁
+      module _ (q : Part) (two : Side) (is₂ : two ≡ second_side g.job q n) (others : cuts.Given) (second : others ≡ second_cuts g) where
+        pub second-room : KeptRoom others g.outline1 two room₁
         second-room =
             let r = k.roomy in
             let f = first-few g in
             let c = k.first.accepted.ready in
-            subst (λ (s : Side). KeptRoom (of_second s) g.outline1 s room₁) (sym is₂)
+            subst (λ (s : Side). KeptRoom others g.outline1 s room₁) (sym is₂)
+            (subst (λ (d : cuts.Given). KeptRoom d g.outline1 (second_side g.job q n) room₁) (sym second)
             (record {
               both = k.second;
               low = omega (arith, x.few, c.few_hits, c.few_laps);
               roomy = record { at = omega (arith, r.at, x.few, x.size-at); shape = omega (arith, r.shape, x.few, x.size-shape); edition = omega (arith, r.edition, x.few, x.size-edition) };
-            })
+            }))
 
-        pub both-made : (ps : Parts) → ps ≡ parts_for (pruning g).call → p ≡ ps.first → q ≡ ps.second → (b : ℕ) (room₂ : Rooms) → Kept (of_second two) g.outline1 two room₁ b room₂
+        pub both-made : (ps : Parts) → ps ≡ parts_for (pruning g).call → p ≡ ps.first → q ≡ ps.second → (b : ℕ) (room₂ : Rooms) → Kept others g.outline1 two room₁ b room₂
             → BothWritten (pruning g).call (first_cands g) (second_cands g) room (record { first = n; second = b }) room₂
         both-made ps e u v b room₂ y₀ =
-            let y : Kept (second_cuts g) g.outline1 (second_side g.job q n) room₁ b room₂ = subst (λ (s : Side). Kept (of_second s) g.outline1 s room₁ b room₂) is₂ y₀ in
+            let y : Kept (second_cuts g) g.outline1 (second_side g.job q n) room₁ b room₂ =
+            subst (λ (d : cuts.Given). Kept d g.outline1 (second_side g.job q n) room₁ b room₂) second
+            (subst (λ (s : Side). Kept others g.outline1 s room₁ b room₂) is₂ y₀) in
             both_of (pruning g).call (first_cands g) (second_cands g) room room₁ n ps room₂ b e
             (subst (λ (z : Part). Wrote (kept_to (first_cands g) z (side_count (first_cuts g))) (side_count (first_cuts g)) room 0 n room₁) u x)
             (subst (λ (z : Part). Wrote (kept_to (second_cands g) z (side_count (second_cuts g))) (side_count (second_cuts g)) room₁ n b room₂) v y)

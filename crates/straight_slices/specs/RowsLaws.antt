@@ -4,7 +4,7 @@ use Rattle.std.proofs.Common.{sym, ap, subst, ◌∙◌, arith, ltb-false}
 use Rattle.std.proofs.lemmas.Bool.{not-false}
 use Rattle.basis.specs.Sizes.{most_hits, most_laps}
 use Rattle.basis.specs.Refuse.{Row, first_from}
-use Rattle.basis.specs.RefuseLaws.{Clear, clear, clear-left, clear-right, first-from, stop-rows, go-rows, length-ok, answer-no, answer-yes}
+use Rattle.basis.specs.RefuseLaws.{Clear, clear, clear-left, clear-right, first-from, stop-rows, go-rows, length-ok, part-stops, part-passes, answer-no, answer-yes}
 use Rattle.slice.specs.Ready.{Countable, Rooms, Roomy}
 use Rattle.cut.specs.Cuts as cut
 use Rattle.cut.specs.Cuts.{which_of}
@@ -17,7 +17,6 @@ use Rattle.prune.specs.Ready.{Few}
 use Rattle.prune_write.specs.Ready.{WrittenTo}
 use Rattle.prune_entries.specs.declared.answer.PruneAnswer.{PruneAnswer}
 use Rattle.prune_entries.specs.Answers.{prune_refused, prune_given}
-use Rattle.prune_entries.specs.PruneRows.{room_rows}
 use Rattle.straight_cut.specs.KnownLaws.{outline-readable, points-readable, laps-readable}
 use Rattle.straight_slices.specs.Slices.{Given, first_cuts, second_cuts, pruning, most_call, need_all}
 use Rattle.straight_slices.specs.Ready.{Accepted}
@@ -114,6 +113,20 @@ second-pass g p =
       view_offsets = λ e. not-false _ p.indexes.1.1.1.1.1.1.1.0;
     }
 
+-- ---- the lists: those of the cuts of outline 1, which the code has as a, and then the others
+module _ (g : Given) (a : cut.Given) (own : a ≡ first_cuts g) (p : ℕ) (e : p ≡ first_from 0 (cuts.list_rows a)) where
+  abbrev more : List Row
+  more = more_list_rows (length g.outline2) g.job.vc2 (length g.lap_edition) g.job.laps
+
+  listed : p ≡ first_from 0 (cuts.list_rows (first_cuts g))
+  listed = e ∙ ap (λ (c : cut.Given). first_from 0 (cuts.list_rows c)) own
+
+  pub listed-stops : (p ≡ 0 → ⊥) → p ≡ first_from 0 (list_rows g)
+  listed-stops h = part-stops (cuts.list_rows (first_cuts g)) more p listed h
+
+  pub listed-passes : (r : ℕ) → p ≡ 0 → r ≡ first_from 0 more → r ≡ first_from 0 (list_rows g)
+  listed-passes r z f = part-passes (cuts.list_rows (first_cuts g)) more p listed r z f
+
 -- ---- the ways through the entry
 module _ (g : Given) (found : ℕ) (e : found ≡ first_from 0 (input_rows g)) where
   pub clean : found ≡ 0 → Parts g
@@ -193,23 +206,6 @@ module _ (g : Given) (l : Rooms) (number : ℕ) (is : number ≡ slices_number g
         edition = answer-yes (λ _. l.edition) number _ _ left.edition is z w.edition;
       }
 
--- what is handed in is refused
-pub input-refused : (g : Given) (l : Rooms) (found : ℕ) (r : PruneAnswer) → found ≡ first_from 0 (input_rows g) → (found ≡ 0 → ⊥) → r ≡ prune_refused found → SlicesLeft g l r l
-input-refused g l found r e h q = slices-refused g l found (input-found g found e (length l.at) (length l.shape) (length l.edition) h) r h q
-
--- it is not, and the need was worked out
-module _ (g : Given) (l : Rooms) (found need number : ℕ) (e : found ≡ first_from 0 (input_rows g)) (z : found ≡ 0) (n : need ≡ need_all g.job)
-    (f : number ≡ first_from 0 (room_rows need (length l.at) (length l.shape) (length l.edition))) where
-  is_number : number ≡ slices_number g l
-  is_number = lent_found g found e (length l.at) (length l.shape) (length l.edition) number z (rw n at f)
-
-  pub lent-refused : (r : PruneAnswer) → (number ≡ 0 → ⊥) → r ≡ prune_refused number → SlicesLeft g l r l
-  lent-refused r h q = slices-refused g l number is_number r h q
-
-  pub accepted-ready : (call : Call) → call ≡ most_call g.job → number ≡ 0 → Accepted g call l
-  accepted-ready call m y = slices-accepted g l number is_number call m y
-
-  pub accepted-given : (p : Pruned) (r : PruneAnswer) (left : Rooms) → number ≡ 0 → WrittenTo (pruning g) (need_all g.job) l p left → r ≡ prune_given p → SlicesLeft g l r left
-  accepted-given p r left y w q = slices-given g l number is_number p r left y w q
-
-pub ruleset slicing = (input-refused, input-few, need-countable, lent-refused, accepted-ready, accepted-given)
+-- an accepted call has few cuts
+pub accepted-few : (g : Given) (l : Rooms) (number : ℕ) → number ≡ slices_number g l → number ≡ 0 → FewCuts (g.job.hits + 2 * g.job.laps)
+accepted-few g l number is z = let c = first-pass g (accepted-parts g l (sym is ∙ z)) in record { few = omega (arith, c.few_hits, c.few_laps) }

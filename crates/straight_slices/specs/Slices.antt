@@ -9,6 +9,7 @@ use Rattle.prune.specs.declared.mode.Part.{Part}
 use Rattle.prune.specs.Prune as prune
 use Rattle.prune.specs.Prune.{call_of, overlaps, need_of}
 use Rattle.straight_slices.specs.declared.job.Job.{Job}
+use Rattle.straight_slices.specs.declared.job.Handed.{Handed}
 use Rattle.straight_side.specs.declared.keeping.Side.{Side}
 use Rattle.straight_side.specs.Side.{side_count, side_cands}
 
@@ -31,6 +32,10 @@ pub record Given : Type 0 where
 abbrev pub given : Job → List Float → List Float → List ℕ → List Float → List ℕ → List Float → List ℕ → Given
 given job o p ha h la l le = record { job = job; outline1 = o; outline2 = p; hit_at = ha; hit = h; lap_at = la; lap = l; lap_edition = le }
 
+-- the same, as the code holds them
+abbrev pub handed : Handed → Given
+handed h = given h.job h.outline1.now h.outline2.now h.hit_at.now h.hit.now h.lap_at.now h.lap.now h.lap_edition.now
+
 -- the two calls of `mask_candidates`
 abbrev pub first_case : Job → Case
 first_case j = case_of j.vc1 1 j.hits j.laps j.tolerance
@@ -44,12 +49,12 @@ first_cuts g = cuts.given g.outline1 g.hit_at g.hit g.lap_at g.lap (first_case g
 abbrev pub second_cuts : Given → cuts.Given
 second_cuts g = cuts.given g.outline2 g.hit_at g.hit g.lap_at g.lap (second_case g.job)
 
--- the turn of each outline: its cuts beside the other outline, and from which slice number on
+-- the turn of each outline beside the other, and from which slice number on
 abbrev pub first_side : Job → Part → Side
-first_side j part = record { cuts = first_case j; other_vc = j.vc2; edition = j.edition1; part = part; from = 0 }
+first_side j part = record { other_vc = j.vc2; edition = j.edition1; part = part; from = 0 }
 
 abbrev pub second_side : Job → Part → ℕ → Side
-second_side j part from = record { cuts = second_case j; other_vc = j.vc1; edition = j.edition2; part = part; from = from }
+second_side j part from = record { other_vc = j.vc1; edition = j.edition2; part = part; from = from }
 
 -- their candidates, each asked whether it is inside the OTHER outline
 abbrev pub first_cands : Given → prune.Cands

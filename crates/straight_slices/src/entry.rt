@@ -1,14 +1,25 @@
-// The entry: what is refused, then the slices. The need is worked out only where 1 to 7 and 18 found nothing.
+// The entry: what is refused, then the slices.
+ghost use Rattle.std.specs.Prelude.{◌≡◌};
+ghost use Rattle.basis.specs.Refusals.{found};
 ghost use Rattle.slice.specs.Ready.{rooms};
-ghost use Rattle.straight_slices.specs.Slices.{given};
-ghost use Rattle.straight_slices.specs.Rows.{SlicesLeft};
+ghost use Rattle.straight_slices.specs.Slices.{given, handed};
+ghost use Rattle.straight_slices.specs.Rows.{slices_refusal, SlicesLeft};
 
-use crate::job::Job;
+use crate::job::{Handed, Job};
 use crate::{faults, slicing};
+use basis::refuse::Refusal;
 use prune::call;
-use prune::call::Call;
 use prune_entries::answer::PruneAnswer;
 use prune_entries::{answer, faults as pruning};
+
+// All numbers. The need is worked out only where 1 to 7 and 18 found nothing.
+fn refusal(h: &Handed, at: usize, shape: usize, edition: usize) -> Result<(), Refusal>
+    ensures { found result ≡ slices_refusal (handed h.now) at shape edition }
+{
+    faults::input_refusal(h)?;
+    let need = call::need_of(h.job.most_call());
+    pruning::room_refusal(need, at, shape, edition)
+}
 
 // The slices of a mode of two straight masks: the candidates of each outline that stay, then the overlaps for each outline.
 pub fn entry(
@@ -26,7 +37,7 @@ pub fn entry(
 ) -> PruneAnswer
     ensures { SlicesLeft (given job outline1.now outline2.now hit_at.now hit.now lap_at.now lap.now lap_edition.now) (rooms slice_at.old slice.old slice_edition.old) result (rooms slice_at.new slice.new slice_edition.new) }
 {
-    let found = faults::input_refusal(
+    let h = Handed {
         job,
         outline1,
         outline2,
@@ -35,37 +46,15 @@ pub fn entry(
         lap_at,
         lap,
         lap_edition,
-    );
-    if found != 0 {
-        return answer::prune_refused(found);
-    }
-    let count = job.hits + 2 * job.laps;
-    let call = Call {
-        mode: job.mode,
-        opposing: job.opposing,
-        vc1: job.vc1,
-        vc2: job.vc2,
-        count1: count,
-        count2: count,
-        laps: job.laps,
     };
-    let need = call::need_of(call);
-    let found = pruning::lent_refusal(need, slice_at.len(), slice.len(), slice_edition.len());
-    if found != 0 {
-        return answer::prune_refused(found);
+    match refusal(&h, slice_at.len(), slice.len(), slice_edition.len()) {
+        Err(refusal) => answer::prune_refused(refusal.number()),
+        Ok(()) => answer::prune_given(slicing::sliced(
+            &h,
+            job.most_call(),
+            slice_at,
+            slice,
+            slice_edition,
+        )),
     }
-    answer::prune_given(slicing::sliced(
-        job,
-        call,
-        outline1,
-        outline2,
-        hit_at,
-        hit,
-        lap_at,
-        lap,
-        lap_edition,
-        slice_at,
-        slice,
-        slice_edition,
-    ))
 }

@@ -1,38 +1,19 @@
-use mathlib.Core.Path.{refl}
-use Rattle.straight_slices.specs.RowsLaws.{input-refused, input-few, call-few, need-countable, lent-refused, accepted-ready, accepted-given}
-use borrow.Author.Rules.{rules}
+use Rattle.std.proofs.Common.{sym, ap, ◌∙◌}
+use Rattle.basis.specs.RefusalLaws.{found-none, found-some, found-number}
+use Rattle.prune_entries.specs.Answers.{prune_refused}
+use Rattle.straight_slices.specs.RowsLaws.{accepted-few, slices-accepted, slices-refused, slices-given}
 use Rattle.straight_slices.proofs.entry.entry.Goals as goal
 
-pub returns-then-found-ne0 : goal.returns-then-found-ne0
-returns-then-found-ne0 c =
-    input-refused _ _ _ _ c.input_refusal-found.ensures c.if-found-ne0.true c.prune_refused.ensures
+pub returns-in-Err : goal.returns-in-Err
+returns-in-Err c =
+    slices-refused _ _ _ c.refusal.ensures _ (found-some _ _ c.in-Err.is)
+    (c.prune_refused.ensures ∙ ap prune_refused (c.number.ensures ∙ sym (found-number _ _ c.in-Err.is)))
 
-pub overflow_mul-count : goal.overflow_mul-count
-overflow_mul-count c =
-    let few = input-few _ _ c.input_refusal-found.ensures c.if-found-ne0.false in
-    search rules
-
-pub overflow_add-count : goal.overflow_add-count
-overflow_add-count c =
-    let few = input-few _ _ c.input_refusal-found.ensures c.if-found-ne0.false in
-    search rules
-
-pub need_of-need-requires : goal.need_of-need-requires
-need_of-need-requires c =
-    call-few _ _ c.input_refusal-found.ensures c.if-found-ne0.false
-
-pub lent_refusal-found-requires : goal.lent_refusal-found-requires
-lent_refusal-found-requires c =
-    need-countable _ _ c.input_refusal-found.ensures _ c.if-found-ne0.false c.need_of-need.ensures
-
-pub returns-then-found-ne0-2 : goal.returns-then-found-ne0-2
-returns-then-found-ne0-2 c =
-    lent-refused _ _ _ _ _ c.input_refusal-found.ensures c.if-found-ne0.false c.need_of-need.ensures c.lent_refusal-found.ensures _ c.if-found-ne0-2.true c.prune_refused-then-found-ne0-2.ensures
+pub most_call-requires : goal.most_call-requires
+most_call-requires c = accepted-few _ _ _ c.refusal.ensures (found-none _ _ c.in-Ok.is)
 
 pub sliced-requires : goal.sliced-requires
-sliced-requires c =
-    accepted-ready _ _ _ _ _ c.input_refusal-found.ensures c.if-found-ne0.false c.need_of-need.ensures c.lent_refusal-found.ensures _ refl c.if-found-ne0-2.false
+sliced-requires c = slices-accepted _ _ _ c.refusal.ensures _ c.most_call.ensures (found-none _ _ c.in-Ok.is)
 
-pub returns : goal.returns
-returns c =
-    accepted-given _ _ _ _ _ c.input_refusal-found.ensures c.if-found-ne0.false c.need_of-need.ensures c.lent_refusal-found.ensures _ _ _ c.if-found-ne0-2.false c.sliced.ensures c.prune_given.ensures
+pub returns-in-Ok : goal.returns-in-Ok
+returns-in-Ok c = slices-given _ _ _ c.refusal.ensures _ _ _ (found-none _ _ c.in-Ok.is) c.sliced.ensures c.prune_given.ensures

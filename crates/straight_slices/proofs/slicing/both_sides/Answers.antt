@@ -1,17 +1,16 @@
 use mathlib.Core.Path.{refl}
 use Rattle.straight_slices.proofs.Making.{first-room, second-room, both-made}
-use borrow.Author.Rules.{rules}
 use Rattle.straight_slices.proofs.slicing.both_sides.Goals as goal
 
 pub kept-a-requires : goal.kept-a-requires
 kept-a-requires c =
-    first-room _ _ c.requires _ _ c.first_side-one.ensures
+    first-room _ _ c.requires _ _ c.first_side-one.ensures _ c.first_cuts-own.ensures
 
 pub kept-b-requires : goal.kept-b-requires
 kept-b-requires c =
-    second-room _ _ c.requires _ _ c.first_side-one.ensures _ _ c.kept-a.ensures _ _ c.second_side-two.ensures
+    second-room _ _ c.requires _ _ c.first_side-one.ensures _ c.first_cuts-own.ensures _ _ c.kept-a.ensures _ _ c.second_side-two.ensures _ c.second_cuts-others.ensures
 
 pub returns : goal.returns
 returns c =
-    both-made _ _ c.requires _ _ c.first_side-one.ensures _ _ c.kept-a.ensures _ _ c.second_side-two.ensures c.parts_of-parts.result c.parts_of-parts.ensures refl refl _ _
-    c.kept-b.ensures
+    both-made _ _ c.requires _ _ c.first_side-one.ensures _ c.first_cuts-own.ensures _ _ c.kept-a.ensures _ _ c.second_side-two.ensures _ c.second_cuts-others.ensures
+    c.parts_of-parts.result c.parts_of-parts.ensures refl refl _ _ c.kept-b.ensures
