@@ -14,6 +14,17 @@ use stitch_run::plan::Plan;
 // What the selector answers, a slice or none, where it is asked: where there is a candidate.
 pub type Answer = Option<Option<usize>>;
 
+// What a round reads: start points and marks, how the slices lie on lists, the chain's first slice and the one that was joined last, and the plan.
+#[derive(Clone, Copy)]
+pub struct Round<'a> {
+    pub points: &'a [f64],
+    pub visited: &'a [bool],
+    pub layout: Layout,
+    pub first: usize,
+    pub current: usize,
+    pub plan: Plan,
+}
+
 // After outline 1 or an overlap of it, outline 2 is looked for first.
 fn group_first(class: Class) -> usize
     ensures { result ≡ group_first class }
@@ -52,15 +63,36 @@ fn by_groups(
     let c = look::cells_of(look.layout, q);
     let class = class::class_of(starts, current);
     let g = group_first(class);
-    let a = look::lowest(&Look { query: of_group(q, g), ..*look }, link, c);
+    let a = look::lowest(
+        &Look {
+            query: of_group(q, g),
+            ..*look
+        },
+        link,
+        c,
+    );
     if a != NO_NUMBER {
         return Some(Some(a));
     }
-    let b = look::lowest(&Look { query: of_group(q, 1 - g), ..*look }, link, c);
+    let b = look::lowest(
+        &Look {
+            query: of_group(q, 1 - g),
+            ..*look
+        },
+        link,
+        c,
+    );
     if b != NO_NUMBER {
         return Some(Some(b));
     }
-    let o = look::lowest(&Look { query: of_group(q, 2), ..*look }, link, c);
+    let o = look::lowest(
+        &Look {
+            query: of_group(q, 2),
+            ..*look
+        },
+        link,
+        c,
+    );
     if o == NO_NUMBER {
         return None;
     }
@@ -71,24 +103,16 @@ fn by_groups(
 }
 
 // The candidates of an end, and the selector's answer after the slice that was joined last.
-pub fn answer_of(
-    points: &[f64],
-    visited: &[bool],
-    link: &mut [usize],
-    w: Layout,
-    end: Point,
-    first: usize,
-    current: usize,
-    p: Plan,
-) -> Answer
-    requires { Asking points.now visited.now link.old w first p }
-    ensures { Answered points.now visited.now link.new w first current end p result }
+pub fn answer_of(round: &Round, link: &mut [usize], end: Point) -> Answer
+    requires { Asking round.now.points.now round.now.visited.now link.old round.now.layout round.now.first round.now.plan }
+    ensures { Answered round.now.points.now round.now.visited.now link.new round.now.layout round.now.first round.now.current end round.now.plan result }
 {
+    let p = round.plan;
     let look = Look {
-        points,
-        visited,
-        layout: w,
-        query: look::around(end, p.tolerance, 0, first),
+        points: round.points,
+        visited: round.visited,
+        layout: round.layout,
+        query: look::around(end, p.tolerance, 0, round.first),
     };
-    by_groups(&look, link, p.selector, p.starts, current)
+    by_groups(&look, link, p.selector, p.starts, round.current)
 }

@@ -2,6 +2,7 @@
 ghost use Rattle.stitch_run.specs.Stitch.{given_of};
 ghost use Rattle.stitch_chain.specs.Ready.{Placing, Placed, Opening, Walked};
 
+use stitch_answer::answer::Round;
 use stitch_layout::layout::Layout;
 use stitch_round::step;
 use stitch_round::step::Step;
@@ -39,9 +40,15 @@ pub fn walk_chain(
     loop {
         chain[rounds] = current;
         rounds += 1;
-        match step::next_of(
-            points, visited, link, layout, room, n, first, current, s.plan,
-        ) {
+        let round = Round {
+            points,
+            visited,
+            layout,
+            first,
+            current,
+            plan: s.plan,
+        };
+        match step::next_of(&round, link, room, n) {
             Step::Onto(j) => {
                 n = place(visited, room, n - 1, s, j);
                 current = j;

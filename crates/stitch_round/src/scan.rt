@@ -1,8 +1,7 @@
 // Document 01: "A round takes the candidates of the chain's last vertex that are unvisited or the chain's first slice, in ascending number".
-ghost use Rattle.std.specs.Prelude.{◌≡◌, ◌&&◌, ◌*◌};
+ghost use Rattle.std.specs.Prelude.{◌≡◌, ◌*◌};
 ghost use Rattle.outline.specs.Outline.{point_at};
 ghost use Rattle.outline.specs.Points.{in_box};
-ghost use Rattle.stitch_run.specs.Run.{free};
 ghost use Rattle.stitch_links.specs.Ready.{ScanFit};
 ghost use Rattle.stitch_layout.specs.Ready.{There};
 ghost use Rattle.stitch_answer.specs.Answer.{near_end, answer_at};
@@ -12,12 +11,10 @@ use basis::number::Tolerance;
 use outline::point::Point;
 use outline::{point, read};
 use select::best::Best;
-use select::class::Starts;
 use select::table::Choices;
 use select::{best, class, table};
-use stitch_answer::answer::Answer;
+use stitch_answer::answer::{Answer, Round};
 use stitch_links::look;
-use stitch_run::plan::Plan;
 
 // A start point joins an end: it is in the closed box around it.
 fn joins(start: Point, end: Point, t: Tolerance) -> bool
@@ -35,37 +32,23 @@ fn is_near(points: &[f64], end: Point, t: Tolerance, j: usize) -> bool
 }
 
 // Slice j is a candidate.
-fn is_candidate(
-    points: &[f64],
-    visited: &[bool],
-    first: usize,
-    end: Point,
-    t: Tolerance,
-    j: usize,
-) -> bool
-    requires { BothThere points.now visited.now j }
-    ensures { result ≡ (free visited.now first j && in_box t end (point_at points.now (2 * j))) }
+fn is_candidate(round: &Round, end: Point, j: usize) -> bool
+    requires { BothThere round.now.points.now round.now.visited.now j }
+    ensures { result ≡ near_end round.now.points.now round.now.visited.now round.now.first end round.now.plan.tolerance j }
 {
-    look::is_free(visited, first, j) && is_near(points, end, t, j)
+    look::is_free(round.visited, round.first, j)
+        && is_near(round.points, end, round.plan.tolerance, j)
 }
 
 // Of each choice the first that suits among the candidates of an end, in ascending number; None where there is no candidate.
-fn scan(
-    points: &[f64],
-    visited: &[bool],
-    first: usize,
-    end: Point,
-    t: Tolerance,
-    starts: Starts,
-    choices: Choices,
-    count: usize,
-) -> Option<Best>
-    requires { ScanFit points.now visited.now count }
-    ensures { Met (near_end points.now visited.now first end t) starts choices count result }
+fn scan(round: &Round, end: Point, choices: Choices) -> Option<Best>
+    requires { ScanFit round.now.points.now round.now.visited.now round.now.plan.slices }
+    ensures { Met (near_end round.now.points.now round.now.visited.now round.now.first end round.now.plan.tolerance) round.now.plan.starts choices round.now.plan.slices result }
 {
+    let starts = round.plan.starts;
     let mut met = None;
-    for j in 0..count {
-        if is_candidate(points, visited, first, end, t, j) {
+    for j in 0..round.plan.slices {
+        if is_candidate(round, end, j) {
             let best = met.unwrap_or(best::none_yet());
             met = Some(best::offer(best, choices, j, class::class_of(starts, j)));
         }
@@ -74,27 +57,12 @@ fn scan(
 }
 
 // What the selector answers among them, after the slice that was joined last.
-pub(crate) fn answer_of(
-    points: &[f64],
-    visited: &[bool],
-    end: Point,
-    first: usize,
-    current: usize,
-    p: Plan,
-) -> Answer
-    requires { Scannable points.now visited.now p }
-    ensures { result ≡ answer_at points.now visited.now first current end p }
+pub(crate) fn answer_of(round: &Round, end: Point) -> Answer
+    requires { Scannable round.now.points.now round.now.visited.now round.now.plan }
+    ensures { result ≡ answer_at round.now.points.now round.now.visited.now round.now.first round.now.current end round.now.plan }
 {
-    let choices = table::choices_of(p.selector, p.starts, current);
-    let met = scan(
-        points,
-        visited,
-        first,
-        end,
-        p.tolerance,
-        p.starts,
-        choices,
-        p.slices,
-    )?;
+    let p = round.plan;
+    let choices = table::choices_of(p.selector, p.starts, round.current);
+    let met = scan(round, end, choices)?;
     Some(best::chosen(met))
 }

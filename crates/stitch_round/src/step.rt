@@ -9,9 +9,7 @@ ghost use Rattle.stitch_round.specs.Ready.{step_of, comes_to, RoundFit, Rounded}
 use crate::scan;
 use outline::{point, read};
 use stitch_answer::answer;
-use stitch_answer::answer::Answer;
-use stitch_layout::layout::Layout;
-use stitch_run::plan::Plan;
+use stitch_answer::answer::{Answer, Round};
 use stitch_tally::tally::{CLOSED, NO_CANDIDATE, NO_SELECTION, TOO_SMALL};
 
 // The outcome of a round: another slice is joined, or the chain ends. No Result: a closed chain is no error, and both carry a number.
@@ -46,43 +44,24 @@ fn step_of(n: usize, first: usize, answer: Answer) -> Step
 }
 
 // What the selector answers for the last vertex of a chain of n vertices: by lists of cells, or by a scan where the slices are on no lists.
-fn look(
-    points: &[f64],
-    visited: &[bool],
-    link: &mut [usize],
-    layout: Layout,
-    room: &[f64],
-    n: usize,
-    first: usize,
-    current: usize,
-    p: Plan,
-) -> Answer
-    requires { RoundFit points.now visited.now link.old layout room.now n first p }
-    ensures { Answered points.now visited.now link.new layout first current (pos_of (vertex_at room.now (n - 1))) p result }
+fn look(round: &Round, link: &mut [usize], room: &[f64], n: usize) -> Answer
+    requires { RoundFit round.now.points.now round.now.visited.now link.old round.now.layout room.now n round.now.first round.now.plan }
+    ensures { Answered round.now.points.now round.now.visited.now link.new round.now.layout round.now.first round.now.current (pos_of (vertex_at room.now (n - 1))) round.now.plan result }
 {
     let last = read::vertex_at(room, n - 1);
     let end = point::pos(last);
-    if layout.lists == 0 {
-        return scan::answer_of(points, visited, end, first, current, p);
+    if round.layout.lists == 0 {
+        scan::answer_of(round, end)
+    } else {
+        answer::answer_of(round, link, end)
     }
-    answer::answer_of(points, visited, link, layout, end, first, current, p)
 }
 
-// The outcome of the round.
-pub fn next_of(
-    points: &[f64],
-    visited: &[bool],
-    link: &mut [usize],
-    layout: Layout,
-    room: &[f64],
-    n: usize,
-    first: usize,
-    current: usize,
-    p: Plan,
-) -> Step
-    requires { RoundFit points.now visited.now link.old layout room.now n first p }
-    ensures { Rounded points.now visited.now link.new layout room.now n first current p result }
+// The outcome of the round, for a chain of n vertices.
+pub fn next_of(round: &Round, link: &mut [usize], room: &[f64], n: usize) -> Step
+    requires { RoundFit round.now.points.now round.now.visited.now link.old round.now.layout room.now n round.now.first round.now.plan }
+    ensures { Rounded round.now.points.now round.now.visited.now link.new round.now.layout room.now n round.now.first round.now.current round.now.plan result }
 {
-    let answer = look(points, visited, link, layout, room, n, first, current, p);
-    step_of(n, first, answer)
+    let answer = look(round, link, room, n);
+    step_of(n, round.first, answer)
 }

@@ -1,5 +1,4 @@
 use borrow.Author.Rules.{rules}
-use Prim.Native.Nat.{◌-◌}
 use Rattle.stitch_chain.proofs.Walking.{walk-look, walk-place, walk_end, walk-whole, walking}
 use Rattle.stitch_chain.proofs.rounds.walk_chain.Goals as goal
 
