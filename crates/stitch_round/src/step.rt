@@ -36,11 +36,13 @@ fn taken(n: usize, first: usize, j: usize) -> Step
 fn step_of(n: usize, first: usize, answer: Answer) -> Step
     ensures { result ≡ comes_to n first answer }
 {
-    match answer {
-        None => Step::Ends(NO_CANDIDATE),
-        Some(None) => Step::Ends(NO_SELECTION),
-        Some(Some(j)) => taken(n, first, j),
-    }
+    let Some(selected) = answer else {
+        return Step::Ends(NO_CANDIDATE);
+    };
+    let Some(j) = selected else {
+        return Step::Ends(NO_SELECTION);
+    };
+    taken(n, first, j)
 }
 
 // What the selector answers for the last vertex of a chain of n vertices: by lists of cells, or by a scan where the slices are on no lists.
