@@ -3,18 +3,10 @@ use std::io;
 use straight_entries::answer::ReportAnswer;
 use whole::two::Two;
 
-fn word(rt: &impl Print, text: &[u8]) {
-    let _ = rt.write_all(text);
-}
-
-fn whole(rt: &impl Print, n: usize) {
-    let _ = print!(rt; "{n}");
-}
-
 // A number of two words.
-fn wide(rt: &impl Print, high: u64, low: u64) {
+fn wide(rt: &impl Print, n: Two) {
     let mut text = [0u8; 39];
-    text::decimal::spell(Two { high, low }, &mut text);
+    text::decimal::spell(n, &mut text);
     let from = text::decimal::first_digit(&text);
     let _ = rt.write_all(&text[from..]);
 }
@@ -36,8 +28,8 @@ pub(crate) fn fail<R: Eprint + Alloc>(rt: &R, what: &str, why: io::Error) {
 }
 
 // The first word of an answer. Where it cannot be written, on a full disk, that is said, and there is no answer.
-fn first_word<R: Print + Eprint + Alloc>(rt: &R, text: &[u8]) -> bool {
-    match rt.write_all(text) {
+fn first_word<R: Print + Eprint + Alloc>(rt: &R, text: &str) -> bool {
+    match print!(rt; "{text}") {
         Ok(()) => true,
         Err(e) => {
             fail(rt, "standard output", e);
@@ -46,28 +38,26 @@ fn first_word<R: Print + Eprint + Alloc>(rt: &R, text: &[u8]) -> bool {
     }
 }
 
-fn refused<R: Print + Eprint + Alloc>(rt: &R, n: u32) {
-    if first_word(rt, b"refused ") {
-        whole(rt, n as usize);
-        word(rt, b"\n");
-    }
-}
-
 // What the report says, or the number of its refusal.
 pub(crate) fn report<R: Print + Eprint + Alloc>(rt: &R, r: ReportAnswer) {
     if r.refusal != 0 {
-        refused(rt, r.refusal);
+        if first_word(rt, "refused ") {
+            let _ = println!(rt; "{}", r.refusal);
+        }
         return;
     }
-    if !first_word(rt, b"outlines ") {
-        return;
+    if first_word(rt, "outlines ") {
+        let _ = println!(rt; "{}\narea zero {}", r.count, r.zero);
+        let _ = print!(rt; "total of the absolute doubled areas ");
+        wide(
+            rt,
+            Two {
+                high: r.high,
+                low: r.low,
+            },
+        );
+        let _ = println!(rt);
     }
-    whole(rt, r.count);
-    word(rt, b"\narea zero ");
-    whole(rt, r.zero);
-    word(rt, b"\ntotal of the absolute doubled areas ");
-    wide(rt, r.high, r.low);
-    word(rt, b"\n");
 }
 
 // A line that is no pair.

@@ -1,64 +1,40 @@
 // Reading to the end.
-ghost use Rattle.straight_entries.specs.Running.{Reported};
-
 use crate::gathered::State;
-use crate::{gathered, print};
+use crate::print;
+use std::io;
 use std::io::Read;
 
-// Every byte of a part of the text.
-fn take_all(rt: &impl Eprint, start: State, points: &mut [i64], text: &[u8]) -> State
-    requires { Reported start.so_far }
-    ensures { Reported result.so_far }
-{
-    let mut s = start;
-    let mut i: usize = 0;
-    while i < text.len() {
-        s = gathered::take(rt, s, points, text[i]);
-        i += 1;
-    }
-    s
-}
-
-// Reads once.
-fn read_some<R: Eprint + Alloc, F: Read>(
+// Every byte that can be read there. A proved loop must end, and an input need not. So the turns are counted, up to a number that no run reaches.
+fn read_all<R: Eprint, F: Read>(
     rt: &R,
     file: &mut F,
-    s: State,
+    state: &mut State,
     points: &mut [i64],
-) -> State
-    requires { Reported s.so_far }
-    ensures { Reported result.so_far }
-{
+) -> io::Result<()> {
     let mut buf = [0u8; 65536];
-    match file.read(&mut buf) {
-        Err(e) => {
-            print::fail(rt, "read", e);
-            gathered::stopped(s, 1)
+    for _ in 0..u64::MAX {
+        let n = file.read(&mut buf)?;
+        if n == 0 {
+            break;
         }
-        Ok(0) => gathered::stopped(s, 0),
-        Ok(n) => take_all(rt, s, points, &buf[..n]),
+        for c in &buf[..n] {
+            state.take(rt, points, *c);
+        }
     }
-}
-
-// A proved loop must end, and an input need not. So the turns are counted down, from a number that no run reaches.
-fn read_all<R: Eprint + Alloc, F: Read>(rt: &R, file: &mut F, points: &mut [i64]) -> State
-    ensures { Reported result.so_far }
-{
-    let mut s = gathered::begin();
-    let mut turns = u64::MAX;
-    while turns > 0 && s.more == 1 {
-        s = read_some(rt, file, s, points);
-        turns -= 1;
-    }
-    s
+    Ok(())
 }
 
 // The report on what can be read there. Where a read failed, or a line is no pair, there is none.
 pub(crate) fn report_on<R: Print + Eprint + Alloc, F: Read>(rt: &R, file: &mut F) {
     let mut points = [0i64; 2050];
-    let s = read_all(rt, file, &mut points);
-    let s = gathered::finish(rt, s, &mut points);
-    if s.bad == 0 {
-        print::report(rt, s.so_far);
+    let mut state = State::begin();
+    let read = read_all(rt, file, &mut state, &mut points);
+    if let Err(e) = read {
+        print::fail(rt, "read", e);
+        state.bad = true;
+    }
+    state.finish(rt, &mut points);
+    if !state.bad {
+        print::report(rt, state.so_far);
     }
 }
