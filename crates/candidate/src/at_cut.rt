@@ -11,7 +11,7 @@ use crate::next::Next;
 use basis::number::Tolerance;
 use cut::arrival::Cuts;
 use outline::point::{Point, Vertex};
-use outline::{point, read};
+use outline::read;
 use view::create;
 use view::create::Walk;
 use view::data::ViewData;
@@ -35,7 +35,7 @@ pub fn same_next(cut_at: &[usize], count: usize, p: usize) -> bool
 pub fn piece(s: usize, a: Vertex, b: Vertex, t: Tolerance) -> Candidate
     ensures { result ≡ piece_of s a b t }
 {
-    let end = point::pos(b);
+    let end = Point::from(b);
     let Some(v) = create::create_on_single_segment(s, a, end, t) else {
         return Candidate::Nothing;
     };

@@ -1,7 +1,7 @@
 #![tactic(auto, unfolding(crate::specs::Points::dist_squared, crate::specs::Points::points_agree, crate::specs::Points::in_box))]
 // Document 01: "A vertex is a record of x, y and bulge, all f64", and "Equal points and boxes".
 ghost use Rattle.std.specs.Prelude.{◌≡◌};
-ghost use Rattle.outline.specs.Points.{pos_of, with_bulge, dist_squared, points_agree, in_box};
+ghost use Rattle.outline.specs.Points.{pos_of, at_point, with_bulge, dist_squared, points_agree, in_box};
 
 use basis::number;
 use basis::number::Tolerance;
@@ -22,29 +22,33 @@ pub struct Vertex {
 }
 
 // The vertex's position.
-pub fn pos(v: Vertex) -> Point
-    ensures { result ≡ pos_of v }
-{
-    Point { x: v.x, y: v.y }
+impl From<Vertex> for Point {
+    ghost from_gives = { λ v result. result ≡ pos_of v };
+
+    fn from(v: Vertex) -> Point {
+        Point { x: v.x, y: v.y }
+    }
 }
 
-// The same vertex with another bulge.
-pub fn with_bulge(v: Vertex, bulge: f64) -> Vertex
-    ensures { result ≡ with_bulge v bulge }
-{
-    let mut w = v;
-    w.bulge = bulge;
-    w
+impl Point {
+    // A vertex at the point.
+    pub fn vertex(self, bulge: f64) -> Vertex
+        ensures { result ≡ at_point self bulge }
+    {
+        Vertex {
+            x: self.x,
+            y: self.y,
+            bulge,
+        }
+    }
 }
 
-// A vertex at a point.
-pub fn vertex_of(p: Point, bulge: f64) -> Vertex
-    ensures { result ≡ record { x = p.x; y = p.y; bulge = bulge } }
-{
-    Vertex {
-        x: p.x,
-        y: p.y,
-        bulge,
+impl Vertex {
+    // The same vertex with another bulge.
+    pub fn with_bulge(self, bulge: f64) -> Vertex
+        ensures { result ≡ with_bulge self bulge }
+    {
+        Vertex { bulge, ..self }
     }
 }
 

@@ -7,7 +7,8 @@ ghost use Rattle.stitch_answer.specs.Answer.{Answered};
 ghost use Rattle.stitch_round.specs.Ready.{step_of, comes_to, RoundFit, Rounded};
 
 use crate::scan;
-use outline::{point, read};
+use outline::point::Point;
+use outline::read;
 use stitch_answer::answer;
 use stitch_answer::answer::{Answer, Round};
 use stitch_tally::tally::{CLOSED, NO_CANDIDATE, NO_SELECTION, TOO_SMALL};
@@ -51,7 +52,7 @@ fn look(round: &Round, link: &mut [usize], room: &[f64], n: usize) -> Answer
     ensures { Answered round.now.points.now round.now.visited.now link.new round.now.layout round.now.first round.now.current (pos_of (vertex_at room.now (n - 1))) round.now.plan result }
 {
     let last = read::vertex_at(room, n - 1);
-    let end = point::pos(last);
+    let end = Point::from(last);
     if round.layout.lists == 0 {
         scan::answer_of(round, end)
     } else {

@@ -4,7 +4,7 @@ ghost use Rattle.stitch_run.specs.Stitch.{given_of, start_point_of};
 ghost use Rattle.stitch_slices.specs.Ready.{SliceFit, SliceMore, SliceAdded, PointsFit, Points};
 
 use outline::point::Point;
-use outline::{point, write};
+use outline::write;
 use slice::read;
 use stitch_run::plan::Slices;
 use stitch_vertices::grow;
@@ -17,9 +17,9 @@ fn start_point(s: &Slices, i: usize) -> Point
 {
     let v = read::view_at(s.slice_at, s.slice, i);
     if read::codes_at(s.slice_at, i).source == 1 {
-        return point::pos(vertex::vertex_of(s.outline1, s.plan.vc1, v, 0));
+        return Point::from(vertex::vertex_of(s.outline1, s.plan.vc1, v, 0));
     }
-    point::pos(vertex::vertex_of(s.outline2, s.plan.vc2, v, 0))
+    Point::from(vertex::vertex_of(s.outline2, s.plan.vc2, v, 0))
 }
 
 // Adds the vertices of slice number i to a chain of n vertices. Says how many it has now.

@@ -3,7 +3,7 @@ ghost use Rattle.std.specs.Prelude.{◌≡◌};
 ghost use Rattle.stitch_vertices.specs.Held.{chain_of, repeats, Held, OneMore, Added, ViewMore, Extended};
 
 use basis::number::Tolerance;
-use outline::point::Vertex;
+use outline::point::{Point, Vertex};
 use outline::{point, read, write};
 use view::data::ViewData;
 use view::vertex;
@@ -17,7 +17,7 @@ fn is_repeat(room: &[f64], n: usize, v: Vertex, t: Tolerance) -> bool
         return false;
     }
     let last = read::vertex_at(room, n - 1);
-    point::points_agree(point::pos(last), point::pos(v), t)
+    point::points_agree(Point::from(last), Point::from(v), t)
 }
 
 // Adds the vertex, or gives its bulge to the chain's last where the two agree in position. Says how many vertices the chain has now.

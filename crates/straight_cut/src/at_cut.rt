@@ -9,7 +9,7 @@ use candidate::next::Next;
 use candidate::{at_cut, next};
 use cut::arrival::Case;
 use outline::point::Vertex;
-use outline::{point, read};
+use outline::read;
 use view::create::Walk;
 
 // The cut at place p, with bulge +0: the split vertex there, and the start part of a later split on its segment.
@@ -17,7 +17,7 @@ fn cut_vertex(cut: &[f64], p: usize) -> Vertex
     requires { CutThere cut.now p }
     ensures { result ≡ cut_vertex cut.now p }
 {
-    point::vertex_of(read::point_at(cut, 2 * p), 0.0)
+    read::point_at(cut, 2 * p).vertex(0.0)
 }
 
 // The walk from the cut at place p, on that segment, to the cut where it ends, whose start part has bulge +0.

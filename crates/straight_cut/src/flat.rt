@@ -4,7 +4,7 @@ ghost use Rattle.straight_cut.specs.Straight.{straight_vertex, straight_shape, s
 
 use crate::microdegrees;
 use outline::point::Vertex;
-use outline::{point, read};
+use outline::read;
 use slice::data::{SHAPE_WIDTH, Shape};
 
 // Both coordinates are whole and the bulge is zero, of which -0 is one.
@@ -18,7 +18,7 @@ fn straight_vertex(v: Vertex) -> bool
 fn straight_shape(s: Shape) -> bool
     ensures { result ≡ straight_shape s }
 {
-    let end = point::vertex_of(s.end_point, s.end_bulge);
+    let end = s.end_point.vertex(s.end_bulge);
     straight_vertex(s.updated_start) & straight_vertex(end)
 }
 

@@ -8,7 +8,7 @@ ghost use Rattle.verdict.specs.Validate.{Asked, near_segment, on_segment, bulge_
 use basis::number;
 use basis::number::Tolerance;
 use outline::point::{Point, Vertex};
-use outline::{point, read};
+use outline::read;
 use view::create;
 use view::data::ViewData;
 
@@ -126,7 +126,7 @@ fn start_verdict(
     requires { Fit outline.now vc v }
     ensures { result ≡ start_verdict outline.now vc v start_on end_on }
 {
-    let start = point::pos(v.updated_start);
+    let start = Point::from(v.updated_start);
     if !on_segment(outline, vc, v.start_index, start, start_on) {
         return ViewDataValidation::UpdatedStartNotOnSegment { start_point: start };
     }

@@ -26,7 +26,7 @@ pub fn near_vertex(outline: &[f64], vc: usize, i: usize, p: Point, t: Tolerance)
     ensures { result ≡ near_vertex outline.now vc i p t }
 {
     let v = read::outline_at(outline, vc, i);
-    point::points_agree(p, point::pos(v), t)
+    point::points_agree(p, Point::from(v), t)
 }
 
 // The end bulge where the end agrees with a vertex.
@@ -72,7 +72,7 @@ pub fn create_on_single_segment(
 ) -> Option<ViewData>
     ensures { result ≡ single_view start_index updated_start end_intersect t }
 {
-    if point::points_agree(point::pos(updated_start), end_intersect, t) {
+    if point::points_agree(Point::from(updated_start), end_intersect, t) {
         return None;
     }
     Some(ViewData {
@@ -101,7 +101,7 @@ pub fn from_entire_pline(outline: &[f64], vc: usize, closed: bool) -> ViewData
     let offset = entire_offset(vc, closed);
     let first = read::outline_at(outline, vc, 0);
     let last = read::outline_at(outline, vc, offset);
-    let end = point::pos(read::outline_at(outline, vc, offset + 1));
+    let end = Point::from(read::outline_at(outline, vc, offset + 1));
     ViewData {
         start_index: 0,
         end_index_offset: offset,

@@ -7,14 +7,14 @@ ghost use Rattle.view.specs.View.{Fit, forward_at, turned_at, inverted_at, verte
 
 use crate::data::ViewData;
 use outline::point::Vertex;
-use outline::{point, read};
+use outline::read;
 
 // The outline's vertex at an index that wraps, with another bulge.
 fn bulged(outline: &[f64], vc: usize, i: usize, bulge: f64) -> Vertex
     requires { Near outline.now vc i }
     ensures { result ≡ with_bulge (outline_at outline.now vc i) bulge }
 {
-    point::with_bulge(read::outline_at(outline, vc, i), bulge)
+    read::outline_at(outline, vc, i).with_bulge(bulge)
 }
 
 fn forward(outline: &[f64], vc: usize, v: ViewData, k: usize) -> Vertex
@@ -32,7 +32,7 @@ fn forward(outline: &[f64], vc: usize, v: ViewData, k: usize) -> Vertex
     if k == offset {
         return bulged(outline, vc, start + offset, v.updated_end_bulge);
     }
-    point::vertex_of(v.end_point, 0.0)
+    v.end_point.vertex(0.0)
 }
 
 // The vertex after place i with the negated bulge of the one at i.
@@ -50,7 +50,7 @@ fn inverted(outline: &[f64], vc: usize, v: ViewData, k: usize) -> Vertex
     let start = v.start_index;
     let offset = v.end_index_offset;
     if k == 0 {
-        return point::vertex_of(v.end_point, -v.updated_end_bulge);
+        return v.end_point.vertex(-v.updated_end_bulge);
     }
     if k < offset {
         return turned(outline, vc, start + (offset - k));
@@ -59,7 +59,7 @@ fn inverted(outline: &[f64], vc: usize, v: ViewData, k: usize) -> Vertex
     if k == offset {
         return bulged(outline, vc, start + 1, -first.bulge);
     }
-    point::with_bulge(first, 0.0)
+    first.with_bulge(0.0)
 }
 
 // The vertex at an index up to offset + 1.

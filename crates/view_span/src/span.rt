@@ -75,7 +75,7 @@ fn start_nearer(outline: &[f64], vc: usize, i: usize, e: Ends) -> bool
     requires { StartFit outline.now vc e i }
     ensures { result ≡ start_nearer outline.now vc i e }
 {
-    let v = point::pos(read::outline_at(outline, vc, i));
+    let v = Point::from(read::outline_at(outline, vc, i));
     point::dist_squared(v, e.start_point) < point::dist_squared(v, e.end_point)
 }
 

@@ -8,7 +8,7 @@ use crate::slice_points;
 use crate::slice_points::Splits;
 use basis::number::Tolerance;
 use outline::point::Point;
-use outline::{point, read};
+use outline::read;
 use view::create;
 use view::create::Walk;
 use view::data::ViewData;
@@ -33,7 +33,7 @@ fn last_ends(outline: &[f64], vc: usize, i: usize, p: Point) -> Ends
     requires { Whole outline.now vc }
     ensures { result ≡ last_ends outline.now vc i p }
 {
-    let last = point::pos(read::outline_at(outline, vc, vc - 1));
+    let last = Point::from(read::outline_at(outline, vc, vc - 1));
     Ends {
         closed: false,
         start_index: i,

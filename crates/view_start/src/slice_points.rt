@@ -7,7 +7,7 @@ ghost use Rattle.view_span.specs.Span.{EndsFit, SpanFit};
 ghost use Rattle.view_start.specs.SlicePoints.{running_vertex, walk_over, collapses, walked_view, sliced_view, slice_view};
 
 use basis::number::Tolerance;
-use outline::point::Vertex;
+use outline::point::{Point, Vertex};
 use outline::{point, read};
 use view::create;
 use view::create::Walk;
@@ -45,7 +45,7 @@ fn is_collapsed(outline: &[f64], vc: usize, w: Walk, t: Tolerance) -> bool
     if !create::near_vertex(outline, vc, w.intersect_index, w.end_intersect, t) {
         return false;
     }
-    point::points_agree(point::pos(w.updated_start), w.end_intersect, t)
+    point::points_agree(Point::from(w.updated_start), w.end_intersect, t)
 }
 
 // The view of a walk, or none where it collapses.
