@@ -1,12 +1,14 @@
+#![tactic(auto, using(basis::specs::Choice::cases), unfolding(fields::specs::Fields::size, crate::specs::Form::form_for))]
 // The versions of the record, as tables of widths.
 ghost use Rattle.std.specs.Prelude.{◌≡◌};
 ghost use Rattle.fields.specs.Fields.{size};
-ghost use Rattle.record_form.specs.Form.{form1, form2, form_for, head_shape, slice_shape};
+ghost use Rattle.record_form.specs.Form.{form_for, head_shape, slice_shape};
 ghost use Rattle.record_form.specs.Ready.{FormOk};
 
 use slice::data::{CODE_WIDTH, SHAPE_WIDTH};
 
-// A version: its number, the bytes of the second tolerance and of an edition (0 where it has none), and the bytes that a record has at most.
+// A version is a table, and no enum of two: what is proved of writing and reading holds of any widths (`FormOk`).
+// Its number, the bytes of the second tolerance and of an edition (0 where it has none), and the bytes that a record has at most.
 #[derive(Clone, Copy)]
 pub struct Version {
     pub number: usize,
@@ -20,34 +22,26 @@ pub const RECORD1_MOST: usize = 4610;
 pub const RECORD2_MOST: usize = 4738;
 
 // One tolerance for both axes, and no editions.
-fn version1() -> Version
-    ensures { result ≡ form1 }
-{
-    Version {
-        number: 1,
-        second: 0,
-        edition: 0,
-        most: RECORD1_MOST,
-    }
-}
+const VERSION1: Version = Version {
+    number: 1,
+    second: 0,
+    edition: 0,
+    most: RECORD1_MOST,
+};
 
 // A tolerance for each axis, and 32-bit editions.
-fn version2() -> Version
-    ensures { result ≡ form2 }
-{
-    Version {
-        number: 2,
-        second: 8,
-        edition: 4,
-        most: RECORD2_MOST,
-    }
-}
+const VERSION2: Version = Version {
+    number: 2,
+    second: 8,
+    edition: 4,
+    most: RECORD2_MOST,
+};
 
 // The table of a version's number; of one that is unknown, version 1's.
 pub fn version_for(number: usize) -> Version
     ensures { result ≡ form_for number }
 {
-    if number == 2 { version2() } else { version1() }
+    if number == 2 { VERSION2 } else { VERSION1 }
 }
 
 // The mark's three bytes, the version, two vertex counts, the selector, two tolerances, two editions, three starts, the slice count.
@@ -70,8 +64,7 @@ pub fn head_bytes(v: Version) -> usize
 pub fn slice_widths(v: Version) -> [usize; 11]
     ensures { result ≡ slice_shape v }
 {
-    let edition = v.edition;
-    [1, 1, 2, 2, 8, 8, 8, 8, 8, 8, edition]
+    [1, 1, 2, 2, 8, 8, 8, 8, 8, 8, v.edition]
 }
 
 pub fn slice_bytes(v: Version) -> usize
