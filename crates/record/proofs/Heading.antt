@@ -1,39 +1,27 @@
 -- What the functions of a head are proved by.
 use Prim.Native.Nat.{ℕ, ◌+◌, ◌*◌, ◌^◌, ◌≤◌, ◌<◌}
-use mathlib.Core.Bool.{not}
-use mathlib.Core.Path.{◌≡◌, sym, ap, ◌∙◌}
-use mathlib.Core.List.{List, [], ◌∷◌, ◌++◌, append-nil}
+use mathlib.Core.Path.{◌≡◌, ap, ◌∙◌}
+use mathlib.Core.List.{List, append-nil}
 use native.Mathlib.Omega.{arith}
 use native.Mathlib.Nat.{mul-le-mul, pow-le-pow_right}
-use borrow.Author.Tests.{ne_eqb}
-use lib.Dec.{ltb, eqb}
-use lib.Ieee.{Float}
-use lib.ListN.{length, get_or, drop, get_or-eq_default}
+use lib.ListN.{length, get_or, drop}
 use lib.Seq.{drop-length, get_or-drop, sets}
 use Rattle.basis.specs.declared.number.Tolerance.{Tolerance}
 use Rattle.basis.specs.Number.{tolerance_of}
-use Rattle.basis.specs.Refuse.{row, first_from, or_else}
-use Rattle.basis.specs.RefuseLaws.{then-rows}
 use Rattle.basis.specs.StoreLaws.{sets-front}
 use Rattle.fields.specs.Fields.{size, value_of, unpack, num_of}
 use Rattle.fields.specs.FieldLaws.{length-unpack, fitted-at}
 use Rattle.fields.specs.Ready.{Fitted, ShapeAt, ShapeRead}
-use Rattle.slice.specs.Faults as slices
-use Rattle.slice.specs.Editions.{edition_room_rows}
 use Rattle.stitch_run.specs.declared.plan.Plan.{Plan}
 use Rattle.stitch_run.specs.Stitch.{plan_of}
 use Rattle.record_form.specs.declared.form.Version.{Version}
-use Rattle.record.specs.declared.head.Lengths.{Lengths}
-use Rattle.record_form.specs.Form.{form_for, head_shape, slice_shape}
-use Rattle.record.specs.Record.{head_of, second_in, head_at, head_in, number_in, form_in, taken_rows, count_rows, room_rows, length_of}
-use Rattle.record.specs.Ready.{ByteOr, PlanFit, HeadFit, HeadRead, Sized}
+use Rattle.record_form.specs.Form.{head_shape, slice_shape}
+use Rattle.record.specs.Record.{head_of, second_in, head_at, head_in, number_in, length_of}
+use Rattle.record.specs.Ready.{ByteOr, HeadFit, HeadRead, Sized}
 use Rattle.record_form.specs.Ready.{FormOk}
 use Rattle.record.specs.RecordLaws.{head-narrow, head-size, slice-size}
 
 -- ---- the version
-pub byte_past : (b : List ℕ) (at : ℕ) → length b ≤ at → ByteOr b at 0
-byte_past b at h = record { value = sym (get_or-eq_default b 0 h); below = omega arith }
-
 pub number_of : (b : List ℕ) (x y : ℕ) → ByteOr b 3 x → ByteOr b 4 y → x + 256 * y ≡ number_in b
 unfolding value_of
 number_of b x y p q =
@@ -41,25 +29,7 @@ number_of b x y p q =
     let high : get_or (drop 1 (drop 3 b)) 0 0 ≡ get_or b 4 0 = get_or-drop 1 (drop 3 b) 0 0 ∙ get_or-drop 3 b 1 0 in
     omega (arith, low, high, p.value, q.value)
 
-pub form-named : (b : List ℕ) (n : ℕ) (r : Version) → n ≡ number_in b → r ≡ form_for n → r ≡ form_in b
-form-named b n r e f = f ∙ ap form_for e
-
-pub eqb-left : {a a' : ℕ} (n : ℕ) → a ≡ a' → not (eqb a n) ≡ not (eqb a' n)
-eqb-left n e = ap (λ (k : ℕ). not (eqb k n)) e
-
-pub ltb-right : {a a' : ℕ} (n : ℕ) → a ≡ a' → ltb n a ≡ ltb n a'
-ltb-right n e = ap (ltb n) e
-
--- ---- the tolerances
-module _ (width x y : ℕ) (first : Float) (e : first ≡ num_of x) where
-  pub one-for-both : width ≡ 0 → tolerance_of first first ≡ tolerance_of (num_of x) (num_of (second_in width x y))
-  unfolding second_in
-  one-for-both z = rw (z, e)
-
-  pub one-for-each : (second : Float) → second ≡ num_of y → (width ≡ 0 → ⊥) → tolerance_of first second ≡ tolerance_of (num_of x) (num_of (second_in width x y))
-  unfolding second_in
-  one-for-each second f h = rw (ne_eqb width 0 h, e, f)
-
+-- ---- the plan
 pub plan-said : (v : Version) (f : List ℕ) (t : Tolerance) → t ≡ tolerance_of (num_of (get_or f 7 0)) (num_of (second_in v.second (get_or f 7 0) (get_or f 8 0)))
     → plan_of (get_or f 4 0) (get_or f 5 0) (get_or f 14 0)
     (record { pline2 = get_or f 11 0; pline1_overlapping = get_or f 12 0; pline2_overlapping = get_or f 13 0 })
@@ -102,8 +72,8 @@ module _ {v : Version} {b : List ℕ} (h : HeadFit v b) {ws z f : List ℕ} (w :
   all-fitted : Fitted (head_shape v) f
   all-fitted = rw values-all (rw w at a.fitted)
 
-  pub plan-fits : PlanFit f
-  plan-fits = record { many = ap length values-all ∙ values-long; choice = fitted-at 6 all-fitted (omega arith) }
+  pub selector-fits : get_or f 6 0 < 256
+  selector-fits = fitted-at 6 all-fitted (omega arith)
 
   edition-small : (x : ℕ) → x < 256 ^ v.edition → x < 2 ^ 32
   edition-small x k =
@@ -126,17 +96,3 @@ module _ {v : Version} {b : List ℕ} (h : HeadFit v b) {ws z f : List ℕ} (w :
         head = ap (λ (q : Plan). head_of q (get_or f 9 0) (get_or f 10 0)) e ∙ ap (head_at v) values-all;
         counts = rw e (record { first = n1; second = n2; third = n3 });
       }
-
--- ---- the refusal by the counts
-pub counted : (n m : ℕ) (p : Plan) (told found r : ℕ) → told ≡ m → found ≡ or_else 0 (not (eqb n told)) 13 → r ≡ first_from found (taken_rows p) → r ≡ first_from 0 (count_rows n m p)
-counted n m p told found r e f g =
-    then-rows r found 0 (row (not (eqb n m)) 13 ∷ []) (taken_rows p) g (unfold first_from in (f ∙ ap (λ (k : ℕ). or_else 0 (not (eqb n k)) 13) e))
-
--- ---- the refusal by the room: the outlines' rows, then the slices', then the editions'
-pub then-slices : (n q found : ℕ) (p : Plan) (l : Lengths) → n ≡ first_from q (slices.room_rows p.slices l.slice_at l.slice)
-    → q ≡ or_else (or_else found (ltb l.outline1 (3 * p.vc1)) 9) (ltb l.outline2 (3 * p.vc2)) 9 → (r : ℕ) → r ≡ first_from n (edition_room_rows p.slices l.slice_edition)
-    → r ≡ first_from found (room_rows p l)
-then-slices n q found p l e f r g =
-    let outlines = row (ltb l.outline1 (3 * p.vc1)) 9 ∷ row (ltb l.outline2 (3 * p.vc2)) 9 ∷ [] in
-    then-rows r q found outlines (slices.room_rows p.slices l.slice_at l.slice ++ edition_room_rows p.slices l.slice_edition)
-    (then-rows r n q (slices.room_rows p.slices l.slice_at l.slice) (edition_room_rows p.slices l.slice_edition) g e) (unfold first_from in f)

@@ -1,3 +1,4 @@
+pub mod Numbers
 pub mod Record
 pub mod Ready
 pub mod RecordLaws

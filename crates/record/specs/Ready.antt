@@ -13,11 +13,6 @@ pub record ByteOr (b : List ℕ) (at r : ℕ) : Type 0 where
   pub value : r ≡ get_or b at 0
   pub below : r < 256
 
--- values of a head's fields of which the selector is a byte
-pub record PlanFit (f : List ℕ) : Type 0 where
-  pub many : length f ≡ 15
-  pub choice : get_or f 6 0 < 256
-
 -- a whole head is there
 pub record HeadFit (v : Version) (b : List ℕ) : Type 0 where
   pub form : FormOk v

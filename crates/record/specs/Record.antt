@@ -1,7 +1,9 @@
 -- Document 02, K1 and K14: the stitch that a record's bytes hold, what is refused, and the record of a stitch.
-use Rattle.std.specs.Prelude.{ℕ, ◌+◌, ◌*◌, Bool, not, ◌&&◌, cond, List, [], ◌∷◌, ◌++◌, map, ◌≡◌, ltb, leb, eqb, length, get_or, take, drop, Float}
-use Rattle.basis.specs.Number.{+0, alike, tolerance_of}
+use Rattle.std.specs.Prelude.{ℕ, Result, Ok, ◌+◌, ◌*◌, Bool, not, ◌&&◌, cond, List, [], ◌∷◌, ◌++◌, map, ◌≡◌, ltb, leb, eqb, length, get_or, take, drop, Float}
+use Rattle.basis.specs.Number.{+0, tolerance_of}
+use Rattle.basis.specs.declared.refuse.Refusal.{Refusal}
 use Rattle.basis.specs.Refuse.{Row, row, first_of, answer}
+use Rattle.basis.specs.Refusals.{found}
 use Rattle.basis.specs.Room.{room_of}
 use Rattle.fields.specs.Fields.{size, value_of, pack, unpack, num_of, bits_of}
 use Rattle.slice.specs.Slice.{code_width, shape_width}
@@ -12,7 +14,7 @@ use Rattle.stitch_run.specs.Stitch.{Given, given, plan_of}
 use Rattle.record_form.specs.declared.form.Version.{Version}
 use Rattle.record.specs.declared.head.Head.{Head}
 use Rattle.record.specs.declared.head.Seen.{Seen}
-use Rattle.record.specs.declared.head.Lengths.{Lengths}
+use Rattle.record.specs.declared.head.Room.{Room}
 use Rattle.record_form.specs.Form.{form_for, head_shape, slice_shape, taken_vertices, taken_slices, common_width, entry_width, body_of, column, mix}
 
 -- the lists of a stitch: both outlines, and of its slices the codes, the shapes and the editions
@@ -25,6 +27,18 @@ pub record Lists : Type 0 where
 
 abbrev pub lists : List Float → List Float → List ℕ → List Float → List ℕ → Lists
 lists o1 o2 at s dates = record { outline1 = o1; outline2 = o2; slice_at = at; slice = s; slice_edition = dates }
+
+-- those that a record is read to, as the code has them
+abbrev pub lent : Room → Lists
+lent r = lists r.outline1.now r.outline2.now r.slice_at.now r.slice.now r.slice_edition.now
+
+-- how long they are
+pub record Lengths : Type 0 where
+  pub outline1 : ℕ
+  pub outline2 : ℕ
+  pub slice_at : ℕ
+  pub slice : ℕ
+  pub slice_edition : ℕ
 
 -- what a head says: a plan, and the outlines' editions
 abbrev pub head_of : Plan → ℕ → ℕ → Head
@@ -146,14 +160,8 @@ abbrev pub read_refusal : Version → List ℕ → Lengths → ℕ
 read_refusal v b l = first_of (read_rows v b l)
 
 -- ---- the reader's answer, and what it leaves in the lent lists
-abbrev pub no_head : Head
-no_head = head_of (plan_of 0 0 0 (record { pline2 = 0; pline1_overlapping = 0; pline2_overlapping = 0 }) 0 (alike +0)) 0 0
-
-abbrev pub seen_refused : ℕ → Seen
-seen_refused n = record { refusal = n; version = 0; head = no_head }
-
-abbrev pub seen_given : ℕ → Head → Seen
-seen_given number h = record { refusal = 0; version = number; head = h }
+abbrev pub seen_given : ℕ → Head → Result Seen Refusal
+seen_given number h = Ok (record { version = number; head = h })
 
 abbrev pub lengths : ℕ → ℕ → ℕ → ℕ → ℕ → Lengths
 lengths o1 o2 at s dates = record { outline1 = o1; outline2 = o2; slice_at = at; slice = s; slice_edition = dates }
@@ -166,8 +174,9 @@ abbrev pub lengths_of : Lists → Lengths
 lengths_of l = lengths (length l.outline1) (length l.outline2) (length l.slice_at) (length l.slice) (length l.slice_edition)
 
 -- what a reader of one version answers, and leaves in the lists: the outlines, codes, shapes and editions of the stitch at their fronts, and beyond them what was there
-pub record ReadLeft (v : Version) (b : List ℕ) (l : Lists) (r : Seen) (left : Lists) : Type 0 where
-  pub answers : r ≡ answer seen_refused (read_refusal v b (lengths_of l)) (seen_given v.number (head_in v b))
+pub record ReadLeft (v : Version) (b : List ℕ) (l : Lists) (r : Result Seen Refusal) (left : Lists) : Type 0 where
+  pub answers : found r ≡ read_refusal v b (lengths_of l)
+  pub given : read_refusal v b (lengths_of l) ≡ 0 → r ≡ seen_given v.number (head_in v b)
   pub first : left.outline1 ≡ answer (λ _. l.outline1) (read_refusal v b (lengths_of l)) (room_of +0 3 (plan_held v b).vc1 (lists_held v b).outline1 l.outline1)
   pub second : left.outline2 ≡ answer (λ _. l.outline2) (read_refusal v b (lengths_of l)) (room_of +0 3 (plan_held v b).vc2 (lists_held v b).outline2 l.outline2)
   pub codes : left.slice_at ≡ answer (λ _. l.slice_at) (read_refusal v b (lengths_of l)) (room_of 0 code_width (plan_held v b).slices (lists_held v b).slice_at l.slice_at)
@@ -175,11 +184,11 @@ pub record ReadLeft (v : Version) (b : List ℕ) (l : Lists) (r : Seen) (left : 
   pub dates : left.slice_edition ≡ answer (λ _. l.slice_edition) (read_refusal v b (lengths_of l)) (room_of 0 1 (plan_held v b).slices (lists_held v b).slice_edition l.slice_edition)
 
 -- the reader: of the version that the record names
-abbrev pub Read : List ℕ → Lists → Seen → Lists → Type 0
+abbrev pub Read : List ℕ → Lists → Result Seen Refusal → Lists → Type 0
 Read b l r left = ReadLeft (form_in b) b l r left
 
 -- K14, "the old reader": it knows version 1 alone
-abbrev pub OldRead : List ℕ → Lists → Seen → Lists → Type 0
+abbrev pub OldRead : List ℕ → Lists → Result Seen Refusal → Lists → Type 0
 OldRead b l r left = ReadLeft (form_for 1) b l r left
 
 -- ---- the record of a stitch

@@ -1,5 +1,5 @@
 -- How long the parts of a record are, and that a reader's list is what its stitch has.
-use Rattle.std.specs.Prelude.{ℕ, zero, suc, ◌+◌, ◌*◌, ◌-◌, ◌≤◌, ◌<◌, Bool, true, false, cond, ◌≡◌, refl, List, [], ◌++◌, eqb, length, get_or, take, drop}
+use Rattle.std.specs.Prelude.{ℕ, zero, suc, ◌+◌, ◌*◌, ◌-◌, ◌≤◌, ◌<◌, Bool, true, false, cond, ◌≡◌, refl, List, ◌++◌, eqb, length, get_or, take, drop}
 use Rattle.std.proofs.Common.{sym, ap, ◌∙◌, arith, suc-mul, ltb-false, length-append, get_or-append-add}
 use Rattle.std.proofs.Math.ListN.{length-map, length-drop}
 use Rattle.std.proofs.Math.Seq.{length-take-le}

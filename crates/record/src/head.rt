@@ -1,11 +1,12 @@
+#![tactic(auto, using(basis::specs::Choice::cases), unfolding(basis::specs::Refuse::first_of, basis::specs::Refuse::first_from, basis::specs::Refuse::or_else, crate::specs::Record::mark_ok, crate::specs::Record::second_in))]
 // The head of a record: its frame, its numbers, and what is refused by them.
 ghost use Rattle.std.specs.Prelude.{◌≡◌};
 ghost use Rattle.basis.specs.Refuse.{first_of, first_from};
 ghost use Rattle.basis.specs.Refusals.{found};
 ghost use Rattle.basis.specs.Number.{tolerance_of};
 ghost use Rattle.fields.specs.Fields.{num_of};
-ghost use Rattle.record.specs.Record.{mark_ok, number_in, form_in, frame_rows, second_in, head_at, length_of, taken_rows, count_rows, room_rows};
-ghost use Rattle.record.specs.Ready.{ByteOr, PlanFit, HeadFit, HeadRead, Sized, Counts};
+ghost use Rattle.record.specs.Record.{mark_ok, number_in, form_in, frame_rows, second_in, length_of, taken_rows, count_rows, room_rows, lent, lengths_of};
+ghost use Rattle.record.specs.Ready.{ByteOr, HeadFit, HeadRead, Sized, Counts};
 ghost use Rattle.record_form.specs.Ready.{FormOk};
 
 use basis::number::Tolerance;
@@ -25,32 +26,28 @@ pub struct Head {
     pub edition2: u32,
 }
 
-// What a reader answers: number 0, the version and the head, or its number and nothing.
+// What a reader says of a record: its version and its head.
 #[derive(Clone, Copy)]
 pub struct Seen {
-    pub refusal: u32,
     pub version: usize,
     pub head: Head,
 }
 
-// How long the lists are that a record is read to.
-#[derive(Clone, Copy)]
-pub struct Lengths {
-    pub outline1: usize,
-    pub outline2: usize,
-    pub slice_at: usize,
-    pub slice: usize,
-    pub slice_edition: usize,
+// The lent lists that a record is read to: x, y, bulge of each vertex; codes, shape and edition of each slice.
+#[derive(Drop)]
+pub struct Room<'a> {
+    pub outline1: &'a mut [f64],
+    pub outline2: &'a mut [f64],
+    pub slice_at: &'a mut [usize],
+    pub slice: &'a mut [f64],
+    pub slice_edition: &'a mut [u32],
 }
 
 // At least five bytes, the first three of them `PBR`.
 fn is_marked(bytes: &[u8]) -> bool
     ensures { result ≡ mark_ok bytes.now }
 {
-    if bytes.len() < 5 {
-        return false;
-    }
-    bytes[0] == 80 && (bytes[1] == 66 && bytes[2] == 82)
+    5 <= bytes.len() && (bytes[0] == b'P' && (bytes[1] == b'B' && bytes[2] == b'R'))
 }
 
 // The byte at a place, 0 beyond the end.
@@ -58,9 +55,10 @@ fn byte(bytes: &[u8], at: usize) -> usize
     ensures { ByteOr bytes.now at result }
 {
     if at < bytes.len() {
-        return field::wide(bytes[at]);
+        field::wide(bytes[at])
+    } else {
+        0
     }
-    0
 }
 
 // The number in the field of the version.
@@ -78,53 +76,29 @@ pub fn version_in(bytes: &[u8]) -> Version
 }
 
 // Numbers 11, 12 and, before the counts are known, 13.
-pub fn frame_refusal(bytes: &[u8], v: Version) -> u32
+pub fn frame_refusal(bytes: &[u8], v: Version) -> Result<(), Refusal>
     requires { FormOk v }
-    ensures { result ≡ first_of (frame_rows v bytes.now) }
+    ensures { found result ≡ first_of (frame_rows v bytes.now) }
 {
-    let marked = is_marked(bytes);
-    let found = number_in(bytes);
-    let least = form::head_bytes(v);
-    let r = refuse::or_else(0, !marked, 11);
-    let r = refuse::or_else(r, found != v.number, 12);
-    let r = refuse::or_else(r, bytes.len() < least, 13);
-    refuse::or_else(r, v.most < bytes.len(), 13)
+    refuse::when(!is_marked(bytes), Refusal::Mark)?;
+    refuse::when(number_in(bytes) != v.number, Refusal::Version)?;
+    refuse::when(bytes.len() < form::head_bytes(v), Refusal::Size)?;
+    refuse::when(v.most < bytes.len(), Refusal::Size)
 }
 
-// The tolerances: that of x, and that of y, which is the same where the version has no field for it.
+// The pattern of y's tolerance: that of x where the version has no field for it.
+fn second_in(width: usize, x: usize, y: usize) -> usize
+    ensures { result ≡ second_in width x y }
+{
+    if width == 0 { x } else { y }
+}
+
 fn tolerance_in(width: usize, x: usize, y: usize) -> Tolerance
     ensures { result ≡ tolerance_of (num_of x) (num_of (second_in width x y)) }
 {
-    let first = copy::number(x);
-    if width == 0 {
-        return Tolerance { x: first, y: first };
-    }
-    let second = copy::number(y);
     Tolerance {
-        x: first,
-        y: second,
-    }
-}
-
-// The plan that the values of a head's fields say.
-fn plan_at(v: Version, f: [usize; 15]) -> Plan
-    requires { PlanFit f }
-    ensures { result ≡ (head_at v f).plan }
-{
-    let starts = Starts {
-        pline2: f[11],
-        pline1_overlapping: f[12],
-        pline2_overlapping: f[13],
-    };
-    let selector = f[6] as u32;
-    let tolerance = tolerance_in(v.second, f[7], f[8]);
-    Plan {
-        vc1: f[4],
-        vc2: f[5],
-        slices: f[14],
-        starts,
-        selector,
-        tolerance,
+        x: copy::number(x),
+        y: copy::number(second_in(width, x, y)),
     }
 }
 
@@ -133,14 +107,42 @@ pub fn head_in(bytes: &[u8], v: Version) -> Head
     requires { HeadFit v bytes.now }
     ensures { HeadRead v bytes.now result }
 {
-    let widths = form::head_widths(v);
-    let mut f = [0usize; 15];
-    shape::read_shape(bytes, 0, &widths, &mut f, 0);
-    let plan = plan_at(v, f);
+    let mut values = [0usize; 15];
+    shape::read_shape(bytes, 0, &form::head_widths(v), &mut values, 0);
+    let [
+        _,
+        _,
+        _,
+        _,
+        vc1,
+        vc2,
+        selector,
+        x,
+        y,
+        edition1,
+        edition2,
+        pline2,
+        pline1_overlapping,
+        pline2_overlapping,
+        slices,
+    ] = values;
+    let starts = Starts {
+        pline2,
+        pline1_overlapping,
+        pline2_overlapping,
+    };
+    let plan = Plan {
+        vc1,
+        vc2,
+        slices,
+        starts,
+        selector: selector as u32,
+        tolerance: tolerance_in(v.second, x, y),
+    };
     Head {
         plan,
-        edition1: f[9] as u32,
-        edition2: f[10] as u32,
+        edition1: edition1 as u32,
+        edition2: edition2 as u32,
     }
 }
 
@@ -155,46 +157,30 @@ pub fn length_of(p: Plan, v: Version) -> usize
 }
 
 // Numbers 1 and 2 by what the program takes.
-pub fn taken_refusal(found: u32, p: Plan) -> u32
-    ensures { result ≡ first_from found (taken_rows p) }
+pub fn taken_refusal(p: Plan) -> Result<(), Refusal>
+    ensures { found result ≡ first_from 0 (taken_rows p) }
 {
-    let r = refuse::or_else(found, form::TAKEN_SLICES < p.slices, 1);
-    let r = refuse::or_else(r, form::TAKEN_VERTICES < p.vc1, 2);
-    refuse::or_else(r, form::TAKEN_VERTICES < p.vc2, 2)
+    refuse::when(form::TAKEN_SLICES < p.slices, Refusal::Length)?;
+    refuse::when(form::TAKEN_VERTICES < p.vc1, Refusal::Outline)?;
+    refuse::when(form::TAKEN_VERTICES < p.vc2, Refusal::Outline)
 }
 
 // Number 13 by the counts, then 1 and 2.
-pub fn count_refusal(bytes: usize, p: Plan, v: Version) -> u32
+pub fn count_refusal(bytes: usize, p: Plan, v: Version) -> Result<(), Refusal>
     requires { Sized v p }
-    ensures { result ≡ first_from 0 (count_rows bytes (length_of v p) p) }
+    ensures { found result ≡ first_from 0 (count_rows bytes (length_of v p) p) }
 {
-    let told = length_of(p, v);
-    let r = refuse::or_else(0, bytes != told, 13);
-    taken_refusal(r, p)
+    refuse::when(bytes != length_of(p, v), Refusal::Size)?;
+    taken_refusal(p)
 }
 
 // Number 9: a lent list is too short for what is read.
-#[tactic(auto, unfolding(basis::specs::Refuse::first_from, basis::specs::Refuse::or_else))]
-fn room_refused(p: Plan, l: Lengths) -> Result<(), Refusal>
+pub fn room_refusal(p: Plan, room: &Room) -> Result<(), Refusal>
     requires { Counts p }
-    ensures { found result ≡ first_from 0 (room_rows p l) }
+    ensures { found result ≡ first_from 0 (room_rows p (lengths_of (lent room.now))) }
 {
-    refuse::when(l.outline1 < 3 * p.vc1, Refusal::Room)?;
-    refuse::when(l.outline2 < 3 * p.vc2, Refusal::Room)?;
-    slice::faults::room_refusal(p.slices, l.slice_at, l.slice)?;
-    slice::edition::room_refusal(p.slices, l.slice_edition)
-}
-
-// The same, where nothing was found so far.
-pub fn room_refusal(r: u32, p: Plan, l: Lengths) -> u32
-    requires { Counts p }
-    ensures { result ≡ first_from r (room_rows p l) }
-{
-    if r != 0 {
-        return r;
-    }
-    match room_refused(p, l) {
-        Err(refusal) => refusal.number(),
-        Ok(()) => 0,
-    }
+    refuse::when(room.outline1.len() < 3 * p.vc1, Refusal::Room)?;
+    refuse::when(room.outline2.len() < 3 * p.vc2, Refusal::Room)?;
+    slice::faults::room_refusal(p.slices, room.slice_at.len(), room.slice.len())?;
+    slice::edition::room_refusal(p.slices, room.slice_edition.len())
 }

@@ -9,7 +9,8 @@ use lib.ListN.{length, get_or, take, drop}
 use lib.Seq.{drop-drop, take_at, sets, length-sets}
 use Rattle.basis.specs.Number.{+0}
 use Rattle.basis.specs.StoreLaws.{sets-after, sets-front}
-use Rattle.basis.specs.Refuse.{first_of, first_from}
+use Rattle.basis.specs.Refuse.{Row, first_of, first_from}
+use Rattle.basis.specs.Refusals.{found}
 use Rattle.basis.specs.RefuseLaws.{clear, first-from, then-rows, answer-no, answer-yes, first_found, first-later}
 use Rattle.fields.specs.Fields.{size, unpack, rows}
 use Rattle.fields.specs.FieldLaws.{Octets, octets-drop, length-unpack, unpack-append, unpack-fitted, fitted-at, size-rows, length-rows}
@@ -18,10 +19,12 @@ use Rattle.slice.specs.Slice.{code_width, shape_width}
 use Rattle.stitch_run.specs.declared.plan.Plan.{Plan}
 use Rattle.record_form.specs.declared.form.Version.{Version}
 use Rattle.record.specs.declared.head.Head.{Head}
+use Rattle.std.specs.Prelude.{Result}
+use Rattle.basis.specs.declared.refuse.Refusal.{Refusal}
 use Rattle.record.specs.declared.head.Seen.{Seen}
-use Rattle.record.specs.declared.head.Lengths.{Lengths}
+use Rattle.record.specs.Record.{Lengths}
 use Rattle.record_form.specs.Form.{taken_vertices, taken_slices, common_width, entry_width, head_shape, slice_shape, vertex_shape, body_of}
-use Rattle.record.specs.Record.{Lists, head_in, plan_held, body_in, outline1_from, outline2_from, slices_from, codes_from, shapes_from, dates_from, lists_held, number_in, form_in, frame_rows, length_of, count_rows, room_rows, read_rows, read_refusal, lengths_of, seen_refused, seen_given, ReadLeft, Read}
+use Rattle.record.specs.Record.{Lists, head_in, plan_held, body_in, outline1_from, outline2_from, slices_from, codes_from, shapes_from, dates_from, lists_held, number_in, form_in, frame_rows, length_of, count_rows, room_rows, read_rows, read_refusal, lengths_of, seen_given, ReadLeft, Read}
 use Rattle.record.specs.Ready.{HeadFit, HeadRead}
 use Rattle.record_form.specs.Ready.{FormOk}
 use Rattle.record.specs.RecordLaws.{form-ok, head-size, slice-narrow, vertex-narrow, vertex-size, length-body, date-width, length-values, length-outline1, length-outline2, length-codes, length-shapes, length-dates, sets-room}
@@ -126,48 +129,64 @@ module _ {v : Version} (ok : FormOk v) (b : List ℕ) {k : ℕ} (e : k ≡ first
       let good = clear (frame_rows v b) tt (sym e ∙ z) in
       record { form = ok; inside = ltb-false (length b) (size (head_shape v)) good.1.1.0 }
 
-  module _ (z : k ≡ 0) {h : Head} (hr : HeadRead v b h) {k1 : ℕ} (e1 : k1 ≡ first_from 0 (count_rows (length b) (length_of v h.plan) h.plan)) (l : Lengths) {k2 : ℕ}
-      (e2 : k2 ≡ first_from k1 (room_rows h.plan l)) where
-    both : k2 ≡ first_of (count_rows (length b) (length_of v h.plan) h.plan ++ room_rows h.plan l)
-    both =
-        first-from (count_rows (length b) (length_of v h.plan) h.plan ++ room_rows h.plan l) k2 tt
-        (then-rows k2 k1 0 (count_rows (length b) (length_of v h.plan) h.plan) (room_rows h.plan l) e2 e1)
+  module _ (z : k ≡ 0) {h : Head} (hr : HeadRead v b h) {k1 : ℕ} (e1 : k1 ≡ first_from 0 (count_rows (length b) (length_of v h.plan) h.plan)) (l : Lengths) where
+    abbrev counted : List Row
+    counted = count_rows (length b) (length_of v h.plan) h.plan
 
-    pub whole-fault : k2 ≡ read_refusal v b l
+    abbrev roomy : List Row
+    roomy = room_rows h.plan l
+
+    after : {n : ℕ} → n ≡ first_of (counted ++ roomy) → n ≡ read_refusal v b l
     unfolding read_rows
-    whole-fault =
-        both ∙ ap (λ (x : Head). first_of (count_rows (length b) (length_of v x.plan) x.plan ++ room_rows x.plan l)) hr.head
+    after q =
+        q ∙ ap (λ (x : Head). first_of (count_rows (length b) (length_of v x.plan) x.plan ++ room_rows x.plan l)) hr.head
         ∙ sym (first-later (frame_rows v b) _ (clear (frame_rows v b) tt (sym e ∙ z)))
 
-    pub body-fit : k2 ≡ 0 → BodyFit v (length b) h.plan l
-    body-fit z2 =
-        let p = h.plan in
-        let good = clear (count_rows (length b) (length_of v p) p ++ room_rows p l) tt (sym both ∙ z2) in
-        let rest = good.1.1.1.1 in
-        record {
-          all =
-              record {
-                form = ok;
-                whole = eqb-true (length b) (length_of v p) (not-false _ good.0);
-                few1 = ltb-false taken_vertices p.vc1 good.1.1.0;
-                few2 = ltb-false taken_vertices p.vc2 good.1.1.1.0;
-                few3 = ltb-false taken_slices p.slices good.1.0;
-              };
-          roomy =
-              record {
-                first = ltb-false _ _ rest.0;
-                second = ltb-false _ _ rest.1.0;
-                codes = ltb-false _ _ rest.1.1.0;
-                shapes = ltb-false _ _ rest.1.1.1.0;
-                dates = ltb-false _ _ rest.1.1.1.1.0;
-              };
-        }
+    -- the counts refuse
+    pub count-fault : (k1 ≡ 0 → ⊥) → k1 ≡ read_refusal v b l
+    count-fault h =
+        let first : k1 ≡ first_of counted = first-from counted k1 tt e1 in
+        after (first ∙ sym (first_found counted roomy (λ q. h (first ∙ q))))
+
+    -- they do not
+    module _ (z1 : k1 ≡ 0) {k2 : ℕ} (e2 : k2 ≡ first_from 0 (room_rows h.plan l)) where
+      both : k2 ≡ first_of (counted ++ roomy)
+      both =
+          first-from (counted ++ roomy) k2 tt (then-rows k2 k1 0 counted roomy (e2 ∙ ap (λ (n : ℕ). first_from n roomy) (sym z1)) e1)
+
+      pub whole-fault : k2 ≡ read_refusal v b l
+      whole-fault = after both
+
+      pub body-fit : k2 ≡ 0 → BodyFit v (length b) h.plan l
+      body-fit z2 =
+          let p = h.plan in
+          let good = clear (counted ++ roomy) tt (sym both ∙ z2) in
+          let rest = good.1.1.1.1 in
+          record {
+            all =
+                record {
+                  form = ok;
+                  whole = eqb-true (length b) (length_of v p) (not-false _ good.0);
+                  few1 = ltb-false taken_vertices p.vc1 good.1.1.0;
+                  few2 = ltb-false taken_vertices p.vc2 good.1.1.1.0;
+                  few3 = ltb-false taken_slices p.slices good.1.0;
+                };
+            roomy =
+                record {
+                  first = ltb-false _ _ rest.0;
+                  second = ltb-false _ _ rest.1.0;
+                  codes = ltb-false _ _ rest.1.1.0;
+                  shapes = ltb-false _ _ rest.1.1.1.0;
+                  dates = ltb-false _ _ rest.1.1.1.1.0;
+                };
+          }
 
 -- ---- refused: nothing lent is written
-pub read-refused : {v : Version} {b : List ℕ} {l : Lists} {r : Seen} (n : ℕ) → n ≡ read_refusal v b (lengths_of l) → (n ≡ 0 → ⊥) → r ≡ seen_refused n → ReadLeft v b l r l
+pub read-refused : {v : Version} {b : List ℕ} {l : Lists} {r : Result Seen Refusal} (n : ℕ) → n ≡ read_refusal v b (lengths_of l) → (n ≡ 0 → ⊥) → found r ≡ n → ReadLeft v b l r l
 read-refused {v} {b} {l} {r} n e h q =
     record {
-      answers = answer-no seen_refused n _ _ r e h q;
+      answers = q ∙ e;
+      given = λ z. absurd (h (e ∙ z));
       first = answer-no (λ _. l.outline1) n _ _ l.outline1 e h refl;
       second = answer-no (λ _. l.outline2) n _ _ l.outline2 e h refl;
       codes = answer-no (λ _. l.slice_at) n _ _ l.slice_at e h refl;
@@ -178,7 +197,7 @@ read-refused {v} {b} {l} {r} n e h q =
 -- ---- filled
 module _ {v : Version} (b : List ℕ) (l : Lists) {left : Lists} {n : ℕ} (e : n ≡ read_refusal v b (lengths_of l)) (z : n ≡ 0) where
   held-filled : BodyFit v (length b) (plan_held v b) (lengths_of l) → ListsFilled (plan_held v b) (body_in v (plan_held v b) b) l left
-      → {r : Seen} → r ≡ seen_given v.number (head_in v b) → ReadLeft v b l r left
+      → {r : Result Seen Refusal} → r ≡ seen_given v.number (head_in v b) → ReadLeft v b l r left
   unfolding lists_held
   held-filled f g {r} q =
       let p = plan_held v b in
@@ -186,7 +205,8 @@ module _ {v : Version} (b : List ℕ) (l : Lists) {left : Lists} {n : ℕ} (e : 
       let long = length-values v p b in
       let one : length (dates_from p vs) ≡ 1 * p.slices = omega (arith, length-dates p vs long) in
       record {
-        answers = answer-yes seen_refused n _ _ r e z q;
+        answers = ap found q ∙ sym z ∙ e;
+        given = λ _. q;
         first =
             answer-yes (λ _. l.outline1) n _ _ left.outline1 e z
             (g.first ∙ sets-room +0 3 p.vc1 l.outline1 (outline1_from p vs) (length-outline1 p vs long) f.roomy.first);
@@ -206,7 +226,7 @@ module _ {v : Version} (b : List ℕ) (l : Lists) {left : Lists} {n : ℕ} (e : 
 
   -- by the head as the code has it
   pub read-filled : {h : Head} → HeadRead v b h → BodyFit v (length b) h.plan (lengths_of l) → ListsFilled h.plan (body_in v h.plan b) l left
-      → {r : Seen} → r ≡ seen_given v.number h → ReadLeft v b l r left
+      → {r : Result Seen Refusal} → r ≡ seen_given v.number h → ReadLeft v b l r left
   read-filled hr f g q =
       held-filled (subst (λ (x : Head). BodyFit v (length b) x.plan (lengths_of l)) hr.head f)
       (subst (λ (x : Head). ListsFilled x.plan (body_in v x.plan b) l left) hr.head g) (q ∙ ap (seen_given v.number) hr.head)
@@ -215,5 +235,5 @@ module _ {v : Version} (b : List ℕ) (l : Lists) {left : Lists} {n : ℕ} (e : 
 pub form-there : {v : Version} (b : List ℕ) → v ≡ form_in b → FormOk v
 form-there b e = rw e (form-ok (number_in b))
 
-pub read_named : {v : Version} (b : List ℕ) {l : Lists} {r : Seen} {left : Lists} → v ≡ form_in b → ReadLeft v b l r left → Read b l r left
+pub read_named : {v : Version} (b : List ℕ) {l : Lists} {r : Result Seen Refusal} {left : Lists} → v ≡ form_in b → ReadLeft v b l r left → Read b l r left
 read_named b {l} {r} {left} e w = subst (λ (x : Version). ReadLeft x b l r left) e w

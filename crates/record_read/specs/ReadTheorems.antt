@@ -7,16 +7,19 @@ use native.Mathlib.Omega.{arith}
 use Rattle.std.proofs.Math.ListN.{get_or, drop, length-drop}
 use Rattle.std.proofs.Math.Seq.{get_or-drop}
 use Rattle.basis.specs.Refuse.{first_of, answer}
+use Rattle.basis.specs.Refusals.{found}
 use Rattle.basis.specs.RefusalOrder.{refusal_order, before, First}
 use Rattle.basis.specs.RefusalOrderLaws.{first-of}
 use Rattle.fields.specs.Fields.{size, unpack}
 use Rattle.fields.specs.FieldLaws.{unpack-none}
 use Rattle.record_form.specs.declared.form.Version.{Version}
 use Rattle.record.specs.declared.head.Head.{Head}
-use Rattle.record.specs.declared.head.Lengths.{Lengths}
+use Rattle.record.specs.Record.{Lengths}
+use Rattle.std.specs.Prelude.{Result}
+use Rattle.basis.specs.declared.refuse.Refusal.{Refusal}
 use Rattle.record.specs.declared.head.Seen.{Seen}
 use Rattle.record_form.specs.Form.{form_for, head_shape, common_width, entry_width, body_of, column}
-use Rattle.record.specs.Record.{Lists, lists, head_in, plan_held, second_in, body_in, slices_from, dates_from, lists_held, mark_ok, number_in, read_rows, read_refusal, lengths_of, seen_refused, OldRead}
+use Rattle.record.specs.Record.{Lists, lists, head_in, plan_held, second_in, body_in, slices_from, dates_from, lists_held, mark_ok, number_in, read_rows, read_refusal, lengths_of, OldRead}
 use Rattle.record.specs.RecordLaws.{date-width, length-values}
 
 -- ---- by any table: the number that a reader gives applies, and none before it in the order of refusals does
@@ -38,11 +41,11 @@ module _ (b : List ℕ) (marked : mark_ok b ≡ true) (version2 : number_in b �
   unfolding read_rows first_of form_for
   old-number l = rw (marked, version2)
 
-  pub old-reader : (l : Lists) (r : Seen) (left : Lists) → OldRead b l r left → (r ≡ seen_refused 12) × (left ≡ l)
+  pub old-reader : (l : Lists) (r : Result Seen Refusal) (left : Lists) → OldRead b l r left → (found r ≡ 12) × (left ≡ l)
   unfolding answer
   old-reader l r left w =
       let n = old-number (lengths_of l) in (
-        rw n at w.answers,
+        w.answers ∙ n,
         lists-same (rw n at w.first) (rw n at w.second) (rw n at w.codes) (rw n at w.shapes) (rw n at w.dates),
       )
 

@@ -3,10 +3,11 @@ ghost use Rattle.std.specs.Prelude.{◌≡◌, map, length, drop};
 ghost use Rattle.std.proofs.lemmas.List.Edits.{sets};
 ghost use Rattle.fields.specs.Fields.{num_of};
 ghost use Rattle.record_form.specs.Form.{column};
-ghost use Rattle.record.specs.Record.{body_in, lists, lengths_of};
+ghost use Rattle.record.specs.Record.{body_in, lent, lengths_of};
 ghost use Rattle.record_read.specs.Ready.{ColumnFit, DateFit, DatesFit, ListsFit, ListsFilled, ValuesFit, BodyFit};
 
 use fields::{copy, shape};
+use record::head::Room;
 use record_form::form;
 use record_form::form::Version;
 use slice::data::{CODE_WIDTH, SHAPE_WIDTH};
@@ -93,27 +94,28 @@ fn gather_editions(
 }
 
 // The five lists from the values that follow the head.
-fn fill_lists(
-    values: &[usize],
-    p: Plan,
-    o1: &mut [f64],
-    o2: &mut [f64],
-    at: &mut [usize],
-    s: &mut [f64],
-    dates: &mut [u32],
-)
-    requires { ListsFit p values.now (lengths_of (lists o1.old o2.old at.old s.old dates.old)) }
-    ensures { ListsFilled p values.now (lists o1.old o2.old at.old s.old dates.old) (lists o1.new o2.new at.new s.new dates.new) }
+fn fill_lists(values: &[usize], p: Plan, room: &mut Room)
+    requires { ListsFit p values.now (lengths_of (lent room.old)) }
+    ensures { ListsFilled p values.now (lent room.old) (lent room.new) }
 {
     let n1 = 3 * p.vc1;
     let n2 = 3 * p.vc2;
     let from = n1 + n2;
     let stride = form::ENTRY_WIDTH;
-    copy::copy_numbers(values, 0, n1, o1, 0);
-    copy::copy_numbers(values, n1, n2, o2, 0);
-    gather_codes(values, from, stride, 0, CODE_WIDTH, p.slices, at);
-    gather_numbers(values, from, stride, CODE_WIDTH, SHAPE_WIDTH, p.slices, s);
-    gather_editions(values, from, stride, form::COMMON_WIDTH, p.slices, dates);
+    let dates = form::COMMON_WIDTH;
+    copy::copy_numbers(values, 0, n1, room.outline1, 0);
+    copy::copy_numbers(values, n1, n2, room.outline2, 0);
+    gather_codes(values, from, stride, 0, CODE_WIDTH, p.slices, room.slice_at);
+    gather_numbers(
+        values,
+        from,
+        stride,
+        CODE_WIDTH,
+        SHAPE_WIDTH,
+        p.slices,
+        room.slice,
+    );
+    gather_editions(values, from, stride, dates, p.slices, room.slice_edition);
 }
 
 // The values of all fields that follow the head, from the front of the lent list on.
@@ -121,8 +123,6 @@ fn list_values(bytes: &[u8], v: Version, p: Plan, values: &mut [usize])
     requires { ValuesFit v (length bytes.now) p (length values.old) }
     ensures { values.new ≡ sets values.old 0 (body_in v p bytes.now) }
 {
-    let vertex = form::VERTEX;
-    let entry = form::slice_widths(v);
     let head = form::head_bytes(v);
     let stride = form::slice_bytes(v);
     let vertices = p.vc1 + p.vc2;
@@ -131,31 +131,30 @@ fn list_values(bytes: &[u8], v: Version, p: Plan, values: &mut [usize])
     shape::read_rows(
         bytes,
         head,
-        &vertex,
+        &form::VERTEX,
         form::VERTEX_BYTES,
         vertices,
         values,
         0,
     );
-    shape::read_rows(bytes, from, &entry, stride, p.slices, values, q);
+    shape::read_rows(
+        bytes,
+        from,
+        &form::slice_widths(v),
+        stride,
+        p.slices,
+        values,
+        q,
+    );
 }
 
 // Reads what follows the head of a whole record into the lent lists.
-pub fn read_body(
-    bytes: &[u8],
-    v: Version,
-    p: Plan,
-    o1: &mut [f64],
-    o2: &mut [f64],
-    at: &mut [usize],
-    s: &mut [f64],
-    dates: &mut [u32],
-)
-    requires { BodyFit v (length bytes.now) p (lengths_of (lists o1.old o2.old at.old s.old dates.old)) }
-    ensures { ListsFilled p (body_in v p bytes.now) (lists o1.old o2.old at.old s.old dates.old) (lists o1.new o2.new at.new s.new dates.new) }
+pub fn read_body(bytes: &[u8], v: Version, p: Plan, room: &mut Room)
+    requires { BodyFit v (length bytes.now) p (lengths_of (lent room.old)) }
+    ensures { ListsFilled p (body_in v p bytes.now) (lent room.old) (lent room.new) }
 {
     let mut values = [0usize; form::VALUES];
     let n = 3 * p.vc1 + 3 * p.vc2 + p.slices * form::ENTRY_WIDTH;
     list_values(bytes, v, p, &mut values);
-    fill_lists(&values[0..n], p, o1, o2, at, s, dates);
+    fill_lists(&values[0..n], p, room);
 }

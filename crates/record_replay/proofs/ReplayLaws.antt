@@ -21,6 +21,8 @@ use Rattle.stitch_entries.specs.Answers.{stitch_refused, stitch_given}
 use Rattle.stitch_entries.specs.StitchEntry.{stitch_number, StitchLeft}
 use Rattle.record_form.specs.declared.form.Version.{Version}
 use Rattle.record.specs.declared.head.Head.{Head}
+use Rattle.std.specs.Prelude.{Result, Ok, Err}
+use Rattle.basis.specs.declared.refuse.Refusal.{Refusal}
 use Rattle.record.specs.declared.head.Seen.{Seen}
 use Rattle.record_form.specs.Form.{form_for}
 use Rattle.record.specs.Record as held
@@ -98,7 +100,7 @@ version-small : (n : ℕ) → (form_for n).number < 2 ^ 32
 unfolding form_for
 version-small n = by-test (eqb n 2) (λ t. rw t (omega arith)) (λ f. rw f (omega arith))
 
-module _ (b : List ℕ) (l : held.Lists) (r : Seen) (left : held.Lists) (w : Read b l r left) (long : lengths_of l ≡ taken_lengths) where
+module _ (b : List ℕ) (l : held.Lists) (r : Result Seen Refusal) (left : held.Lists) (w : Read b l r left) (long : lengths_of l ≡ taken_lengths) where
   abbrev v : Version
   v = form_in b
 

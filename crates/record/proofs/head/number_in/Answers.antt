@@ -1,4 +1,4 @@
-use borrow.Author.Rules.{rules}
+use Rattle.std.proofs.Common.{rules}
 use Rattle.record.proofs.Heading.{number_of}
 use Rattle.record.proofs.head.number_in.Goals as goal
 

@@ -1,12 +1,9 @@
-use native.Mathlib.Omega.{arith}
-use mathlib.Core.Path.{refl}
+use Rattle.std.proofs.Common.{arith, refl}
 use Rattle.record_read.proofs.Reading.{lists-fit, lists_filled}
 use Rattle.record_read.proofs.body.read_body.Goals as goal
 
 pub fill_lists-requires : goal.fill_lists-requires
-fill_lists-requires c =
-    lists-fit c.requires _ _ _ refl c.list_values.ensures (λ i. omega (arith, c.shared_slice_known-1.given i))
+fill_lists-requires c = lists-fit c.requires _ _ _ refl c.list_values.ensures (λ i. omega (arith, c.type_inv.bytes i))
 
 pub returns : goal.returns
-returns c =
-    lists_filled c.requires _ _ _ refl c.list_values.ensures c.fill_lists.ensures
+returns c = lists_filled c.requires _ _ _ refl c.list_values.ensures c.fill_lists.ensures

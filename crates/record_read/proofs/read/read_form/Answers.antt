@@ -1,22 +1,42 @@
-use Rattle.record_read.proofs.Reading.{frame-fault, head-there, whole-fault, body-fit, read-refused, read-filled}
+use Rattle.std.proofs.Common.{rules}
+use Rattle.basis.specs.RefusalLaws.{found-some, found-none, found-same}
+use Rattle.record_read.proofs.Reading.{frame-fault, head-there, count-fault, whole-fault, body-fit, read-refused, read-filled}
 use Rattle.record_read.proofs.read.read_form.Goals as goal
 
-pub returns-then-r-ne0 : goal.returns-then-r-ne0
-returns-then-r-ne0 c =
-    read-refused _ (frame-fault c.requires _ c.frame_refusal-r.ensures _ c.if-r-ne0.true) c.if-r-ne0.true c.seen_refused.ensures
+pub returns-in_err-frame_refusal : goal.returns-in_err-frame_refusal
+returns-in_err-frame_refusal c =
+    let some = found-some _ _ c.in_err-frame_refusal.was in
+    read-refused _ (frame-fault c.requires _ c.frame_refusal.ensures _ some) some (found-same c.frame_refusal.result _ _ c.in_err-frame_refusal.was (search rules))
 
-pub head_in-h-requires : goal.head_in-h-requires
-head_in-h-requires c =
-    head-there c.requires _ c.frame_refusal-r.ensures c.if-r-ne0.false
+pub head_in-head-requires : goal.head_in-head-requires
+head_in-head-requires c = head-there c.requires _ c.frame_refusal.ensures (found-none _ _ c.in_ok-frame_refusal.was)
 
-pub returns-then-r-ne0-2 : goal.returns-then-r-ne0-2
-returns-then-r-ne0-2 c =
-    read-refused _ (whole-fault c.requires _ c.frame_refusal-r.ensures c.if-r-ne0.false c.head_in-h.ensures c.count_refusal-r.ensures _ c.room_refusal-r.ensures) c.if-r-ne0-2.true c.seen_refused-then-r-ne0-2.ensures
+pub returns-in_err-count_refusal : goal.returns-in_err-count_refusal
+returns-in_err-count_refusal c =
+    let framed = found-none _ _ c.in_ok-frame_refusal.was in
+    let some = found-some _ _ c.in_err-count_refusal.was in
+    read-refused _ (count-fault c.requires _ c.frame_refusal.ensures framed c.head_in-head.ensures c.count_refusal.ensures _ some) some
+    (found-same c.count_refusal.result _ _ c.in_err-count_refusal.was (search rules))
+
+pub returns-in_err-room_refusal : goal.returns-in_err-room_refusal
+returns-in_err-room_refusal c =
+    let framed = found-none _ _ c.in_ok-frame_refusal.was in
+    let counted = found-none _ _ c.in_ok-count_refusal.was in
+    let some = found-some _ _ c.in_err-room_refusal.was in
+    read-refused _ (whole-fault c.requires _ c.frame_refusal.ensures framed c.head_in-head.ensures c.count_refusal.ensures _ counted c.room_refusal.ensures) some
+    (found-same c.room_refusal.result _ _ c.in_err-room_refusal.was (search rules))
 
 pub read_body-requires : goal.read_body-requires
 read_body-requires c =
-    body-fit c.requires _ c.frame_refusal-r.ensures c.if-r-ne0.false c.head_in-h.ensures c.count_refusal-r.ensures _ c.room_refusal-r.ensures c.if-r-ne0-2.false
+    let framed = found-none _ _ c.in_ok-frame_refusal.was in
+    let counted = found-none _ _ c.in_ok-count_refusal.was in
+    body-fit c.requires _ c.frame_refusal.ensures framed c.head_in-head.ensures c.count_refusal.ensures _ counted c.room_refusal.ensures (found-none _ _ c.in_ok-room_refusal.was)
 
 pub returns : goal.returns
 returns c =
-    read-filled _ _ (whole-fault c.requires _ c.frame_refusal-r.ensures c.if-r-ne0.false c.head_in-h.ensures c.count_refusal-r.ensures _ c.room_refusal-r.ensures) c.if-r-ne0-2.false c.head_in-h.ensures (body-fit c.requires _ c.frame_refusal-r.ensures c.if-r-ne0.false c.head_in-h.ensures c.count_refusal-r.ensures _ c.room_refusal-r.ensures c.if-r-ne0-2.false) c.read_body.ensures c.seen_given.ensures
+    let framed = found-none _ _ c.in_ok-frame_refusal.was in
+    let counted = found-none _ _ c.in_ok-count_refusal.was in
+    let roomy = found-none _ _ c.in_ok-room_refusal.was in
+    read-filled _ _ (whole-fault c.requires _ c.frame_refusal.ensures framed c.head_in-head.ensures c.count_refusal.ensures _ counted c.room_refusal.ensures) roomy
+    c.head_in-head.ensures
+    (body-fit c.requires _ c.frame_refusal.ensures framed c.head_in-head.ensures c.count_refusal.ensures _ counted c.room_refusal.ensures roomy) c.read_body.ensures (search rules)
