@@ -121,6 +121,28 @@ pub mixing-end : {codes : List ℕ} {numbers : List Float} {dates : List ℕ} {n
 unfolding mix
 mixing-end {n = n} {k = k} c h = let e : n - k ≡ 0 = omega arith in rw e at c.state
 
+-- ---- the places of slice k, as the code has them
+abbrev pub Placed : List ℕ → List Float → List ℕ → ℕ → List ℕ → ℕ → List ℕ → ℕ → Type 0
+Placed codes numbers dates n l to l' k = Mixing codes numbers dates n l to l' (to + k * entry_width) (k * code_width) (k * shape_width) k
+
+pub placed-none : (codes : List ℕ) (numbers : List Float) (dates : List ℕ) (n : ℕ) (l : List ℕ) (to : ℕ) → MixFit (length codes) numbers (length dates) n (length l) to
+    → Placed codes numbers dates n l to l 0
+placed-none codes numbers dates n l to h =
+    let a : to + 0 * entry_width ≡ to = omega arith in
+    let b : 0 * code_width ≡ 0 = omega arith in
+    let c : 0 * shape_width ≡ 0 = omega arith in
+    rw (a, b, c) (mixing-none codes numbers dates n l to h)
+
+pub placed-more : {codes : List ℕ} {numbers : List Float} {dates : List ℕ} {n : ℕ} {l : List ℕ} {to : ℕ} {l' : List ℕ} {k : ℕ}
+    → Placed codes numbers dates n l to l' k → k < n → {m : List ℕ} → m ≡ sets l' (to + k * entry_width) (take code_width (drop (k * code_width) codes))
+    → {m' : List ℕ} → m' ≡ sets m (to + k * entry_width + code_width) (map bits_of (take shape_width (drop (k * shape_width) numbers)))
+    → (x : ℕ) → x ≡ get_or dates k 0 → Placed codes numbers dates n l to (set m' (to + k * entry_width + common_width) x) (k + 1)
+placed-more {to = to} {k = k} c h e f x s =
+    let a : to + (k + 1) * entry_width ≡ to + k * entry_width + entry_width = omega arith in
+    let b : (k + 1) * code_width ≡ k * code_width + code_width = omega arith in
+    let d : (k + 1) * shape_width ≡ k * shape_width + shape_width = omega arith in
+    rw (a, b, d) (mixing-more c h e f x s)
+
 -- ---- all values
 pub values_listed : (o1 o2 : List Float) (at : List ℕ) (s : List Float) (dates : List ℕ) (n : ℕ) (l l' l'' l''' : List ℕ)
     → l' ≡ sets l 0 (map bits_of (take (length o1) o1)) → l'' ≡ sets l' (length o1) (map bits_of (take (length o2) o2))

@@ -11,6 +11,7 @@ use fields::copy;
 use record::head::Head;
 use record_form::form;
 use slice::data::{CODE_WIDTH, SHAPE_WIDTH};
+use stitch_run::plan::Slices;
 
 // The values of the head's fields. What a version has no field for is not written.
 pub fn head_values(number: usize, h: Head) -> [usize; 15]
@@ -48,49 +49,32 @@ fn wide(edition: u32) -> usize
 }
 
 // Lists of each slice its codes, the patterns of its shape and its edition, from `to` on.
-fn mix_slices(
-    slice_at: &[usize],
-    slice: &[f64],
-    slice_edition: &[u32],
-    count: usize,
-    values: &mut [usize],
-    to: usize,
-)
-    requires { MixFit (length slice_at.now) slice.now (length slice_edition.now) count (length values.old) to }
-    ensures { values.new ≡ sets values.old to (mix code_width shape_width count slice_at.now (map bits_of slice.now) slice_edition.now) }
+fn mix_slices(s: &Slices, slice_edition: &[u32], values: &mut [usize], to: usize)
+    requires { MixFit (length s.now.slice_at.now) s.now.slice.now (length slice_edition.now) s.now.plan.slices (length values.old) to }
+    ensures { values.new ≡ sets values.old to (mix code_width shape_width s.now.plan.slices s.now.slice_at.now (map bits_of s.now.slice.now) slice_edition.now) }
 {
-    let mut q = to;
-    let mut i = 0;
-    let mut j = 0;
-    let mut k = 0;
-    while k < count {
-        copy::copy(slice_at, i, CODE_WIDTH, values, q);
-        copy::copy_bits(slice, j, SHAPE_WIDTH, values, q + CODE_WIDTH);
-        let at = q + form::COMMON_WIDTH;
-        values[at] = wide(slice_edition[k]);
-        q += form::ENTRY_WIDTH;
-        i += CODE_WIDTH;
-        j += SHAPE_WIDTH;
-        k += 1;
+    for k in 0..s.plan.slices {
+        let at = to + k * form::ENTRY_WIDTH;
+        copy::copy(s.slice_at, k * CODE_WIDTH, CODE_WIDTH, values, at);
+        copy::copy_bits(
+            s.slice,
+            k * SHAPE_WIDTH,
+            SHAPE_WIDTH,
+            values,
+            at + CODE_WIDTH,
+        );
+        values[at + form::COMMON_WIDTH] = wide(slice_edition[k]);
     }
 }
 
 // Lists the values of the fields that follow the head, from the front on.
-pub fn list_values(
-    outline1: &[f64],
-    outline2: &[f64],
-    slice_at: &[usize],
-    slice: &[f64],
-    slice_edition: &[u32],
-    count: usize,
-    values: &mut [usize],
-)
-    requires { ValuesFit outline1.now outline2.now (length slice_at.now) slice.now (length slice_edition.now) count (length values.old) }
-    ensures { values.new ≡ sets values.old 0 (values_of (lists outline1.now outline2.now slice_at.now slice.now slice_edition.now) count) }
+pub fn list_values(s: &Slices, slice_edition: &[u32], values: &mut [usize])
+    requires { ValuesFit s.now.outline1.now s.now.outline2.now (length s.now.slice_at.now) s.now.slice.now (length slice_edition.now) s.now.plan.slices (length values.old) }
+    ensures { values.new ≡ sets values.old 0 (values_of (lists s.now.outline1.now s.now.outline2.now s.now.slice_at.now s.now.slice.now slice_edition.now) s.now.plan.slices) }
 {
-    let n1 = outline1.len();
-    let n2 = outline2.len();
-    copy::copy_bits(outline1, 0, n1, values, 0);
-    copy::copy_bits(outline2, 0, n2, values, n1);
-    mix_slices(slice_at, slice, slice_edition, count, values, n1 + n2);
+    let n1 = s.outline1.len();
+    let n2 = s.outline2.len();
+    copy::copy_bits(s.outline1, 0, n1, values, 0);
+    copy::copy_bits(s.outline2, 0, n2, values, n1);
+    mix_slices(s, slice_edition, values, n1 + n2);
 }

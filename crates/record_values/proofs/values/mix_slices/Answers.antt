@@ -1,10 +1,9 @@
-use borrow.Author.Rules.{rules}
-use Prim.Native.Nat.{◌-◌}
-use Rattle.record_values.proofs.Mixing.{mixing-none, mixing-codes, mixing-numbers, mixing-date, mixing-place, mixing-more, mixing-end}
+use Rattle.std.proofs.Common.{rules}
+use Rattle.record_values.proofs.Mixing.{placed-none, mixing-codes, mixing-numbers, mixing-date, mixing-place, placed-more, mixing-end}
 use Rattle.record_values.proofs.values.mix_slices.Goals as goal
 
 pub loop-k-init : goal.loop-k-init
-loop-k-init c = search (rules, mixing-none)
+loop-k-init c = search (rules, placed-none)
 
 pub copy-requires : goal.copy-requires
 copy-requires c = search (rules, mixing-codes)
@@ -15,12 +14,8 @@ copy_bits-requires c = search (rules, mixing-numbers)
 pub bounds-slice_edition-k : goal.bounds-slice_edition-k
 bounds-slice_edition-k c = search (rules, mixing-date)
 
-pub bounds-values-at : goal.bounds-values-at
-bounds-values-at c = search (rules, mixing-place)
-
 pub loop-k-preserved : goal.loop-k-preserved
-loop-k-preserved c =
-    mixing-more c.loop-k.invariant c.loop-k-test.true c.copy.ensures c.copy_bits.ensures _ c.wide.ensures
+loop-k-preserved c = placed-more c.loop-k.invariant c.loop-k-test.true c.copy.ensures c.copy_bits.ensures _ c.wide.ensures
 
 pub returns : goal.returns
 returns c = search (rules, mixing-end)
