@@ -8,7 +8,6 @@ use borrow.Author.Tests.{lt-ltb, le-ltb, eq-eqb, ne_eqb}
 use lib.Dec.{ltb, eqb}
 use lib.ListN.{length, take, drop}
 use lib.Seq.{take_at, sets}
-use lib.Ieee.{Float}
 use Rattle.basis.specs.declared.answer.CountAnswer.{CountAnswer}
 use Rattle.basis.specs.declared.number.Tolerance.{Tolerance}
 use Rattle.basis.specs.Answers.{count_refused, counted}
@@ -22,8 +21,7 @@ use Rattle.fields.specs.Ready.{Number}
 use Rattle.slice.specs.Slice.{code_width}
 use Rattle.slice.specs.Ready.{EditionsThere}
 use Rattle.slice.specs.Editions.{Editions, editions, edition_list_rows, edition_rows}
-use Rattle.stitch_run.specs.declared.plan.Plan.{Plan}
-use Rattle.stitch_run.specs.Stitch.{Given, given}
+use Rattle.stitch_run.specs.Stitch.{Given}
 use Rattle.record_form.specs.declared.form.Version.{Version}
 use Rattle.record.specs.declared.head.Head.{Head}
 use Rattle.record_form.specs.Form.{form_for, head_shape, slice_shape, vertex_shape, entry_width, body_of}
@@ -105,27 +103,21 @@ module _ (t : Tolerance) (y : tolerable t ≡ true) where
 pub ruleset axes = (each-its-own, out_of_range, x-number, y-number, patterns)
 
 -- ---- 12, 1 to 8, then 14
-module _ (n : ℕ) (v : Version) (o1 o2 : List Float) (at : List ℕ) (s : List Float) (p : Plan) (l : List ℕ) (first second r : ℕ)
-    (found : r ≡ first_from 0 (handed_rows n v (given o1 o2 at s p) (editions 0 0 l))) where
-  abbrev stitch : Given
-  stitch = given o1 o2 at s p
-
-  pub handed-found : (r ≡ 0 → ⊥) → r ≡ first_of (held_rows n v stitch (editions first second l))
+module _ (n : ℕ) (v : Version) (g : Given) (e : Editions) (r : ℕ) (found : r ≡ first_from 0 (handed_rows n v g (editions 0 0 e.slices))) where
+  pub handed-found : (r ≡ 0 → ⊥) → r ≡ first_of (held_rows n v g e)
   unfolding held_rows
-  handed-found h = stop-rows (handed_rows n v stitch (editions 0 0 l)) (edition_rows (editions first second l) at) r tt found h
+  handed-found h = stop-rows (handed_rows n v g (editions 0 0 e.slices)) (edition_rows e g.slice_at) r tt found h
 
-  pub edition-found : (q : ℕ) → r ≡ 0 → q ≡ first_from 0 (edition_rows (editions first second l) at) → q ≡ first_of (held_rows n v stitch (editions first second l))
+  pub edition-found : (q : ℕ) → r ≡ 0 → q ≡ first_from 0 (edition_rows e g.slice_at) → q ≡ first_of (held_rows n v g e)
   unfolding held_rows
-  edition-found q z f = go-rows (handed_rows n v stitch (editions 0 0 l)) (edition_rows (editions first second l) at) r q tt tt found z f
+  edition-found q z f = go-rows (handed_rows n v g (editions 0 0 e.slices)) (edition_rows e g.slice_at) r q tt tt found z f
 
   -- there is an edition for each slice
-  pub each-there : r ≡ 0 → EditionsThere at l
+  pub each-there : r ≡ 0 → EditionsThere g.slice_at e.slices
   each-there z =
-      let ok = clear-from (handed_rows n v stitch (editions 0 0 l)) r tt found z in
-      let lists = lists-clear v stitch (clear-right (edition_list_rows (length l) p.slices) (keep_rows v stitch) ok.1) in
-      record { each = omega (arith, length-ok code_width (length at) p.slices lists.1.1.0, length-ok 1 (length l) p.slices ok.1.0) }
-
-pub ruleset holding = (handed-found, edition-found, each-there)
+      let ok = clear-from (handed_rows n v g (editions 0 0 e.slices)) r tt found z in
+      let lists = lists-clear v g (clear-right (edition_list_rows (length e.slices) g.slices) (keep_rows v g) ok.1) in
+      record { each = omega (arith, length-ok code_width (length g.slice_at) g.slices lists.1.1.0, length-ok 1 (length e.slices) g.slices ok.1.0) }
 
 -- ---- the refusal
 module _ (n : ℕ) (v : Version) (g : Given) (e : Editions) (m : ℕ) {r : ℕ} (told : r ≡ first_of (held_rows n v g e)) where

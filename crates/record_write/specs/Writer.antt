@@ -7,12 +7,17 @@ use Rattle.basis.specs.Number.{tolerable}
 use Rattle.basis.specs.Refuse.{Row, row, first_of, answer}
 use Rattle.basis.specs.Room.{room_of}
 use Rattle.fields.specs.Fields.{bits_of}
-use Rattle.slice.specs.Editions.{Editions, edition_list_rows, edition_rows}
+use Rattle.slice.specs.Editions.{Editions, editions, edition_list_rows, edition_rows}
 use Rattle.stitch_run.specs.Stitch.{Given}
 use Rattle.stitch_faults.specs.StitchTable.{list_part, code_part, number_part, index_part}
 use Rattle.record_form.specs.declared.form.Version.{Version}
 use Rattle.record_form.specs.Form.{form_for}
+use Rattle.record_write.specs.declared.kept.Kept.{Kept}
 use Rattle.record.specs.Record.{plan_in, version_fault, length_of, taken_rows, record_of}
+
+-- the editions of what is handed in
+abbrev pub editions_of : Kept → Editions
+editions_of k = editions k.edition1 k.edition2 k.slice_edition.now
 
 -- 12: "unknown version", before all others
 abbrev pub version_rows : ℕ → Version → List Row

@@ -1,5 +1,5 @@
 use Rattle.std.proofs.Common.{rules}
-use Rattle.record_values.proofs.Mixing.{placed-none, mixing-codes, mixing-numbers, mixing-date, mixing-place, placed-more, mixing-end}
+use Rattle.record_values.proofs.Mixing.{placed-none, mixing-codes, mixing-numbers, mixing-date, placed-more, mixing-end}
 use Rattle.record_values.proofs.values.mix_slices.Goals as goal
 
 pub loop-k-init : goal.loop-k-init

@@ -1,4 +1,4 @@
-use borrow.Author.Rules.{rules}
+use Rattle.std.proofs.Common.{rules}
 use Rattle.record_write.proofs.Keeping.{table-ok, write-asked}
 use Rattle.record_write.proofs.write.write.Goals as goal
 
