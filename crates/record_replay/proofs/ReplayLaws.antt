@@ -8,6 +8,8 @@ use lib.ListN.{length, take, length-append}
 use Rattle.basis.specs.Choice.{by-test}
 use Rattle.basis.specs.Number.{+0}
 use Rattle.basis.specs.Refuse.{answer}
+use Rattle.basis.specs.Refusals.{found}
+use Rattle.basis.specs.RefusalLaws.{found-none}
 use Rattle.basis.specs.RefuseLaws.{answer-no, answer-yes, answer-accepted}
 use Rattle.basis.specs.Room.{room_of}
 use Rattle.basis.specs.RoomLaws.{room-front}
@@ -26,7 +28,7 @@ use Rattle.basis.specs.declared.refuse.Refusal.{Refusal}
 use Rattle.record.specs.declared.head.Seen.{Seen}
 use Rattle.record_form.specs.Form.{form_for}
 use Rattle.record.specs.Record as held
-use Rattle.record.specs.Record.{stitch_by, editions_by, head_in, plan_held, lists_held, form_in, read_refusal, taken_lengths, lengths_of, seen_refused, seen_given, Read}
+use Rattle.record.specs.Record.{stitch_by, editions_by, head_in, plan_held, lists_held, form_in, read_refusal, taken_lengths, lengths_of, seen_given, Read}
 use Rattle.record.specs.RecordLaws.{read-long}
 use Rattle.record_replay.specs.declared.replay.ReplayAnswer.{ReplayAnswer}
 use Rattle.record_replay.specs.Replayed.{held_in, dates_in, form_number, replay_number, replay_refused, replay_given, replay_of, ReplayLeft}
@@ -90,11 +92,6 @@ module _ (b : List ℕ) (z : 0 ≡ form_number b) (x : Lists) (r : ReplayAnswer)
       }
 
 -- ---- what the reader left
-seen-number : (number : ℕ) (h : Head) (n : ℕ) → (answer seen_refused n (seen_given number h)).refusal ≡ n
-unfolding answer
-seen-number number h zero = refl
-seen-number number h (suc n) = refl
-
 -- a version's number is small
 version-small : (n : ℕ) → (form_for n).number < 2 ^ 32
 unfolding form_for
@@ -107,23 +104,26 @@ module _ (b : List ℕ) (l : held.Lists) (r : Result Seen Refusal) (left : held.
   form-same : read_refusal v b (lengths_of l) ≡ form_number b
   form-same = ap (read_refusal v b) long
 
-  pub seen-form : r.refusal ≡ form_number b
-  seen-form = ap (λ (y : Seen). y.refusal) w.answers ∙ seen-number v.number (head_in v b) (read_refusal v b (lengths_of l)) ∙ form-same
+  pub seen-form : found r ≡ form_number b
+  seen-form = w.answers ∙ form-same
 
-  module _ (z : r.refusal ≡ 0) where
+  module _ (s : Seen) (is : r ≡ Ok s) where
+    clean : found r ≡ 0
+    clean = found-none r s is
+
     accepted : read_refusal v b (lengths_of l) ≡ 0
-    accepted = form-same ∙ sym seen-form ∙ z
+    accepted = form-same ∙ sym seen-form ∙ clean
 
-    seen_all : r ≡ seen_given v.number (head_in v b)
-    seen_all = answer-accepted seen_refused _ (seen_given v.number (head_in v b)) r w.answers accepted
+    seen_all : s ≡ record { version = v.number; head = head_in v b }
+    seen_all = let e : Ok s ≡ seen_given v.number (head_in v b) = sym is ∙ w.given accepted in cc
 
-    seen-head : r.head ≡ head_in v b
+    seen-head : s.head ≡ head_in v b
     seen-head = ap (λ (y : Seen). y.head) seen_all
 
-    seen-version : r.version ≡ v.number
+    seen-version : s.version ≡ v.number
     seen-version = ap (λ (y : Seen). y.version) seen_all
 
-    pub version-fits : r.version < 2 ^ 32
+    pub version-fits : s.version < 2 ^ 32
     version-fits = rw seen-version (version-small (held.number_in b))
 
     abbrev p : Plan
@@ -151,7 +151,7 @@ module _ (b : List ℕ) (l : held.Lists) (r : Result Seen Refusal) (left : held.
     unfolding room_of
     at_least d k need items x y e f = omega (arith, ap length e ∙ length-append items _, f)
 
-    pub held_fits : Held r.head.plan left
+    pub held_fits : Held s.head.plan left
     held_fits =
         let k = read-long v b in
         rw seen-head
@@ -185,13 +185,13 @@ module _ (b : List ℕ) (l : held.Lists) (r : Result Seen Refusal) (left : held.
     dates-held : editions_by (fronts p left) (head_in v b) ≡ dates_in b
     dates-held = rw front5
 
-    pub replay-stitched : (x : Lists) (a : StitchAnswer) (y : Lists) (c : ReplayAnswer) → StitchLeft (stitch_by (fronts r.head.plan left) r.head.plan) (editions_by (fronts r.head.plan left) r.head) x a y
-        → c ≡ replay_of r.version r.head.plan.slices a → ReplayLeft b x c y
+    pub replay-stitched : (x : Lists) (a : StitchAnswer) (y : Lists) (c : ReplayAnswer) → StitchLeft (stitch_by (fronts s.head.plan left) s.head.plan) (editions_by (fronts s.head.plan left) s.head) x a y
+        → c ≡ replay_of s.version s.head.plan.slices a → ReplayLeft b x c y
     replay-stitched x a y c q e =
-        let s : StitchLeft (stitch_by (fronts p left) p) (editions_by (fronts p left) (head_in v b)) x a y =
+        let s1 : StitchLeft (stitch_by (fronts p left) p) (editions_by (fronts p left) (head_in v b)) x a y =
         subst (λ (h : Head). StitchLeft (stitch_by (fronts h.plan left) h.plan) (editions_by (fronts h.plan left) h) x a y) seen-head q in
         let t : StitchLeft (held_in b) (editions_by (fronts p left) (head_in v b)) x a y =
-        subst (λ (g : Given). StitchLeft g (editions_by (fronts p left) (head_in v b)) x a y) stitch-held s in
+        subst (λ (g : Given). StitchLeft g (editions_by (fronts p left) (head_in v b)) x a y) stitch-held s1 in
         let u : StitchLeft (held_in b) (dates_in b) x a y = subst (λ (d : Editions). StitchLeft (held_in b) d x a y) dates-held t in
-        replay-held b (sym z ∙ seen-form) x c y a u
-        (e ∙ ap (λ (n : ℕ). replay_of n r.head.plan.slices a) seen-version ∙ ap (λ (h : Head). replay_of v.number h.plan.slices a) seen-head)
+        replay-held b (sym clean ∙ seen-form) x c y a u
+        (e ∙ ap (λ (n : ℕ). replay_of n s.head.plan.slices a) seen-version ∙ ap (λ (h : Head). replay_of v.number h.plan.slices a) seen-head)
