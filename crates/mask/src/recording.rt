@@ -9,8 +9,10 @@ ghost use Rattle.record_replay.specs.Replayed.{ReplayLeft};
 use basis::answer::CountAnswer;
 use basis::number::Tolerance;
 use record_replay::replay::ReplayAnswer;
+use record_write::kept::Kept;
 use select::class::Starts;
-use stitch_run::plan::Plan;
+use stitch::lent::Lent;
+use stitch_run::plan::{Plan, Slices};
 
 // Writes the record of a stitch, of the version asked for, at the front of the lent bytes. Says how many bytes it has.
 pub fn mask_record_write(
@@ -52,18 +54,19 @@ pub fn mask_record_write(
         selector,
         tolerance,
     };
-    record_write::write::write(
-        version,
-        outline1,
+    let kept = Kept {
+        slices: Slices {
+            outline1,
+            outline2,
+            slice_at,
+            slice,
+            plan,
+        },
         edition1,
-        outline2,
         edition2,
-        slice_at,
-        slice,
         slice_edition,
-        plan,
-        bytes,
-    )
+    };
+    record_write::write::write(version, &kept, bytes)
 }
 
 // A record's stitch, run again in the lent lists, which are those of `mask_stitch`.
@@ -77,5 +80,12 @@ pub fn mask_record_replay(
 ) -> ReplayAnswer
     ensures { ReplayLeft bytes.now (lists room.old ends.old chain.old chain_ends.old chain_how.old) result (lists room.new ends.new chain.new chain_ends.new chain_how.new) }
 {
-    record_replay::replay::replay(bytes, room, ends, chain, chain_ends, chain_how)
+    let mut lent = Lent {
+        room,
+        ends,
+        chain,
+        chain_ends,
+        chain_how,
+    };
+    record_replay::replay::replay(bytes, &mut lent)
 }
