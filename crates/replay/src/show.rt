@@ -2,6 +2,7 @@
 use record_form::form;
 use record_replay::replay;
 use std::io;
+use stitch::lent::Lent;
 
 // An entry for each slice that is taken; three numbers for each vertex of the need, which is the most where each slice has the most vertices.
 const SLICES: usize = form::TAKEN_SLICES;
@@ -156,14 +157,14 @@ pub(crate) fn replay<R: Print + Eprint + Alloc>(rt: &R, bytes: &[u8]) {
     let mut chain = [0usize; SLICES];
     let mut chain_ends = [0usize; SLICES];
     let mut chain_how = [0usize; SLICES];
-    let r = replay::replay(
-        bytes,
-        &mut room,
-        &mut ends,
-        &mut chain,
-        &mut chain_ends,
-        &mut chain_how,
-    );
+    let mut lent = Lent {
+        room: &mut room,
+        ends: &mut ends,
+        chain: &mut chain,
+        chain_ends: &mut chain_ends,
+        chain_how: &mut chain_how,
+    };
+    let r = replay::replay(bytes, &mut lent);
     if r.refusal != 0 {
         refused(rt, r.refusal);
         return;
