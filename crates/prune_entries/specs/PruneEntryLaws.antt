@@ -16,7 +16,6 @@ use Rattle.prune_write.specs.Ready.{Ready, Written}
 use Rattle.prune_write.specs.PruneTheorems.{cands-sound, overlaps-sound}
 use Rattle.prune_entries.specs.declared.answer.PruneAnswer.{PruneAnswer}
 use Rattle.prune_entries.specs.Answers.{prune_refused, prune_given}
-use Rattle.prune_entries.specs.PruneRows.{room_rows}
 use Rattle.prune_entries.specs.PruneEntry.{cands_rows, laps_rows, codes_rows, numbers_rows, starts_rows, reaches_rows, input_rows, lent_rows, prune_refusal, prune_number, PruneLeft, Sound}
 
 -- ---- the candidates of one outline

@@ -8,5 +8,5 @@ use Rattle.slice.specs.Slice.{slice_of}
 use Rattle.slice.specs.Ready.{Rooms, Placed}
 
 -- a slice that was written is known by other names
-pub placed-as : (x y : Codes) (s t : Shape) (k : ℕ) (l l' : Rooms) (m r : ℕ) → x ≡ y → s ≡ t → Placed (slice_of x s k ∷ []) l m r l' → Placed (slice_of y t k ∷ []) l m r l'
-placed-as x y s t k l l' m r e f p = rw (e, f) at p
+pub placed_as : (x y : Codes) (s t : Shape) (k : ℕ) (l l' : Rooms) (m r : ℕ) → x ≡ y → s ≡ t → Placed (slice_of x s k ∷ []) l m r l' → Placed (slice_of y t k ∷ []) l m r l'
+placed_as x y s t k l l' m r e f p = rw (e, f) at p

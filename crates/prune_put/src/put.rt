@@ -1,3 +1,4 @@
+#![tactic(auto, using(crate::proofs::Placing::placed_as))]
 // One slice written into lent room, and the rest of the room cleared.
 ghost use Rattle.std.specs.Prelude.{[], ◌∷◌, ◌+◌};
 ghost use Rattle.slice.specs.Ready.{rooms_in, Same, Placed};

@@ -13,6 +13,7 @@ use prune_put::put;
 use slice::write::Lent;
 
 // Writes the candidates of one outline that stay, as slices from number m on, and says where they end.
+#[tactic(auto, using(crate::specs::WriteLaws::keeping))]
 pub fn write_kept(cands: &Cands, count: usize, part: Part, lent: &mut Lent, m: usize) -> usize
     requires { KeepFit (cands_in cands.now) count (rooms_in lent.old) m }
     ensures same { Same lent.old lent.new }
@@ -30,6 +31,7 @@ pub fn write_kept(cands: &Cands, count: usize, part: Part, lent: &mut Lent, m: u
 }
 
 // Writes the overlaps for outline 1 or for outline 2, as slices from number m on, and says where they end.
+#[tactic(auto, using(crate::specs::WriteLaws::lapping))]
 fn write_laps(laps: &Overlaps, count: usize, first: bool, lent: &mut Lent, m: usize) -> usize
     requires { LapsFit (laps_in laps.now) count (rooms_in lent.old) m }
     ensures same { Same lent.old lent.new }

@@ -1,5 +1,4 @@
 use borrow.Author.Rules.{rules}
-use Prim.Native.Nat.{◌-◌}
 use Rattle.slice.specs.SliceLaws.{codes-there}
 use Rattle.slice.proofs.Comparing.{compare-none, compare-more, compare-end}
 use Rattle.slice.proofs.edition.editions_differ.Goals as goal

@@ -1,5 +1,4 @@
 use borrow.Author.Rules.{rules}
-use Prim.Native.Nat.{◌-◌}
 use Rattle.basis.specs.RoomLaws.{clearing}
 use Rattle.slice.proofs.edition.fill.Goals as goal
 
