@@ -1,5 +1,5 @@
 // The slices of a stitch, put on lists: their layout, and every slice on its list.
-ghost use Rattle.stitch_links.specs.Hanging.{FarFit, Laying, LaidBy, Hangable, Hanged};
+ghost use Rattle.stitch_links.specs.Hanging.{Laying, LaidBy, Hangable, Hanged};
 
 use basis::number;
 use basis::number::Tolerance;
@@ -41,9 +41,8 @@ fn share(s: Point, middle: Point, near: Tolerance) -> f64 {
 }
 
 // Slices crowd: many begin near the middle one's start point, at others. Every fifth is looked at, to be quick; where five points take turns, none of these begins where the middle one does.
-fn is_crowded(points: &[f64], count: usize, middle: Point, near: Tolerance) -> bool
-    requires { FarFit points.now count }
-{
+fn is_crowded(points: &[f64], middle: Point, near: Tolerance) -> bool {
+    let count = points.len() / 2;
     let mut crowd = 0.0;
     for i in ((count / 2 + 1) % 5..count).step_by(5) {
         crowd = crowd + share(read::point_at(points, 2 * i), middle, near);
@@ -53,13 +52,11 @@ fn is_crowded(points: &[f64], count: usize, middle: Point, near: Tolerance) -> b
 
 // Of the slices that crowd, two that follow one another and begin at different points are to be in different cells, by the axis on which they are farther apart.
 // Then slices of a list mostly begin at one point, and make runs. Where points are too near for that, cells are narrow on both axes, and hold few points that an end does not reach.
-fn narrow_of(points: &[f64], count: usize, middle: Point, near: Tolerance, t: Tolerance) -> Axes
-    requires { FarFit points.now count }
-{
+fn narrow_of(points: &[f64], middle: Point, near: Tolerance, t: Tolerance) -> Axes {
     let mut x = WIDE;
     let mut y = WIDE;
     let mut last = middle;
-    for i in 0..count {
+    for i in 0..points.len() / 2 {
         let s = read::point_at(points, 2 * i);
         if is_near(s, middle, near) {
             let dx = number::magnitude(s.x - last.x) / t.x;
@@ -82,10 +79,9 @@ fn narrow_of(points: &[f64], count: usize, middle: Point, near: Tolerance, t: To
     }
 }
 
-fn width_of(points: &[f64], count: usize, t: Tolerance) -> Axes
-    requires { FarFit points.now count }
-{
+fn width_of(points: &[f64], t: Tolerance) -> Axes {
     let wide = Axes { x: WIDE, y: WIDE };
+    let count = points.len() / 2;
     if count == 0 {
         return wide;
     }
@@ -94,20 +90,18 @@ fn width_of(points: &[f64], count: usize, t: Tolerance) -> Axes
         x: WIDE * t.x,
         y: WIDE * t.y,
     };
-    if !is_crowded(points, count, middle, near) {
+    if !is_crowded(points, middle, near) {
         return wide;
     }
-    narrow_of(points, count, middle, near, t)
+    narrow_of(points, middle, near, t)
 }
 
 // So far that the last digit of a moved coordinate is some tolerances wide, and that no moved start point is below the half. This is for speed alone: there is no promise.
-fn far_of(points: &[f64], count: usize, t: Tolerance) -> Axes
-    requires { FarFit points.now count }
-{
-    let w = width_of(points, count, t);
+fn far_of(points: &[f64], t: Tolerance) -> Axes {
+    let w = width_of(points, t);
     let mut x = ONE_WIDE * w.x * t.x;
     let mut y = ONE_WIDE * w.y * t.y;
-    for i in 0..count {
+    for i in 0..points.len() / 2 {
         let s = read::point_at(points, 2 * i);
         x = x.max(4.0 * number::magnitude(s.x));
         y = y.max(4.0 * number::magnitude(s.y));
@@ -138,7 +132,7 @@ pub fn hang(points: &[f64], link: &mut [usize], p: Plan, lists: usize) -> Layout
     if lists == 0 {
         return layout_of(p, 0, Axes { x: 2.0, y: 2.0 });
     }
-    let w = layout_of(p, lists, far_of(points, p.slices, p.tolerance));
+    let w = layout_of(p, lists, far_of(&points[..2 * p.slices], p.tolerance));
     layout::link_slices(points, link, w);
     w
 }
