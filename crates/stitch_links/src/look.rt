@@ -68,6 +68,7 @@ fn first_on(look: &Look, link: &mut [usize], h: usize) -> usize
     let mut at = h;
     let mut next = link[at];
     let mut seen = 0;
+    // No `for`: each link says where the next one stands, and links are changed on the way.
     while next < end {
         let j = next - lists;
         if !is_free(look.visited, look.query.first, j) {
