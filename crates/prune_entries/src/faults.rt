@@ -165,14 +165,3 @@ pub fn room_refusal(need: usize, at: usize, slice: usize, edition: usize) -> Res
     slice::faults::room_refusal(need, at, slice)?;
     editions::room_refusal(need, edition)
 }
-
-// The same as a number.
-pub fn lent_refusal(need: usize, at: usize, slice: usize, edition: usize) -> u32
-    requires { Countable need }
-    ensures { result ≡ first_from 0 (room_rows need at slice edition) }
-{
-    match room_refusal(need, at, slice, edition) {
-        Err(refusal) => refusal.number(),
-        Ok(()) => 0,
-    }
-}
