@@ -9,7 +9,7 @@ pub fn near_vertex(z: i64) -> bool
     -400_000_000 <= z && z <= 400_000_000
 }
 
-// A doubled coordinate of a probe.
+// A doubled coordinate of a probe. One line of its own: with the limit as a parameter, the check would ask whether its negation fits.
 pub(crate) fn near_probe(z: i64) -> bool
     ensures { result ≡ in_reach 800000000 z }
 {

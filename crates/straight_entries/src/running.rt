@@ -10,7 +10,7 @@ use basis::refuse::Refusal;
 use whole::two;
 use whole::two::Two;
 
-// The lower of two refusals, where 0 is none.
+// The lower of two refusals, where 0 is none. They stay numbers: the two answers are those of the C interface.
 #[tactic(auto, using(basis::specs::Choice::cases), unfolding(crate::specs::Running::lowest))]
 fn lowest_of(n: u32, m: u32) -> u32
     ensures { result ≡ lowest n m }
