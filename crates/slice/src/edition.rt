@@ -1,9 +1,8 @@
 #![tactic(auto, unfolding(basis::specs::Refuse::first_from, basis::specs::Refuse::or_else))]
-// The editions of slices: set, and compared with those of their outlines.
-ghost use Rattle.std.specs.Prelude.{◌≡◌, length};
+// The editions of slices, compared with those of their outlines.
+ghost use Rattle.std.specs.Prelude.{◌≡◌};
 ghost use Rattle.basis.specs.Refuse.{first_from};
 ghost use Rattle.basis.specs.Refusals.{found};
-ghost use Rattle.basis.specs.Room.{cleared, Stretch};
 ghost use Rattle.slice.specs.Editions.{editions, edition_of, edition_fault, edition_list_rows, edition_rows, edition_room_rows};
 ghost use Rattle.slice.specs.Ready.{EditionsThere};
 
@@ -11,18 +10,6 @@ use crate::data::CODE_WIDTH;
 use crate::read;
 use basis::refuse;
 use basis::refuse::Refusal;
-
-// Sets the editions from `from` up to `to` to one number.
-pub fn fill(room: &mut [u32], from: usize, to: usize, edition: u32)
-    requires { Stretch room.old from to }
-    ensures { room.new ≡ cleared edition from to room.old }
-{
-    let mut i = from;
-    while i < to {
-        room[i] = edition;
-        i += 1;
-    }
-}
 
 // The edition of the outline that a source names.
 fn edition_of(edition1: u32, edition2: u32, source: usize) -> u32
