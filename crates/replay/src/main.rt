@@ -14,10 +14,7 @@ const NAME_TOO_LONG: i32 = 36;
 // Whether there is an argument of this number. The program's name is number 0.
 fn given(rt: &impl Env, i: usize) -> bool {
     let mut start = [0u8; 1];
-    match rt.arg(i, &mut start) {
-        Err(FillError::NotPresent) => false,
-        _ => true,
-    }
+    !matches!(rt.arg(i, &mut start), Err(FillError::NotPresent))
 }
 
 fn replay_file<R: Files + Print + Eprint + Alloc>(rt: &R, path: &str) {

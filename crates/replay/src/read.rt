@@ -1,5 +1,5 @@
 // Reading a record.
-ghost use Rattle.std.specs.Prelude.{◌≤◌, length};
+ghost use Rattle.std.specs.Prelude.{◌≤◌, length, IfOk};
 
 use crate::show;
 use record_form::form;
@@ -9,51 +9,26 @@ use std::io::Read;
 // One byte more than a record of either version has at most, so that a longer one is seen to be longer.
 const BYTES: usize = form::RECORD2_MOST + 1;
 
-// How many bytes were read, and why a read failed, where one did.
-#[derive(Clone, Copy)]
-struct Input {
-    count: usize,
-    failed: Option<io::Error>,
-}
-
-// Reads until the list is full, the input ends or a read fails. A turn reads a byte at least, so there are no more turns than bytes.
-fn read_all<F: Read>(file: &mut F, bytes: &mut [u8]) -> Input
-    ensures { result.count ≤ length bytes.new }
+// Reads until the list is full, the input ends or a read fails: how many bytes. A turn reads a byte at least, so there are no more turns than bytes.
+fn read_all<F: Read>(file: &mut F, bytes: &mut [u8]) -> io::Result<usize>
+    ensures { IfOk result (λ n. n ≤ length bytes.new) }
 {
     let mut done = 0;
-    let mut turns = bytes.len();
-    while turns > 0 {
-        match file.read(&mut bytes[done..]) {
-            Err(e) => {
-                return Input {
-                    count: done,
-                    failed: Some(e),
-                };
-            }
-            Ok(0) => {
-                return Input {
-                    count: done,
-                    failed: None,
-                };
-            }
-            Ok(got) => done += got,
+    'turns: for _ in 0..bytes.len() {
+        let got = file.read(&mut bytes[done..])?;
+        if got == 0 {
+            break;
         }
-        turns -= 1;
+        done += got;
     }
-    Input {
-        count: done,
-        failed: None,
-    }
+    Ok(done)
 }
 
 // Replays the record that can be read there, or says by that name why it cannot.
 pub(crate) fn replay_from<R: Print + Eprint + Alloc, F: Read>(rt: &R, file: &mut F, name: &str) {
     let mut bytes = [0u8; BYTES];
-    let input = read_all(file, &mut bytes);
-    if let Some(e) = input.failed {
-        show::fail(rt, name, e);
-        return;
+    match read_all(file, &mut bytes) {
+        Ok(n) => show::replay(rt, &bytes[..n]),
+        Err(e) => show::fail(rt, name, e),
     }
-    let n = input.count;
-    show::replay(rt, &bytes[..n]);
 }

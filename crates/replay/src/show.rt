@@ -9,14 +9,6 @@ const SLICES: usize = form::TAKEN_SLICES;
 
 const ROOM: usize = 3 * (1 + SLICES * (form::TAKEN_VERTICES + 1));
 
-fn word(rt: &impl Print, text: &[u8]) {
-    let _ = rt.write_all(text);
-}
-
-fn number(rt: &impl Print, n: usize) {
-    let _ = print!(rt; "{n}");
-}
-
 // The words of an error, without the number that std puts behind those of the system.
 fn words(text: &str) -> &str {
     match text.split_once(" (os error ") {
@@ -34,8 +26,8 @@ pub(crate) fn fail<R: Eprint + Alloc>(rt: &R, what: &str, why: io::Error) {
 }
 
 // The first word of an answer. Where it cannot be written, on a full disk, that is said, and there is no answer.
-fn first_word<R: Print + Eprint + Alloc>(rt: &R, text: &[u8]) -> bool {
-    match rt.write_all(text) {
+fn first_word<R: Print + Eprint + Alloc>(rt: &R, text: &str) -> bool {
+    match print!(rt; "{text}") {
         Ok(()) => true,
         Err(e) => {
             fail(rt, "standard output", e);
@@ -44,109 +36,50 @@ fn first_word<R: Print + Eprint + Alloc>(rt: &R, text: &[u8]) -> bool {
     }
 }
 
-fn refused<R: Print + Eprint + Alloc>(rt: &R, n: u32) {
-    if first_word(rt, b"refused ") {
-        number(rt, n as usize);
-        word(rt, b"\n");
-    }
+// The four lists of the chains and loops of an answer.
+#[derive(Clone, Copy)]
+struct Lists<'a> {
+    chain: &'a [usize],
+    chain_ends: &'a [usize],
+    chain_how: &'a [usize],
+    ends: &'a [usize],
 }
 
-fn at(list: &[usize; SLICES], i: usize) -> usize {
-    if i < SLICES { list[i] } else { 0 }
-}
-
-fn between(from: usize, to: usize) -> usize {
-    if from <= to { to - from } else { 0 }
-}
-
-fn next(i: usize) -> usize {
-    if i < SLICES { i + 1 } else { i }
+// Number i of a list, and 0 beyond its end.
+fn at(list: &[usize], i: usize) -> usize {
+    list.get(i).copied().unwrap_or(0)
 }
 
 // How a chain ended.
-fn ending(rt: &impl Print, how: usize) {
+fn ending(how: usize) -> &'static str {
     match how {
-        0 => word(rt, b"closed "),
-        1 => word(rt, b"small "),
-        2 => word(rt, b"empty "),
-        _ => word(rt, b"unselected "),
+        0 => "closed",
+        1 => "small",
+        2 => "empty",
+        _ => "unselected",
     }
 }
 
-// The slices of a chain.
-fn slices(rt: &impl Print, chain: &[usize; SLICES], from: usize, to: usize) {
-    let mut i = from;
-    let mut left = between(from, to);
-    while left > 0 {
-        number(rt, at(chain, i));
-        word(rt, b" ");
-        i = next(i);
-        left -= 1;
-    }
-}
-
-// Where the printing stands: slices, returned vertices and loops so far.
-#[derive(Clone, Copy)]
-struct Shown {
-    slices: usize,
-    vertices: usize,
-    loops: usize,
-}
-
-// One chain: its slices, how it ended, the vertices of its loop, 0 unless it closed.
-fn line(
-    rt: &impl Print,
-    chain: &[usize; SLICES],
-    to: usize,
-    how: usize,
-    end: usize,
-    shown: Shown,
-) -> Shown {
-    slices(rt, chain, shown.slices, to);
-    ending(rt, how);
-    if how != 0 {
-        word(rt, b"0\n");
-        return Shown {
-            slices: to,
-            vertices: shown.vertices,
-            loops: shown.loops,
-        };
-    }
-    number(rt, between(shown.vertices, end));
-    word(rt, b"\n");
-    Shown {
-        slices: to,
-        vertices: end,
-        loops: next(shown.loops),
-    }
-}
-
-fn chains(
-    rt: &impl Print,
-    chain: &[usize; SLICES],
-    chain_ends: &[usize; SLICES],
-    chain_how: &[usize; SLICES],
-    ends: &[usize; SLICES],
-    count: usize,
-) {
-    let mut shown = Shown {
-        slices: 0,
-        vertices: 0,
-        loops: 0,
-    };
-    let mut i = 0;
-    let mut left = count;
-    while left > 0 {
-        shown = line(
-            rt,
-            chain,
-            at(chain_ends, i),
-            at(chain_how, i),
-            at(ends, shown.loops),
-            shown,
-        );
-        i = next(i);
-        left -= 1;
+// A line for each chain: its slices, how it ended, the vertices of its loop, 0 unless it closed.
+fn chains(rt: &impl Print, l: Lists, count: usize) {
+    let mut slices = 0;
+    let mut vertices = 0;
+    let mut loops: usize = 0;
+    for i in 0..count {
+        let to = at(l.chain_ends, i);
+        for k in slices..to {
+            let _ = print!(rt; "{} ", at(l.chain, k));
+        }
+        slices = to;
+        let how = at(l.chain_how, i);
+        let mut own = 0;
+        if how == 0 {
+            let end = at(l.ends, loops);
+            own = end.saturating_sub(vertices);
+            vertices = end;
+            loops = loops.saturating_add(1);
+        }
+        let _ = println!(rt; "{} {own}", ending(how));
     }
 }
 
@@ -166,17 +99,19 @@ pub(crate) fn replay<R: Print + Eprint + Alloc>(rt: &R, bytes: &[u8]) {
     };
     let r = replay::replay(bytes, &mut lent);
     if r.refusal != 0 {
-        refused(rt, r.refusal);
+        if first_word(rt, "refused ") {
+            let _ = println!(rt; "{}", r.refusal);
+        }
         return;
     }
-    if !first_word(rt, b"slices ") {
-        return;
+    if first_word(rt, "slices ") {
+        let _ = println!(rt; "{} rounds {} loops {}", r.slices, r.rounds, r.loops);
+        let lists = Lists {
+            chain: &chain,
+            chain_ends: &chain_ends,
+            chain_how: &chain_how,
+            ends: &ends,
+        };
+        chains(rt, lists, r.chains);
     }
-    number(rt, r.slices);
-    word(rt, b" rounds ");
-    number(rt, r.rounds);
-    word(rt, b" loops ");
-    number(rt, r.loops);
-    word(rt, b"\n");
-    chains(rt, &chain, &chain_ends, &chain_how, &ends, r.chains);
 }
