@@ -6,6 +6,7 @@ ghost use Rattle.stitch.specs.Lent.{lists};
 ghost use Rattle.named_entries.specs.NamedStitch.{tolerance_in, NamedStitch};
 
 use crate::known;
+use basis::refuse::Refusal;
 use stitch_entries::answer;
 use stitch_entries::answer::StitchAnswer;
 
@@ -37,7 +38,7 @@ pub fn entry(
     ensures { NamedStitch (held entered.now settings.now) setting (given outline1.now outline2.now slice_at.now slice.now (plan_of vc1 vc2 slices (record { pline2 = pline2; pline1_overlapping = pline1_overlapping; pline2_overlapping = pline2_overlapping }) selector (tolerance_in (held entered.now settings.now) setting))) (editions edition1 edition2 slice_edition.now) (lists room.old ends.old chain.old chain_ends.old chain_how.old) result (lists room.new ends.new chain.new chain_ends.new chain_how.new) }
 {
     if settings::bad_lengths(entered, settings) {
-        return answer::stitch_refused(1);
+        return answer::stitch_refused(Refusal::Length.number());
     }
     let s = settings::ask(entered, settings, setting);
     let given = stitch_entries::stitching::entry(
@@ -64,7 +65,7 @@ pub fn entry(
         chain_how,
     );
     if known::is_unknown(entered, setting, given.refusal) {
-        return answer::stitch_refused(16);
+        return answer::stitch_refused(Refusal::UnknownSetting.number());
     }
     given
 }

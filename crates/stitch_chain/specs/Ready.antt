@@ -3,6 +3,7 @@ use Rattle.std.specs.Prelude.{ℕ, ◌+◌, ◌*◌, ◌≤◌, ◌<◌, Bool, t
 use Rattle.outline.specs.declared.point.Vertex.{Vertex}
 use Rattle.stitch_vertices.specs.Held.{chain_of}
 use Rattle.stitch_tally.specs.declared.tally.ChainEnd.{ChainEnd}
+use Rattle.stitch_chain.specs.declared.table.Table.{Table}
 use Rattle.stitch_slices.specs.Ready.{Sound, Points, SliceMore, SliceAdded}
 use Rattle.stitch_layout.specs.declared.layout.Layout.{Layout}
 use Rattle.stitch_links.specs.Hung.{Between}
@@ -17,6 +18,16 @@ pub record Begun {A : Type 0} (k : ℕ) (items entry : List A) (need : ℕ) (l :
   pub counted : k ≡ length items
   pub beyond : drop need l ≡ drop need entry
   pub size : length l ≡ length entry
+
+-- ---- a table is still over the same lists, which are as long as they were
+
+pub record SameTable (t t' : Table) : Type 0 where
+  pub points : t'.points ≡ t.points
+  pub layout : t'.layout ≡ t.layout
+  pub visited : t'.visited.ghost_name ≡ t.visited.ghost_name
+  pub link : t'.link.ghost_name ≡ t.link.ghost_name
+  pub marks : length t'.visited.now ≡ length t.visited.now
+  pub links : length t'.link.now ≡ length t.link.now
 
 -- ---- a chain
 

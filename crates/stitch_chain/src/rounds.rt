@@ -1,9 +1,9 @@
 // A chain: round after round, from its first slice to its end.
 ghost use Rattle.stitch_run.specs.Stitch.{given_of};
-ghost use Rattle.stitch_chain.specs.Ready.{Placing, Placed, Opening, Walked};
+ghost use Rattle.stitch_chain.specs.Ready.{Placing, Placed, SameTable, Opening, Walked};
 
+use crate::table::Table;
 use stitch_answer::answer::Round;
-use stitch_layout::layout::Layout;
 use stitch_round::step;
 use stitch_round::step::Step;
 use stitch_run::plan::Slices;
@@ -21,19 +21,21 @@ fn place(visited: &mut [bool], room: &mut [f64], n: usize, s: &Slices, j: usize)
 
 // The chain that begins with slice `first`, in a room that begins with it. Each round lists its slice, after the rounds of the chains before.
 pub fn walk_chain(
-    visited: &mut [bool],
-    link: &mut [usize],
+    t: &mut Table,
     room: &mut [f64],
     chain: &mut [usize],
     s: &Slices,
-    points: &[f64],
-    layout: Layout,
     first: usize,
     before: usize,
 ) -> ChainEnd
-    requires { Opening (given_of s.now) first points.now visited.old link.old layout room.old chain.old before }
-    ensures { Walked (given_of s.now) first points.now layout room.old chain.old result visited.new link.new room.new chain.new }
+    requires { Opening (given_of s.now) first t.old.points.now t.old.visited.now t.old.link.now t.old.layout room.old chain.old before }
+    ensures same { SameTable t.old t.new }
+    ensures walked { Walked (given_of s.now) first t.old.points.now t.old.layout room.old chain.old result t.new.visited.now t.new.link.now room.new chain.new }
 {
+    let points = t.points;
+    let layout = t.layout;
+    let visited = &mut *t.visited;
+    let link = &mut *t.link;
     let mut n = place(visited, room, 0, s, first);
     let mut current = first;
     let mut rounds = before;

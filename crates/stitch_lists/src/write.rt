@@ -7,6 +7,7 @@ use basis::sizes::MOST_SLICES;
 use stitch::lent::Lent;
 use stitch::write::Stitched;
 use stitch::{turn, write};
+use stitch_chain::table::Table;
 use stitch_links::hang;
 use stitch_run::plan::Slices;
 use stitch_slices::slices;
@@ -40,7 +41,13 @@ fn write_with(
 {
     slices::fill_points(points, s);
     let layout = hang::hang(points, link, s.plan, held);
-    let w = turn::take_turns(visited, link, x, s, points, layout);
+    let mut t = Table {
+        points,
+        visited,
+        link,
+        layout,
+    };
+    let w = turn::take_turns(&mut t, x, s);
     let need = write::room_need(s.slice_at, s.plan.slices);
     clear_rest(x, w, need, s.plan.slices);
     Stitched {

@@ -18,18 +18,12 @@ place-n-requires-in-Onto c =
 pub loop-j-preserved : goal.loop-j-preserved
 loop-j-preserved c = search (rules, walking)
 
-pub shape_of-visited-in-Ends : goal.shape_of-visited-in-Ends
-shape_of-visited-in-Ends c = search (rules, walking)
-
-pub shape_of-link-in-Ends : goal.shape_of-link-in-Ends
-shape_of-link-in-Ends c = search (rules, walking)
-
 pub shape_of-room-in-Ends : goal.shape_of-room-in-Ends
 shape_of-room-in-Ends c = search (rules, walking)
 
 pub shape_of-chain-in-Ends : goal.shape_of-chain-in-Ends
 shape_of-chain-in-Ends c = search (rules, walking)
 
-pub returns-in-Ends : goal.returns-in-Ends
-returns-in-Ends c =
+pub returns-in-Ends-clause-walked : goal.returns-in-Ends-clause-walked
+returns-in-Ends-clause-walked c =
     walk-whole _ _ _ _ _ _ _ _ c.requires c.place-n.ensures (walk_end _ _ _ _ _ _ _ _ c.loop-j.invariant c.next_of.ensures c.in-Ends.is)
