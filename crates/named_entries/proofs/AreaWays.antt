@@ -24,11 +24,11 @@ module _ (h : Held) (e : ℕ) (areas : List Float) (loops : ℕ) (kept : List �
   unfolding limit_ok neg le of_bits
   limit-out f = ap (λ (s : Setting). not (limit_ok s.area_limit)) (asked-none h e f)
 
-  pub area-length : (b : Bool) (r : CountAnswer) → b ≡ lengths_fault h → b ≡ true → r ≡ count_refused 1 → NamedArea h e areas loops kept r kept
+  pub area-length : (b : Bool) (k : ℕ) (r : CountAnswer) → b ≡ lengths_fault h → b ≡ true → k ≡ 1 → r ≡ count_refused k → NamedArea h e areas loops kept r kept
   unfolding named_area_refusal
-  area-length b r is bad q =
+  area-length b k r is bad z q =
       let one = is-1 h e (area_list_rows areas loops) _ (sym is ∙ bad) in
-      record { answers = answer-no count_refused 1 _ _ r one (λ z. omega arith) q; list = answer-no (λ _. kept) 1 _ _ kept one (λ z. omega arith) refl }
+      record { answers = answer-no count_refused 1 _ _ r one (λ z. omega arith) (q ∙ ap count_refused z); list = answer-no (λ _. kept) 1 _ _ kept one (λ z. omega arith) refl }
 
   module _ (b : Bool) (s : Setting) (a : CountAnswer) (left : List ℕ) (u : Bool) (r : CountAnswer) (is : b ≡ lengths_fault h) (good : b ≡ false) (asked : s ≡ asked_of h e)
       (given : AreaLeft areas loops s.area_limit kept a left) (told : u ≡ unknown_fault h.entered e a.refusal) where
@@ -41,12 +41,12 @@ module _ (h : Held) (e : ℕ) (areas : List Float) (loops : ℕ) (kept : List �
     of_number : u ≡ unknown_fault h.entered e number
     of_number = told ∙ ap (λ (n : ℕ). unknown_fault h.entered e n) (answer-number count_refused (λ (x : CountAnswer). x.refusal) number _ a (λ k. refl) refl given'.answers)
 
-    pub area-unknown : u ≡ true → r ≡ count_refused 16 → NamedArea h e areas loops kept r left
+    pub area-unknown : (k : ℕ) → u ≡ true → k ≡ 16 → r ≡ count_refused k → NamedArea h e areas loops kept r left
     unfolding area_refusal named_area_refusal
-    area-unknown q w =
+    area-unknown k q z w =
         let n = is-16 h e (sym is ∙ good) (area_last_rows areas loops (length kept)) (area_list_rows areas loops) _ tt limit-out number refl u of_number q in
         record {
-          answers = answer-no count_refused 16 _ _ r n (λ z. omega arith) w;
+          answers = answer-no count_refused 16 _ _ r n (λ z. omega arith) (w ∙ ap count_refused z);
           list = answer-still kept _ left number _ (was-4 h.entered e number u of_number q) n given'.list;
         }
 

@@ -29,12 +29,12 @@ unfolding tolerable tolerable_on neg lt le of_bits
 tolerance-out h k f = ap (λ (s : Setting). not (tolerable (tolerance_of s.tolerance_x s.tolerance_y))) (asked-none h k f)
 
 module _ (h : Held) (k : ℕ) (g : Given) (e : Editions) (x : Lists) where
-  pub stitch-length : (b : Bool) (r : StitchAnswer) → b ≡ lengths_fault h → b ≡ true → r ≡ stitch_refused 1 → NamedStitch h k g e x r x
+  pub stitch-length : (b : Bool) (m : ℕ) (r : StitchAnswer) → b ≡ lengths_fault h → b ≡ true → m ≡ 1 → r ≡ stitch_refused m → NamedStitch h k g e x r x
   unfolding named_stitch_refusal
-  stitch-length b r is bad q =
+  stitch-length b m r is bad z q =
       let one = is-1 h k (early_part g e) _ (sym is ∙ bad) in
       record {
-        answers = answer-no stitch_refused 1 _ _ r one (λ z. omega arith) q;
+        answers = answer-no stitch_refused 1 _ _ r one (λ z. omega arith) (q ∙ ap stitch_refused z);
         room = answer-no (λ _. x.room) 1 _ _ x.room one (λ z. omega arith) refl;
         ends = answer-no (λ _. x.ends) 1 _ _ x.ends one (λ z. omega arith) refl;
         chain = answer-no (λ _. x.chain) 1 _ _ x.chain one (λ z. omega arith) refl;
@@ -91,8 +91,8 @@ module _ (h : Held) (k : ℕ) (o1 o2 : List Float) (at : List ℕ) (numbers : Li
     base' : StitchLeft (with (tolerance_in h k)) e x a left
     base' = subst (λ (t : Setting). StitchLeft (with (tolerance_of t.tolerance_x t.tolerance_y)) e x a left) asked base
 
-    pub stitch-unknown : u ≡ true → r ≡ stitch_refused 16 → NamedStitch h k (with (tolerance_in h k)) e x r left
-    stitch-unknown q w = by-16 h k (with (tolerance_in h k)) e x refl (sym is ∙ good) a left base' u told r q w
+    pub stitch-unknown : (m : ℕ) → u ≡ true → m ≡ 16 → r ≡ stitch_refused m → NamedStitch h k (with (tolerance_in h k)) e x r left
+    stitch-unknown m q z w = by-16 h k (with (tolerance_in h k)) e x refl (sym is ∙ good) a left base' u told r q (w ∙ ap stitch_refused z)
 
     pub stitch-named : u ≡ false → r ≡ a → NamedStitch h k (with (tolerance_in h k)) e x r left
     stitch-named q w = by-same h k (with (tolerance_in h k)) e x refl (sym is ∙ good) a left base' u told r q w

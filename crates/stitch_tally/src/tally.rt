@@ -37,6 +37,7 @@ pub fn list_chain(chain_ends: &mut [usize], chain_how: &mut [usize], k: usize, e
 }
 
 // Lists the loop of a closed chain: its vertices without the last. Says what is finished now.
+#[tactic(auto, using(basis::specs::Choice::cases), unfolding(crate::specs::Tallied::tally_after, crate::specs::Tallied::ends_after, stitch_run::specs::Stitch::how_of))]
 pub fn list_loop(ends: &mut [usize], w: Tally, e: ChainEnd) -> Tally
     requires { LoopFit ends.old w e }
     ensures { LoopListed w e ends.old result ends.new }

@@ -9,6 +9,7 @@ use view::data::ViewData;
 use view::vertex;
 
 // The vertex agrees in position with the chain's last. A chain of no vertices has no last.
+#[tactic(auto, using(crate::proofs::Growing::repeating))]
 fn is_repeat(room: &[f64], n: usize, v: Vertex, t: Tolerance) -> bool
     requires { Held room.now n }
     ensures { result ≡ repeats t (chain_of room.now n) v }

@@ -1,4 +1,4 @@
-use Rattle.named_entries.proofs.AreaWays.{ways}
+use Rattle.named_entries.proofs.AreaWays.{area-unknown, ways}
 use borrow.Author.Rules.{rules}
 use Rattle.named_entries.proofs.areas.entry.Goals as goal
 
@@ -6,7 +6,8 @@ pub returns-then-bad_lengths : goal.returns-then-bad_lengths
 returns-then-bad_lengths c = search (rules, ways)
 
 pub returns-then-is_unknown : goal.returns-then-is_unknown
-returns-then-is_unknown c = search (rules, ways)
+returns-then-is_unknown c =
+    area-unknown _ _ _ _ _ _ _ _ _ _ _ c.bad_lengths.ensures c.if-bad_lengths.false c.ask-s.ensures c.entry-given.ensures c.is_unknown.ensures _ c.if-is_unknown.true c.number-then-is_unknown.ensures c.count_refused-then-is_unknown.ensures
 
 pub returns : goal.returns
 returns c = search (rules, ways)
