@@ -34,6 +34,7 @@ pub fn walk_chain(
 {
     let points = t.points;
     let layout = t.layout;
+    // Taken out of the table: a call that reads one list of it while another is lent is not proved.
     let visited = &mut *t.visited;
     let link = &mut *t.link;
     let mut n = place(visited, room, 0, s, first);

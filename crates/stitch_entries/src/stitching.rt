@@ -72,7 +72,7 @@ pub fn stitched(
     }
 }
 
-// The slices stitched into closed loops. Each slice must have the edition of its outline.
+// The slices stitched into closed loops. Each slice must have the edition of its outline. The parameters are those of `mask_stitch`.
 pub fn entry(
     outline1: &[f64],
     vc1: usize,

@@ -15,7 +15,7 @@ use select::class::Starts;
 use stitch::write;
 use stitch_run::plan::Slices;
 
-// How long the lent lists are.
+// How long the lent lists are. Not the lists: the tables `stitch_refusal` and `named_stitch_refusal` and their theorems are over lengths.
 #[derive(Clone, Copy)]
 pub struct Lengths {
     pub room: usize,

@@ -57,7 +57,7 @@ fn write_with(
     }
 }
 
-// The stitch with working lists for up to MOST slices: two numbers a slice for their start points, and links for so many lists of cells, a link for each list and each slice, and for each slice the last of its run.
+// The stitch with working lists for up to MOST slices (a length as `2 * MOST` cannot be written, so each is a parameter): two numbers a slice for their start points, and links for so many lists of cells, a link for each list and each slice, and for each slice the last of its run.
 fn write_in<const MOST: usize, const NUMBERS: usize, const LISTS: usize, const LINKS: usize>(
     s: &Slices,
     x: &mut Lent,

@@ -1,7 +1,7 @@
 // What is counted of a stitch: how a chain ended, and what is finished then.
 ghost use Rattle.stitch_tally.specs.Tallied.{EndFit, EndListed, LoopFit, LoopListed};
 
-// How a chain ended.
+// How a chain ended. Numbers, not an enum: `list_chain` writes them to a list of the host's (`how_of` says which is which).
 pub const CLOSED: usize = 0;
 
 pub const TOO_SMALL: usize = 1;
