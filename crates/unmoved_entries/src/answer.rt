@@ -1,4 +1,4 @@
-// What `mask_unmoved` answers: a flat struct, by value.
+// What `mask_unmoved` answers: a flat struct, by value, with its flag beside the number, as the C interface has it.
 ghost use Rattle.std.specs.Prelude.{◌≡◌};
 ghost use Rattle.unmoved_entries.specs.UnmovedEntry.{unmoved_refused, unmoved_told};
 

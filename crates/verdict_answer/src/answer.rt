@@ -109,7 +109,7 @@ pub fn verdict_given(v: ViewDataValidation) -> VerdictAnswer
     }
 }
 
-// A verdict's answer as it is, with an edition beside it.
+// A verdict's answer as it is, with an edition beside it. Field by field: both structs are the C interface's, and flat.
 pub fn reopen_record(a: VerdictAnswer, edition: u32) -> ReopenAnswer
     ensures { result ≡ reopen_record a edition }
 {

@@ -1,4 +1,4 @@
-// What the entries answer: flat structs, by value. On a refusal all but its number is 0.
+// What the entries answer: flat structs, by value, with numbers and flags beside the values, as the C interface has them. On a refusal all but its number is 0.
 ghost use Rattle.std.specs.Prelude.{◌≡◌};
 ghost use Rattle.view_entries.specs.Answers.{vertex_refused, vertex_found, view_refused, view_made, segment_made};
 

@@ -1,5 +1,5 @@
 #![tactic(auto, unfolding(crate::specs::Answers::span_told))]
-// What the span's entry answers: a flat struct, by value. On a refusal all but its number is 0.
+// What the span's entry answers: a flat struct, by value, as the C interface has it. On a refusal all but its number is 0.
 ghost use Rattle.std.specs.Prelude.{◌≡◌};
 ghost use Rattle.view_start_entries.specs.Answers.{span_refused, span_told};
 
