@@ -1,4 +1,5 @@
 -- Laws of a walk along an order that a list tells: it ends at the point of the cut there.
+use Rattle.std.specs.Prelude.{Option}
 use Prim.Native.Nat.{ℕ, ◌+◌, ◌*◌}
 use mathlib.Core.Bool.{Bool, false}
 use mathlib.Core.Path.{◌≡◌, sym, ap, ◌∙◌}
@@ -25,7 +26,7 @@ told-last g cut_at splits p x here is other = record { told = here.told; last = 
 
 pub told-walk : (g : cuts.Given) (cut_at : List ℕ) (splits : List Float) (p : ℕ) → ToldLast g cut_at splits p → (count : ℕ) → count ≡ cut_count g → (n : Next) → NextCut g.vc cut_at count p n
     → (c : Cut) → c ≡ cut_of g (get_or cut_at (3 * n.cut + 2) 0) → (w : Walk) → w ≡ walk_with c.point splits (segment_at cut_at p) p n
-    → (r : Candidate) → r ≡ walked g.outline g.vc w g.tolerance → r ≡ walk_at (along g cut_at splits) p
+    → (r : Option Candidate) → r ≡ walked g.outline g.vc w g.tolerance → r ≡ walk_at (along g cut_at splits) p
 told-walk g cut_at splits p here count counted n found c e w is r d =
     walk-of g.outline cut_at (cut_points g) splits s p here.last n f w by r d
   where

@@ -1,5 +1,5 @@
 -- Closed examples, computed: document 01's T1, T2, T6 and T7, and one for each case of a place.
-use Rattle.std.specs.Prelude.{ℕ, false, ◌≡◌, refl, pos, negsuc, Float}
+use Rattle.std.specs.Prelude.{ℕ, false, ◌≡◌, refl, pos, negsuc, Float, Option, Some, None}
 use mathlib.Core.List.{List, [], ◌∷◌, map, flat_map}
 use Rattle.std.specs.Float.{fin, binary64}
 use Rattle.std.specs.Float.Ieee.{of_int, sub, lt}
@@ -11,7 +11,6 @@ use Rattle.view.specs.View.{vertex_count}
 use Rattle.view.specs.Create.{near_vertex, bulge_before, create_view, single_view}
 use Rattle.cut.specs.Cuts.{case_of}
 use Rattle.candidate.specs.declared.at_cut.Candidate.{Candidate}
-use Rattle.candidate.specs.declared.at_cut.Candidate.TheVariants.{Nothing, Slice}
 use Rattle.candidate.specs.Candidates.{Given, given, same_next, first_from, first_cut, traverse_from, traverse_of, slice_of, piece_of, walk_of, walked, walk_at, candidate_at, candidates_to, candidates_of, cand_count, cand_numbers, cand_shapes, probe_numbers}
 
 -- whole numbers as floats, and t = 1/1024
@@ -70,9 +69,9 @@ pub t7 : cand_numbers (triangle 1) ≡ 0 ∷ 3 ∷ []
 unfolding candidates_of candidates_to flat_map candidate_at walk_at walked walk_of same_next traverse_of traverse_from first_cut first_from create_view near_vertex bulge_before points_agree agree abs_f point_at vertex_at outline_at wrap of_int sub lt
 t7 = refl
 
-abbrev pub vertices_of : Candidate → List ℕ
-vertices_of Nothing = []
-vertices_of (Slice v a b) = vertex_count v ∷ []
+abbrev pub vertices_of : Option Candidate → List ℕ
+vertices_of None = []
+vertices_of (Some c) = vertex_count c.view ∷ []
 
 pub t7-vertices : flat_map vertices_of (candidates_of (triangle 1)) ≡ 5 ∷ []
 unfolding candidates_of candidates_to flat_map candidate_at walk_at walked walk_of same_next traverse_of traverse_from first_cut first_from create_view near_vertex bulge_before points_agree agree abs_f point_at vertex_at outline_at wrap of_int sub lt

@@ -11,7 +11,6 @@ use Rattle.view.specs.View.{view_numbers}
 use Rattle.view.specs.Create.{create_view, single_view}
 use Rattle.cut.specs.declared.arrival.Case.{Case}
 use Rattle.candidate.specs.declared.at_cut.Candidate.{Candidate}
-use Rattle.candidate.specs.declared.at_cut.Candidate.TheVariants.{Nothing, Slice}
 
 -- What is there: the outline, its cuts in order as `mask_cut_order` writes them, the splits along them, the tolerance.
 pub record Given : Type 0 where
@@ -79,14 +78,18 @@ traverse_of vc cut_at count s = traverse_from (vc - 1) (has_cut cut_at count) vc
 
 -- ---- what the cut at a place gives
 
+-- a candidate of its view and its two vertices
+abbrev pub candidate : ViewData → Vertex → Vertex → Option Candidate
+candidate v a b = Some (record { view = v; from = a; to = b })
+
 -- a candidate has a view; the two vertices are those "whose midpoint the host tests"
-unfoldable pub slice_of : Option ViewData → Vertex → Vertex → Candidate
-slice_of (Some v) a b = Slice v a b
-slice_of None a b = Nothing
+unfoldable pub slice_of : Option ViewData → Vertex → Vertex → Option Candidate
+slice_of (Some v) a b = candidate v a b
+slice_of None a b = None
 
 -- "a piece between neighbours on the segment unless [..] the split's two positions agree"; it is tested between "the split's start part and split vertex". Where they agree
 -- `create_on_single_segment` has no view; K12: "a piece whose ends were tested apart always gets its view"
-unfoldable pub piece_of : ℕ → Vertex → Vertex → Tolerance → Candidate
+unfoldable pub piece_of : ℕ → Vertex → Vertex → Tolerance → Option Candidate
 piece_of s a b t = slice_of (single_view s a (pos_of b) t) a b
 
 -- "A walk ends at that segment's first cut, and that cut's own split is the one supplied to `create`."
@@ -110,52 +113,52 @@ walk_of g p =
     walk_to g p k (wrap g.vc (s + k))
 
 -- its candidate: it is tested between "its updated start and the outline vertex after its start index"
-unfoldable pub walked : List Float → ℕ → Walk → Tolerance → Candidate
-walked o vc w t = Slice (create_view o vc w t) w.updated_start (outline_at o vc (w.start_index + 1))
+unfoldable pub walked : List Float → ℕ → Walk → Tolerance → Option Candidate
+walked o vc w t = candidate (create_view o vc w t) w.updated_start (outline_at o vc (w.start_index + 1))
 
-unfoldable pub walk_at : Given → ℕ → Candidate
+unfoldable pub walk_at : Given → ℕ → Option Candidate
 walk_at g p = walked g.outline g.vc (walk_of g p) g.tolerance
 
 -- "for each later cut, a piece between neighbours on the segment unless the earlier is marked [..]; then, unless the last cut is marked, the walk": the cut at
 -- place p is the earlier of two neighbours, or its segment's last
-unfoldable pub candidate_at : Given → ℕ → Candidate
+unfoldable pub candidate_at : Given → ℕ → Option Candidate
 candidate_at g p =
-    cond (marked_at g.cut_at p) Nothing
+    cond (marked_at g.cut_at p) None
     (cond (same_next g.cut_at g.count p)
     (piece_of (segment_at g.cut_at p) (start_part g.splits (p + 1)) (split_vertex_at g.splits (p + 1)) g.tolerance)
     (walk_at g p))
 
 -- ---- the candidates, "in order of segments", which is the order of places
 
-abbrev pub kept : Candidate → List Candidate
-kept Nothing = []
-kept (Slice v a b) = Slice v a b ∷ []
+abbrev pub kept : Option Candidate → List (Option Candidate)
+kept None = []
+kept (Some c) = Some c ∷ []
 
 -- those of the first p places
-unfoldable pub candidates_to : Given → ℕ → List Candidate
+unfoldable pub candidates_to : Given → ℕ → List (Option Candidate)
 candidates_to g zero = []
 candidates_to g (suc p) = candidates_to g p ++ kept (candidate_at g p)
 
-unfoldable pub candidates_of : Given → List Candidate
+unfoldable pub candidates_of : Given → List (Option Candidate)
 candidates_of g = candidates_to g g.count
 
 abbrev pub cand_count : Given → ℕ
 cand_count g = length (candidates_of g)
 
 -- start and offset
-abbrev pub numbers_of : Candidate → List ℕ
-numbers_of Nothing = []
-numbers_of (Slice v a b) = v.start_index ∷ v.end_index_offset ∷ []
+abbrev pub numbers_of : Option Candidate → List ℕ
+numbers_of None = []
+numbers_of (Some c) = c.view.start_index ∷ c.view.end_index_offset ∷ []
 
 -- updated start x, y, bulge, end bulge, end x, y
-abbrev pub shape_of : Candidate → List Float
-shape_of Nothing = []
-shape_of (Slice v a b) = view_numbers v
+abbrev pub shape_of : Option Candidate → List Float
+shape_of None = []
+shape_of (Some c) = view_numbers c.view
 
 -- the two vertices
-abbrev pub probe_of : Candidate → List Float
-probe_of Nothing = []
-probe_of (Slice v a b) = vertex_numbers a ++ vertex_numbers b
+abbrev pub probe_of : Option Candidate → List Float
+probe_of None = []
+probe_of (Some c) = vertex_numbers c.from ++ vertex_numbers c.to
 
 -- the three lists that go out
 abbrev pub cand_numbers : Given → List ℕ

@@ -15,18 +15,17 @@ use Rattle.view.specs.Create.{create_view, single_view}
 use Rattle.cut.specs.declared.arrival.Case.{Case}
 use Rattle.candidate.specs.declared.next.Next.{Next}
 use Rattle.candidate.specs.declared.at_cut.Candidate.{Candidate}
-use Rattle.candidate.specs.declared.at_cut.Candidate.TheVariants.{Nothing, Slice}
-use Rattle.candidate.specs.Candidates.{Given, given, segment_at, same_next, slice_of, piece_of, walk_of, walked, walk_at}
+use Rattle.candidate.specs.Candidates.{Given, given, candidate, segment_at, same_next, slice_of, piece_of, walk_of, walked, walk_at}
 use Rattle.candidate.specs.Steps.{Place, LastPlace, LastCut, NextCut, walk_with, walk_by, WalkParts, WalkReady}
 use Rattle.candidate.specs.PieceLaws.{piece-once}
 
 -- ---- a piece
 module _ (s : ℕ) (a b : Vertex) (t : Tolerance) (end : Point) (r : Option ViewData) (at : end ≡ pos_of b) (made : r ≡ single_view s a end t) where
-  pub piece-none : r ≡ None → Nothing ≡ piece_of s a b t
+  pub piece-none : r ≡ None → None ≡ piece_of s a b t
   unfolding slice_of
   piece-none e = rw (piece-once, ← at, ← made, e)
 
-  pub piece-some : (v : ViewData) → r ≡ Some v → Slice v a b ≡ piece_of s a b t
+  pub piece-some : (v : ViewData) → r ≡ Some v → candidate v a b ≡ piece_of s a b t
   unfolding slice_of
   piece-some v e = rw (piece-once, ← at, ← made, e)
 
@@ -65,13 +64,13 @@ module _ (o : List Float) (cut_at : List ℕ) (cut splits : List Float) (s : Cas
           let sound = here.place.sound in
           rw is (record { fit = record { whole = sound.whole; inside = f.inside; walks = f.least }; starts = sound.inside p here.place.here })
 
-      pub walk-of : (r : Candidate) → r ≡ walked o s.vc w s.tolerance → r ≡ walk_at g p
+      pub walk-of : (r : Option Candidate) → r ≡ walked o s.vc w s.tolerance → r ≡ walk_at g p
       unfolding walk_at walk_of
       walk-of r e = e ∙ ap (λ (v : Walk). walked o s.vc v s.tolerance) is ∙ rw (f.first_there, f.wraps, f.traverses)
 
 -- the candidate of a walk, from its two callees
 pub walked-of : (o : List Float) (vc : ℕ) (w : Walk) (t : Tolerance) (view : ViewData) (after : Vertex)
-    → view ≡ create_view o vc w t → after ≡ outline_at o vc (w.start_index + 1) → Slice view w.updated_start after ≡ walked o vc w t
+    → view ≡ create_view o vc w t → after ≡ outline_at o vc (w.start_index + 1) → candidate view w.updated_start after ≡ walked o vc w t
 unfolding walked
 walked-of o vc w t view after e f = cc
 
@@ -109,7 +108,7 @@ module _ (cut_at : List ℕ) (count p : ℕ) (splits : List Float) (x : Bool) (n
 pub place-last : (g : Given) (p : ℕ) (x : Bool) → Place g p → x ≡ same_next g.cut_at g.count p → x ≡ false → LastPlace g p
 place-last g p x here is other = record { place = here; alone = sym is ∙ other }
 
-pub piece-of : (s : ℕ) (a b a' b' : Vertex) (t : Tolerance) (r : Candidate) → r ≡ piece_of s a b t → a ≡ a' → b ≡ b' → r ≡ piece_of s a' b' t
+pub piece-of : (s : ℕ) (a b a' b' : Vertex) (t : Tolerance) (r : Option Candidate) → r ≡ piece_of s a b t → a ≡ a' → b ≡ b' → r ≡ piece_of s a' b' t
 piece-of s a b a' b' t r e f g = cc
 
 pub ruleset places = (next_start, next-vertex, place-last, piece-of)

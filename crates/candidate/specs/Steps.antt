@@ -1,5 +1,5 @@
 -- What the crate's functions ask of each other and leave: one record for each contract.
-use Rattle.std.specs.Prelude.{ℕ, ◌+◌, ◌-◌, ◌*◌, ◌≤◌, ◌<◌, false, cond, ◌≡◌, List, ◌++◌, length, drop, Float, ltb}
+use Rattle.std.specs.Prelude.{ℕ, ◌+◌, ◌-◌, ◌*◌, ◌≤◌, ◌<◌, false, cond, ◌≡◌, List, ◌++◌, length, drop, Float, ltb, Option}
 use Rattle.std.proofs.lemmas.List.Edits.{sets}
 use Rattle.basis.specs.Number.{+0}
 use Rattle.basis.specs.Room.{cleared}
@@ -110,7 +110,7 @@ pub record PutFit (l : Rooms) (m : ℕ) : Type 0 where
   pub probe : 6 * m + 6 ≤ length l.probe
 
 -- a candidate written after m others
-pub record Put (c : Candidate) (m : ℕ) (l : Rooms) (r : ℕ) (l' : Rooms) : Type 0 where
+pub record Put (c : Option Candidate) (m : ℕ) (l : Rooms) (r : ℕ) (l' : Rooms) : Type 0 where
   pub counted : r ≡ m + length (kept c)
   pub at : l'.at ≡ sets l.at (2 * m) (numbers_of c)
   pub cand : l'.cand ≡ sets l.cand (6 * m) (shape_of c)

@@ -16,11 +16,12 @@ use view::create;
 use view::create::Walk;
 use view::data::ViewData;
 
-// What a cut gives: nothing, or a candidate, which is its view and the two vertices whose midpoint the host tests.
+// A candidate: its view, and the two vertices whose midpoint the host tests.
 #[derive(Clone, Copy)]
-pub enum Candidate {
-    Nothing,
-    Slice(ViewData, Vertex, Vertex),
+pub struct Candidate {
+    pub view: ViewData,
+    pub from: Vertex,
+    pub to: Vertex,
 }
 
 // The next cut in the order is on the same segment.
@@ -32,25 +33,30 @@ pub fn same_next(cut_at: &[usize], count: usize, p: usize) -> bool
 }
 
 // The piece on segment s between the split's start part a and its split vertex b. Where the two agree there is no view, and so no piece.
-pub fn piece(s: usize, a: Vertex, b: Vertex, t: Tolerance) -> Candidate
+pub fn piece(s: usize, a: Vertex, b: Vertex, t: Tolerance) -> Option<Candidate>
     ensures { result ≡ piece_of s a b t }
 {
-    let end = Point::from(b);
-    let Some(v) = create::create_on_single_segment(s, a, end, t) else {
-        return Candidate::Nothing;
-    };
-    Candidate::Slice(v, a, b)
+    let view = create::create_on_single_segment(s, a, Point::from(b), t)?;
+    Some(Candidate {
+        view,
+        from: a,
+        to: b,
+    })
 }
 
 // The candidate of a walk.
-pub fn walk_candidate(outline: &[f64], vc: usize, w: Walk, t: Tolerance) -> Candidate
+pub fn walk_candidate(outline: &[f64], vc: usize, w: Walk, t: Tolerance) -> Option<Candidate>
     requires { WalkReady outline.now vc w }
     ensures { result ≡ walked outline.now vc w t }
 {
     let start = w.updated_start;
     let after = read::outline_at(outline, vc, w.start_index + 1);
     let view = create::create(outline, vc, w, t);
-    Candidate::Slice(view, start, after)
+    Some(Candidate {
+        view,
+        from: start,
+        to: after,
+    })
 }
 
 // The walk from the cut at place p, on that segment, to the cut where it ends, which has that point. The split of that cut goes to `create`.
@@ -80,7 +86,7 @@ pub struct Along<'a> {
 
 impl Along<'_> {
     // The walk from the cut at place p, its segment's last, to the first cut of the next segment that has one. That cut's point is the one of its number of arrival.
-    fn walk(&self, p: usize) -> Candidate
+    fn walk(&self, p: usize) -> Option<Candidate>
         requires { ToldLast (held self.now.cuts) self.now.cut_at.now self.now.splits.now p }
         ensures { result ≡ walk_at (told self.now) p }
     {
@@ -94,12 +100,12 @@ impl Along<'_> {
     }
 
     // What the cut at place p gives: nothing where it is marked, the piece to its neighbour, or the walk.
-    pub fn candidate_at(&self, p: usize) -> Candidate
+    pub fn candidate_at(&self, p: usize) -> Option<Candidate>
         requires { ToldPlace (held self.now.cuts) self.now.cut_at.now self.now.splits.now p }
         ensures { result ≡ candidate_at (told self.now) p }
     {
         if self.cut_at[3 * p + 1] == 1 {
-            return Candidate::Nothing;
+            return None;
         }
         if same_next(self.cut_at, self.cuts.case.count(), p) {
             let q = p + 1;

@@ -1,4 +1,5 @@
 -- Laws by which candidates are written one after the other.
+use Rattle.std.specs.Prelude.{Option, Some, None}
 use Prim.Native.Nat.{ℕ, ◌+◌, ◌*◌}
 use mathlib.Core.Path.{◌≡◌, refl, ap, ◌∙◌}
 use mathlib.Core.List.{List, [], ◌∷◌, ◌++◌}
@@ -10,10 +11,8 @@ use Rattle.basis.specs.Room.{RoomFor}
 use Rattle.basis.specs.StoreLaws.{sets_then}
 use Rattle.outline.specs.declared.point.Vertex.{Vertex}
 use Rattle.outline.specs.Points.{vertex_numbers}
-use Rattle.view.specs.declared.data.ViewData.{ViewData}
 use Rattle.view.specs.View.{view_numbers}
 use Rattle.candidate.specs.declared.at_cut.Candidate.{Candidate}
-use Rattle.candidate.specs.declared.at_cut.Candidate.TheVariants.{Nothing, Slice}
 use Rattle.candidate.specs.Ready.{Rooms}
 use Rattle.candidate.specs.Steps.{Put}
 
@@ -25,14 +24,14 @@ module _ (l l₁ : List Float) (at : ℕ) (a : Vertex) (first : l₁ ≡ sets l 
   pub two-vertices : (l₂ : List Float) (b : Vertex) → l₂ ≡ sets l₁ (at + 3) (vertex_numbers b) → l₂ ≡ sets l at (vertex_numbers a ++ vertex_numbers b)
   two-vertices l₂ b e = e ∙ ap (λ (m : List Float). sets m (at + 3) (vertex_numbers b)) first ∙ sets_then l at 3 (vertex_numbers a) (vertex_numbers b) refl
 
-pub put-none : (c : Candidate) (m : ℕ) (l : Rooms) → c ≡ Nothing → Put c m l m l
+pub put-none : (c : Option Candidate) (m : ℕ) (l : Rooms) → c ≡ None → Put c m l m l
 put-none c m l e = rw e (record { counted = omega arith; at = refl; cand = refl; probe = refl })
 
-pub put_some : (c : Candidate) (m : ℕ) (l l' : Rooms) (v : ViewData) (a b : Vertex) → c ≡ Slice v a b
-    → l'.at ≡ sets l.at (2 * m) (v.start_index ∷ v.end_index_offset ∷ [])
-    → l'.cand ≡ sets l.cand (6 * m) (view_numbers v)
-    → l'.probe ≡ sets l.probe (6 * m) (vertex_numbers a ++ vertex_numbers b)
+pub put_some : (c : Option Candidate) (m : ℕ) (l l' : Rooms) (d : Candidate) → c ≡ Some d
+    → l'.at ≡ sets l.at (2 * m) (d.view.start_index ∷ d.view.end_index_offset ∷ [])
+    → l'.cand ≡ sets l.cand (6 * m) (view_numbers d.view)
+    → l'.probe ≡ sets l.probe (6 * m) (vertex_numbers d.from ++ vertex_numbers d.to)
     → Put c m l (m + 1) l'
-put_some c m l l' v a b e x y z = rw e (record { counted = refl; at = x; cand = y; probe = z })
+put_some c m l l' d e x y z = rw e (record { counted = refl; at = x; cand = y; probe = z })
 
 pub ruleset putting = (room-behind, two-vertices, put-none, put_some)

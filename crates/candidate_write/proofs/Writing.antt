@@ -1,4 +1,5 @@
 -- Laws of the loop that writes the candidates, and of the call that clears the room behind them.
+use Rattle.std.specs.Prelude.{Option}
 use Prim.Native.Nat.{ℕ, suc, ◌+◌, ◌-◌, ◌*◌, ◌≤◌, ◌<◌, zero-le}
 use mathlib.Core.Path.{◌≡◌, refl, sym, ap, ◌∙◌}
 use mathlib.Core.List.{List, ◌++◌, flat_map}
@@ -24,9 +25,9 @@ push {A} xs vs r l k e h b =
     ap (drop (k + length vs)) e ∙ ap (λ (n : ℕ). drop (n + length vs) (xs ++ drop k r)) (sym h) ∙ drop-append-add xs (drop k r) (length vs) ∙ drop-drop (length vs) k r in
     sets-eq vs l k b ∙ ap (λ (q : List A). q ++ vs ++ drop (k + length vs) l) t ∙ ap (λ (q : List A). (xs ++ vs) ++ q) d
 
-module _ {A : Type 0} (w : ℕ) (f : Candidate → List A) (wide : Wide w f) (g : Given) where
+module _ {A : Type 0} (w : ℕ) (f : Option Candidate → List A) (wide : Wide w f) (g : Given) where
   -- a pass: the items of the first p places stand in front, and those of the next place are stored behind them
-  items-turn : (p m m' : ℕ) (c : Candidate) (r l l' : List A) → c ≡ candidate_at g p → m ≡ length (candidates_to g p)
+  items-turn : (p m m' : ℕ) (c : Option Candidate) (r l l' : List A) → c ≡ candidate_at g p → m ≡ length (candidates_to g p)
       → l ≡ flat_map f (candidates_to g p) ++ drop (w * m) r → w * m + w * length (kept c) ≤ length l
       → l' ≡ sets l (w * m) (f c) → m' ≡ m + length (kept c) → l' ≡ flat_map f (candidates_to g (suc p)) ++ drop (w * m') r
   items-turn p m m' c r l l' e n i b s k =
@@ -57,10 +58,10 @@ module _ (g : Given) (l : Rooms) where
   pub upto-fit : (m : ℕ) (l' : Rooms) (p : ℕ) → Upto g l m l' p → p < g.count → PutFit l' m
   upto-fit m l' p u h = let few = u.ready.sound.few in let r = u.ready.roomy in record { low = omega arith; at = omega arith; cand = omega arith; probe = omega arith }
 
-  pub upto_turn : (m m' : ℕ) (l' l'' : Rooms) (p : ℕ) (d : Candidate) → Upto g l m l' p → p < g.count → d ≡ candidate_at g p → Put d m l' m' l'' → Upto g l m' l'' (p + 1)
+  pub upto_turn : (m m' : ℕ) (l' l'' : Rooms) (p : ℕ) (d : Option Candidate) → Upto g l m l' p → p < g.count → d ≡ candidate_at g p → Put d m l' m' l'' → Upto g l m' l'' (p + 1)
   upto_turn m m' l' l'' p d u h is wrote =
       let r = u.ready.roomy in
-      let c : Candidate = candidate_at g p in
+      let c : Option Candidate = candidate_at g p in
       let put : Put c m l' m' l'' = rw is at wrote in
       let one : length (kept c) ≤ 1 = kept-few c in
       let n : length (candidates_to g (p + 1)) ≡ length (candidates_to g p) + length (kept (candidate_at g p)) =

@@ -1,6 +1,6 @@
 -- What holds of the candidates, for every outline and every order of cuts: no walk goes further than once round, and start and offset are what the next entry accepts.
 use Prim.Native.Nat.{ℕ, zero, suc, ◌+◌, ◌-◌, ◌*◌, ◌≤◌, ◌<◌, zero-le}
-use Rattle.std.specs.Prelude.{Bool, true, false, ◌≡◌, eqb, length, get_or, Float}
+use Rattle.std.specs.Prelude.{Bool, true, false, ◌≡◌, eqb, length, get_or, Float, Option, Some, None}
 use Rattle.std.proofs.Common.{true≢false, sym, ◌∙◌, not-suc-le-zero, length-append, lt-ltb, eqb-true, eq-eqb}
 use Rattle.std.proofs.Math.Path.{refl, ap}
 use mathlib.Core.List.{List, [], ◌∷◌, ◌++◌, flat_map}
@@ -15,8 +15,7 @@ use Rattle.view.specs.declared.data.ViewData.{ViewData}
 use Rattle.view.specs.declared.create.Walk.{Walk}
 use Rattle.view.specs.Create.{view_of, near_vertex, create_view}
 use Rattle.candidate.specs.declared.at_cut.Candidate.{Candidate}
-use Rattle.candidate.specs.declared.at_cut.Candidate.TheVariants.{Nothing, Slice}
-use Rattle.candidate.specs.Candidates.{Given, segment_at, marked_at, same_next, first_from, first_cut, has_cut, traverse_from, traverse_of, slice_of, piece_of, walk_of, walked, walk_at, candidate_at, kept, candidates_to, candidates_of, cand_count, numbers_of, cand_numbers}
+use Rattle.candidate.specs.Candidates.{Given, candidate, segment_at, marked_at, same_next, first_from, first_cut, has_cut, traverse_from, traverse_of, slice_of, piece_of, walk_of, walked, walk_at, candidate_at, kept, candidates_to, candidates_of, cand_count, numbers_of, cand_numbers}
 use Rattle.candidate.specs.Ready.{Sound}
 use Rattle.candidate.specs.SearchLaws.{segment-first, traverse-hit, traverse-miss, not_yet, first-here, first-later}
 use Rattle.candidate.specs.PieceLaws.{together, apart, piece-once}
@@ -55,7 +54,7 @@ walk-reaches g sound p h =
 
 -- a piece whose ends were tested apart always gets its view
 pub piece-view : (s : ℕ) (a b : Vertex) (t : Tolerance) → points_agree t (pos_of a) (pos_of b) ≡ false
-    → piece_of s a b t ≡ Slice (view_of s 0 a a.bulge (pos_of b)) a b
+    → piece_of s a b t ≡ candidate (view_of s 0 a a.bulge (pos_of b)) a b
 unfolding slice_of
 piece-view s a b t e = piece-once s a b t ∙ rw (apart s a b t e)
 
@@ -81,15 +80,15 @@ pub record Fitting (vc : ℕ) (v : ViewData) : Type 0 where
   pub reaches : v.end_index_offset ≤ vc
 
 -- so is every candidate of the list, and the list holds nothing else
-abbrev pub EachFits : ℕ → List Candidate → Type 0
+abbrev pub EachFits : ℕ → List (Option Candidate) → Type 0
 EachFits vc [] = Unit {0}
-EachFits vc (Nothing ∷ cs) = ⊥
-EachFits vc (Slice v a b ∷ cs) = Fitting vc v × EachFits vc cs
+EachFits vc (None ∷ cs) = ⊥
+EachFits vc (Some c ∷ cs) = Fitting vc c.view × EachFits vc cs
 
-fits-append : (vc : ℕ) (xs ys : List Candidate) → EachFits vc xs → EachFits vc ys → EachFits vc (xs ++ ys)
+fits-append : (vc : ℕ) (xs ys : List (Option Candidate)) → EachFits vc xs → EachFits vc ys → EachFits vc (xs ++ ys)
 fits-append vc [] ys e f = f
-fits-append vc (Nothing ∷ xs) ys e f = e
-fits-append vc (Slice v a b ∷ xs) ys e f = (e.0, fits-append vc xs ys e.1 f)
+fits-append vc (None ∷ xs) ys e f = e
+fits-append vc (Some c ∷ xs) ys e f = (e.0, fits-append vc xs ys e.1 f)
 
 -- `create` with a traverse count of at most vc
 create-fits : (o : List Float) (vc : ℕ) (w : Walk) (t : Tolerance) → w.start_index < vc → w.traverse_count ≤ vc → Fitting vc (create_view o vc w t)
@@ -129,13 +128,13 @@ candidates-fit g sound = go g.count (omega arith)
     go (suc p) h = fits-append g.vc (candidates_to g p) (kept (candidate_at g p)) (go p (omega arith)) (candidate-fits g sound p (omega arith))
 
 -- the same of the numbers that go out, as the next entry looks at them
-numbers_fit : (vc : ℕ) (cs : List Candidate) → EachFits vc cs → (k : ℕ) → k < length cs
+numbers_fit : (vc : ℕ) (cs : List (Option Candidate)) → EachFits vc cs → (k : ℕ) → k < length cs
     → (get_or (flat_map numbers_of cs) (2 * k) 0 < vc) × (get_or (flat_map numbers_of cs) (2 * k + 1) 0 ≤ vc)
 unfolding flat_map
 numbers_fit vc [] e k h = absurd (not-suc-le-zero h)
-numbers_fit vc (Nothing ∷ cs) e k h = absurd e
-numbers_fit vc (Slice v a b ∷ cs) e zero h = (e.0.starts, e.0.reaches)
-numbers_fit vc (Slice v a b ∷ cs) e (suc k) h =
+numbers_fit vc (None ∷ cs) e k h = absurd e
+numbers_fit vc (Some c ∷ cs) e zero h = (e.0.starts, e.0.reaches)
+numbers_fit vc (Some c ∷ cs) e (suc k) h =
     let m : 2 * suc k ≡ suc (suc (2 * k)) = omega arith in
     let n : 2 * suc k + 1 ≡ suc (suc (2 * k + 1)) = omega arith in
     let q = numbers_fit vc cs e.1 k (omega arith) in

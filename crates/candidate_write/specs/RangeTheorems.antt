@@ -1,6 +1,6 @@
 -- The numbers of the candidates were all handed in: where those are in range, so are these, and the next entry accepts them.
 use Prim.Native.Nat.{ℕ, zero, suc, ◌+◌, ◌-◌, ◌*◌, ◌≤◌, ◌<◌}
-use Rattle.std.specs.Prelude.{true, ◌≡◌, ltb, eqb, length, Float}
+use Rattle.std.specs.Prelude.{true, ◌≡◌, ltb, eqb, length, Float, Option, None}
 use Rattle.std.proofs.Math.Path.{refl, ap}
 use Rattle.std.proofs.Common.{◌∙◌, arith}
 use mathlib.Core.List.{List, ◌∷◌, ◌++◌, flat_map}
@@ -19,7 +19,6 @@ use Rattle.view.specs.declared.create.Walk.{Walk}
 use Rattle.view.specs.View.{view_numbers}
 use Rattle.view.specs.Create.{view_of, walk_view, near_vertex, bulge_before, create_view}
 use Rattle.candidate.specs.declared.at_cut.Candidate.{Candidate}
-use Rattle.candidate.specs.declared.at_cut.Candidate.TheVariants.{Nothing}
 use Rattle.candidate.specs.Candidates.{Given, segment_at, marked_at, start_part, split_vertex_at, whole_split, same_next, first_cut, traverse_of, slice_of, piece_of, walk_of, walked, walk_at, candidate_at, candidates_to, candidates_of, shape_of, probe_of, cand_shapes, probe_numbers}
 use Rattle.candidate.specs.Ready.{Sound}
 use Rattle.candidate_write.specs.ItemLaws.{Wide, flat-more, wide-shapes, wide-probes}
@@ -57,11 +56,11 @@ view_in : (v : ViewData) → all_within (vertex_numbers v.updated_start) ≡ tru
 view_in v e f h = both-in (vertex_numbers v.updated_start) (v.updated_end_bulge ∷ point_numbers v.end_point) e (unfold all_of in rw f h)
 
 -- a candidate's shape and its two vertices
-pub record NumbersIn (c : Candidate) : Type 0 where
+pub record NumbersIn (c : Option Candidate) : Type 0 where
   pub shape : all_within (shape_of c) ≡ true
   pub probe : all_within (probe_of c) ≡ true
 
-nothing-in : NumbersIn Nothing
+nothing-in : NumbersIn None
 unfolding all_of
 nothing-in = record { shape = refl; probe = refl }
 
@@ -133,7 +132,7 @@ module _ (g : Given) (sound : Sound g) (range : InRange g) where
       (split-in (p + 1) 1 n (omega arith))))
       (λ f. rw (e, f) (walk-in p here)))
 
-  flat_in : (f : Candidate → List Float) → Wide 6 f → ((p : ℕ) → p < g.count → all_within (f (candidate_at g p)) ≡ true)
+  flat_in : (f : Option Candidate → List Float) → Wide 6 f → ((p : ℕ) → p < g.count → all_within (f (candidate_at g p)) ≡ true)
       → (p : ℕ) → p ≤ g.count → all_within (flat_map f (candidates_to g p)) ≡ true
   unfolding candidates_to flat_map all_of
   flat_in f wide each zero h = refl

@@ -49,17 +49,17 @@ pub struct Lent<'a> {
 
 impl Lent<'_> {
     // Writes a candidate after the m that stand there already, and says how many there are now.
-    pub(crate) fn put(&mut self, m: usize, c: Candidate) -> usize
+    pub(crate) fn put(&mut self, m: usize, c: Option<Candidate>) -> usize
         requires { PutFit (lent self.old) m }
         ensures same { Same self.old self.new }
         ensures written { Put c m (lent self.old) result (lent self.new) }
     {
-        let Candidate::Slice(v, a, b) = c else {
+        let Some(c) = c else {
             return m;
         };
-        write::put_pair(self.at, 2 * m, v.start_index, v.end_index_offset);
-        put_view(self.cand, 6 * m, v);
-        put_probe(self.probe, 6 * m, a, b);
+        write::put_pair(self.at, 2 * m, c.view.start_index, c.view.end_index_offset);
+        put_view(self.cand, 6 * m, c.view);
+        put_probe(self.probe, 6 * m, c.from, c.to);
         m + 1
     }
 }
