@@ -10,8 +10,7 @@ use Rattle.outline.specs.declared.point.Vertex.{Vertex}
 use Rattle.outline.specs.Points.{pos_of, points_agree}
 use Rattle.view.specs.Create.{view_of}
 use Rattle.cut.specs.Cuts.{Given, cut_count}
-use Rattle.candidate.specs.declared.at_cut.Candidate.TheVariants.{Slice}
-use Rattle.candidate.specs.Candidates.{segment_at, has_cut, traverse_of, piece_of}
+use Rattle.candidate.specs.Candidates.{candidate, segment_at, has_cut, traverse_of, piece_of}
 use Rattle.candidate.specs.Ready.{Sound}
 use Rattle.candidate_write.specs.CandidateTheorems.{Reaches, walk-reaches, piece-view}
 use Rattle.candidate_lists.specs.Lists.{along_cuts}
@@ -41,7 +40,7 @@ module _ (g : Given) (splits : List Float) (edition : ℕ) (l : Lent) (r : Count
 
 -- ---- "in slicing, a piece whose ends were tested apart always gets its view"
 pub piece-has-its-view : (s : ℕ) (a b : Vertex) (t : Tolerance) → points_agree t (pos_of a) (pos_of b) ≡ false
-    → piece_of s a b t ≡ Slice (view_of s 0 a a.bulge (pos_of b)) a b
+    → piece_of s a b t ≡ candidate (view_of s 0 a a.bulge (pos_of b)) a b
 piece-has-its-view = piece-view
 
 -- ---- a chain: "every round but a chain's last visits a new slice"

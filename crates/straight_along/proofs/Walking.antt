@@ -1,4 +1,5 @@
 -- Laws of the loop along the cuts.
+use Rattle.std.specs.Prelude.{Option, Some, None}
 use Prim.Native.Nat.{ℕ, suc, ◌+◌, ◌*◌, ◌≤◌, ◌<◌, zero-le}
 use mathlib.Core.Bool.{Bool, true, false, cond}
 use mathlib.Core.Path.{◌≡◌, refl, sym, ap, subst, ◌∙◌}
@@ -18,7 +19,6 @@ use Rattle.slice.specs.Slice.{slice_of}
 use Rattle.slice.specs.Ready.{Rooms, PutFit, Placed}
 use Rattle.slice.specs.PutLaws.{placed-none, placed-then, placed_at, placed-shape, placed-edition}
 use Rattle.candidate.specs.declared.at_cut.Candidate.{Candidate}
-use Rattle.candidate.specs.declared.at_cut.Candidate.TheVariants.{Nothing, Slice}
 use Rattle.candidate.specs.Candidates.{Given, candidate_at}
 use Rattle.prune.specs.declared.mode.Part.{Part}
 use Rattle.prune_put.specs.Ready.{Wrote}
@@ -28,21 +28,21 @@ use Rattle.straight_along.specs.Ready.{StayFit, PlacesRoom}
 
 module _ (other : List ℤ) (edition : ℕ) (part : Part) where
   -- ---- one candidate
-  module _ (c : Candidate) (l : Rooms) (n : ℕ) where
-    pub stay-nothing : c ≡ Nothing → Placed (stays_of other edition part c) l n n l
+  module _ (c : Option Candidate) (l : Rooms) (n : ℕ) where
+    pub stay-nothing : c ≡ None → Placed (stays_of other edition part c) l n n l
     unfolding stays_of
     stay-nothing e = rw e (placed-none l n)
 
-    module _ (v : ViewData) (a b : Vertex) (is : c ≡ Slice v a b) (k : ℕ) (told : k ≡ inside_of other a b) where
+    module _ (d : Candidate) (is : c ≡ Some d) (k : ℕ) (told : k ≡ inside_of other d.from d.to) where
       pub stay-not : (k ≡ part.keep → ⊥) → Placed (stays_of other edition part c) l n n l
       unfolding stays_of
       stay-not h = rw (is, ← told, ne_eqb k part.keep h) (placed-none l n)
 
-      pub stay-put : k ≡ part.keep → (x : Codes) (s : Shape) (l' : Rooms) → x ≡ view_codes part v → s ≡ view_shape v → Placed (slice_of x s edition ∷ []) l n (n + 1) l'
+      pub stay-put : k ≡ part.keep → (x : Codes) (s : Shape) (l' : Rooms) → x ≡ view_codes part d.view → s ≡ view_shape d.view → Placed (slice_of x s edition ∷ []) l n (n + 1) l'
           → Placed (stays_of other edition part c) l n (n + 1) l'
       unfolding stays_of
       stay-put h x s l' e f p =
-          let q : Placed (slice_of (view_codes part v) (view_shape v) edition ∷ []) l n (n + 1) l' = subst (λ (y : slice.Slice). Placed (y ∷ []) l n (n + 1) l') (λ i. slice_of (e i) (f i) edition) p in
+          let q : Placed (slice_of (view_codes part d.view) (view_shape d.view) edition ∷ []) l n (n + 1) l' = subst (λ (y : slice.Slice). Placed (y ∷ []) l n (n + 1) l') (λ i. slice_of (e i) (f i) edition) p in
           rw (is, ← told, eq-eqb k part.keep h) q
 
   -- ---- at most one at each place
@@ -50,10 +50,10 @@ module _ (other : List ℤ) (edition : ℕ) (part : Part) where
   one-few true x = omega arith
   one-few false x = zero-le
 
-  stays-few : (c : Candidate) → length (stays_of other edition part c) ≤ 1
+  stays-few : (c : Option Candidate) → length (stays_of other edition part c) ≤ 1
   unfolding stays_of
-  stays-few Nothing = zero-le
-  stays-few (Slice v a b) = one-few (eqb (inside_of other a b) part.keep) _
+  stays-few None = zero-le
+  stays-few (Some c) = one-few (eqb (inside_of other c.from c.to) part.keep) _
 
 -- ---- the first p places were looked at, and the slices end at n
 pub record Walking (g : Given) (other : List ℤ) (vc edition : ℕ) (part : Part) (l : Rooms) (m : ℕ) (l' : Rooms) (n p : ℕ) : Type 0 where
@@ -71,7 +71,7 @@ module _ (g : Given) (other : List ℤ) (vc edition : ℕ) (part : Part) (l : Ro
   walk_none r = record { ready = r; ahead = zero-le; few = omega arith; placed = placed-none l m; size-at = refl; size-shape = refl; size-edition = refl }
 
   module _ (l' : Rooms) (n p : ℕ) (w : Walking g other vc edition part l m l' n p) where
-    pub walk-fit : (c : Candidate) → p < g.count → c ≡ candidate_at g p → StayFit c other vc l' n
+    pub walk-fit : (c : Option Candidate) → p < g.count → c ≡ candidate_at g p → StayFit c other vc l' n
     walk-fit c h e =
         let r = w.ready in
         record {
@@ -81,10 +81,10 @@ module _ (g : Given) (other : List ℤ) (vc edition : ℕ) (part : Part) (l : Ro
           roomy = record { at = omega (arith, r.roomy.at, w.size-at, w.few); shape = omega (arith, r.roomy.shape, w.size-shape, w.few); edition = omega (arith, r.roomy.edition, w.size-edition, w.few) };
         }
 
-    pub walk_more : (c : Candidate) (l'' : Rooms) (n' : ℕ) → p < g.count → c ≡ candidate_at g p → Placed (stays_of other edition part c) l' n n' l'' → Walking g other vc edition part l m l'' n' (p + 1)
+    pub walk_more : (c : Option Candidate) (l'' : Rooms) (n' : ℕ) → p < g.count → c ≡ candidate_at g p → Placed (stays_of other edition part c) l' n n' l'' → Walking g other vc edition part l m l'' n' (p + 1)
     walk_more c l'' n' h e q =
         let s = stays_of other edition part c in
-        let next : stays_to other edition part g (p + 1) ≡ stays_to other edition part g p ++ s = rw (add-one p) (unfold stays_to in ap (λ (d : Candidate). stays_to other edition part g p ++ stays_of other edition part d) (sym e)) in
+        let next : stays_to other edition part g (p + 1) ≡ stays_to other edition part g p ++ s = rw (add-one p) (unfold stays_to in ap (λ (d : Option Candidate). stays_to other edition part g p ++ stays_of other edition part d) (sym e)) in
         record {
           ready = w.ready;
           ahead = omega arith;
@@ -100,9 +100,9 @@ module _ (g : Given) (other : List ℤ) (vc edition : ℕ) (part : Part) (l : Ro
         let e : p ≡ g.count = omega (arith, w.ahead) in
         record { placed = rw e at w.placed; few = omega (arith, w.few); size-at = w.size-at; size-shape = w.size-shape; size-edition = w.size-edition }
 
-module _ (c : Candidate) (other : List ℤ) (vc : ℕ) (room : Rooms) (n : ℕ) (f : StayFit c other vc room n) where
-  pub stay-ask : (v : ViewData) (a b : Vertex) → c ≡ Slice v a b → InsideFit other vc a b
-  stay-ask v a b e = let k : KnownProbe (Slice v a b) = subst KnownProbe e f.known in record { outline = f.outline; xs = k.0; ys = k.1 }
+module _ (c : Option Candidate) (other : List ℤ) (vc : ℕ) (room : Rooms) (n : ℕ) (f : StayFit c other vc room n) where
+  pub stay-ask : (d : Candidate) → c ≡ Some d → InsideFit other vc d.from d.to
+  stay-ask d e = let k : KnownProbe (Some d) = subst KnownProbe e f.known in record { outline = f.outline; xs = k.0; ys = k.1 }
 
   pub stay-fit : PutFit room n
   stay-fit = record { low = f.low; roomy = f.roomy }

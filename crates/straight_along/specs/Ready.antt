@@ -1,5 +1,5 @@
 -- What a caller has shown.
-use Rattle.std.specs.Prelude.{ℕ, ◌+◌, ◌*◌, ◌≤◌, ◌<◌, List, length, take, ℤ, Float}
+use Rattle.std.specs.Prelude.{ℕ, ◌+◌, ◌*◌, ◌≤◌, ◌<◌, List, length, take, ℤ, Float, Option, Some, None}
 use Rattle.basis.specs.Sizes.{most_candidates, most_slices}
 use Rattle.straight.specs.Ready.{Outline}
 use Rattle.cut.specs.declared.arrival.Case.{Case}
@@ -11,7 +11,7 @@ use Rattle.straight_cut.specs.Splits.{straight_given}
 use Rattle.straight_cut.specs.Inside.{KnownProbe}
 
 -- a candidate of a straight mask, the other outline in whole microdegrees, and room for slice number n
-pub record StayFit (c : Candidate) (other : List ℤ) (vc : ℕ) (room : Rooms) (n : ℕ) : Type 0 where
+pub record StayFit (c : Option Candidate) (other : List ℤ) (vc : ℕ) (room : Rooms) (n : ℕ) : Type 0 where
   pub known : KnownProbe c
   pub outline : Outline other vc
   pub low : n < most_slices

@@ -42,7 +42,7 @@ fn shape_of(v: ViewData) -> Shape
 
 // Writes a candidate as slice number n where it stays, and says where the slices end then.
 fn put_stay(
-    c: Candidate,
+    c: Option<Candidate>,
     other: &[i64],
     other_vc: usize,
     edition: u32,
@@ -55,14 +55,14 @@ fn put_stay(
     requires { StayFit c other.now other_vc (rooms slice_at.old slice.old slice_edition.old) n }
     ensures { Placed (stays_of other.now edition part c) (rooms slice_at.old slice.old slice_edition.old) n result (rooms slice_at.new slice.new slice_edition.new) }
 {
-    let Candidate::Slice(v, a, b) = c else {
+    let Some(c) = c else {
         return n;
     };
-    if inside::inside_of(other, other_vc, a, b) != part.keep {
+    if inside::inside_of(other, other_vc, c.from, c.to) != part.keep {
         return n;
     }
-    let codes = codes_of(part, v);
-    let shape = shape_of(v);
+    let codes = codes_of(part, c.view);
+    let shape = shape_of(c.view);
     let mut lent = Lent {
         at: slice_at,
         shape: slice,

@@ -1,6 +1,6 @@
 -- Document 02, K11: "asking inside", by K8's winding numbers ("inside is any but 0") of the other outline. The host's test is at the midpoint of a candidate's two vertices, and
 -- K8's probes "come in doubled coordinates": the doubled midpoint is the sum of the two.
-use Rattle.std.specs.Prelude.{◌≡◌, ℕ, ◌+◌, ◌*◌, true, ◌||◌, List, [], ◌∷◌, ℤ, pos, ◌+ℤ◌, int_lt, Float}
+use Rattle.std.specs.Prelude.{◌≡◌, ℕ, ◌+◌, ◌*◌, true, ◌||◌, List, [], ◌∷◌, ℤ, pos, ◌+ℤ◌, int_lt, Float, Option, Some, None}
 use Rattle.basis.specs.Choice.{code_of}
 use Rattle.basis.specs.Items.{first_items}
 use Rattle.outline.specs.declared.point.Vertex.{Vertex}
@@ -8,7 +8,6 @@ use Rattle.outline.specs.Outline.{vertex_at}
 use Rattle.straight.specs.Plane.{Spot, spots, winding}
 use Rattle.straight.specs.Ready.{Outline}
 use Rattle.candidate.specs.declared.at_cut.Candidate.{Candidate}
-use Rattle.candidate.specs.declared.at_cut.Candidate.TheVariants.{Nothing, Slice}
 use Rattle.straight_cut.specs.Microdegrees.{value_of, readable}
 
 -- yes is 1: the winding number is above 0 or below it
@@ -49,6 +48,6 @@ pub record InsideFit (other : List ℤ) (vc : ℕ) (a b : Vertex) : Type 0 where
   pub ys : KnownTwo a.y b.y
 
 -- the two vertices of a candidate are such
-abbrev pub KnownProbe : Candidate → Type 0
-KnownProbe Nothing = Unit {0}
-KnownProbe (Slice v a b) = KnownTwo a.x b.x × KnownTwo a.y b.y
+abbrev pub KnownProbe : Option Candidate → Type 0
+KnownProbe None = Unit {0}
+KnownProbe (Some c) = KnownTwo c.from.x c.to.x × KnownTwo c.from.y c.to.y

@@ -1,5 +1,5 @@
 -- Laws of straight splits: how long they are, what stands where, and that a walk by them is that of the candidates.
-use Rattle.std.specs.Prelude.{◌≡◌, ℕ, zero, suc, ◌+◌, ◌-◌, ◌*◌, ◌<◌, ◌≤◌, Bool, true, ◌&&◌, List, length, get_or, ◌==◌, nat_lt, slice_index_or, Float}
+use Rattle.std.specs.Prelude.{◌≡◌, ℕ, zero, suc, ◌+◌, ◌-◌, ◌*◌, ◌<◌, ◌≤◌, Bool, true, ◌&&◌, List, length, get_or, ◌==◌, nat_lt, slice_index_or, Float, Option, Some, None}
 use Rattle.std.proofs.Math.Path.{refl}
 use Rattle.std.proofs.Common.{sym, ap, ◌∙◌, mul-suc, mul-le-mul_left, not-suc-le-zero, get_or-append-add}
 use native.Mathlib.Omega.{arith}
@@ -136,7 +136,7 @@ module _ (o : List Float) (cut_at : List ℕ) (cut : List Float) (s : Case) (p :
       pub straight-ready : WalkReady o s.vc w
       straight-ready = walk-ready o cut_at cut splits s p here n f w is
 
-      pub straight-walk : (r : Candidate) → r ≡ walked o s.vc w s.tolerance → r ≡ walk_at (straight_given o cut_at cut s) p
+      pub straight-walk : (r : Option Candidate) → r ≡ walked o s.vc w s.tolerance → r ≡ walk_at (straight_given o cut_at cut s) p
       straight-walk r q = walk-of o cut_at cut splits s p here n f w is r q
 
   -- the piece to the next cut too
@@ -148,7 +148,7 @@ module _ (o : List Float) (cut_at : List ℕ) (cut : List Float) (s : Case) (p :
     pub next-cut-there : CutThere cut (p + 1)
     next-cut-there = let k = here.sound in let h = next-there in record { few = omega (arith, k.few); point = omega (arith, k.points) }
 
-    pub straight-piece : (a b : Vertex) (r : Candidate) → a ≡ cut_vertex cut p → b ≡ cut_vertex cut (p + 1) → r ≡ piece_of (segment_at cut_at p) a b s.tolerance
+    pub straight-piece : (a b : Vertex) (r : Option Candidate) → a ≡ cut_vertex cut p → b ≡ cut_vertex cut (p + 1) → r ≡ piece_of (segment_at cut_at p) a b s.tolerance
         → r ≡ piece_of (segment_at cut_at p) (start_part splits (p + 1)) (split_vertex_at splits (p + 1)) s.tolerance
     straight-piece a b r e f q =
         let a' = start_is o cut_at cut count (p + 1) next-there ∙ running-next o cut_at cut count p (sym is ∙ yes) in

@@ -38,7 +38,7 @@ fn walk_by(cut: &[f64], segment: usize, p: usize, next: Next) -> Walk
 }
 
 // The walk from the cut at place p, its segment's last, to the first cut of the next segment that has one.
-fn walk(outline: &[f64], cut_at: &[usize], cut: &[f64], s: Case, p: usize) -> Candidate
+fn walk(outline: &[f64], cut_at: &[usize], cut: &[f64], s: Case, p: usize) -> Option<Candidate>
     requires { LastPlace (straight_given outline.now cut_at.now cut.now s) p }
     ensures { result ≡ walk_at (straight_given outline.now cut_at.now cut.now s) p }
 {
@@ -48,12 +48,12 @@ fn walk(outline: &[f64], cut_at: &[usize], cut: &[f64], s: Case, p: usize) -> Ca
 }
 
 // What the cut at place p gives: nothing where it is marked, the piece to its neighbour, or the walk.
-pub fn candidate_at(outline: &[f64], cut_at: &[usize], cut: &[f64], s: Case, p: usize) -> Candidate
+pub fn candidate_at(outline: &[f64], cut_at: &[usize], cut: &[f64], s: Case, p: usize) -> Option<Candidate>
     requires { Place (straight_given outline.now cut_at.now cut.now s) p }
     ensures { result ≡ candidate_at (straight_given outline.now cut_at.now cut.now s) p }
 {
     if cut_at[3 * p + 1] == 1 {
-        return Candidate::Nothing;
+        return None;
     }
     if at_cut::same_next(cut_at, s.hits + 2 * s.laps, p) {
         let a = cut_vertex(cut, p);

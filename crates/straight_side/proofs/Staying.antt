@@ -1,5 +1,6 @@
 -- What stays place after place is what pruning keeps of the candidates' lists.
-use Prim.Native.Nat.{ℕ, zero, suc, ◌+◌, ◌*◌, ◌≤◌, ◌<◌, zero-le}
+use Rattle.std.specs.Prelude.{Option, Some, None}
+use Prim.Native.Nat.{ℕ, zero, suc, ◌+◌, ◌*◌, ◌<◌}
 use mathlib.Core.Bool.{cond}
 use mathlib.Core.Path.{◌≡◌, refl, sym, ap, ◌∙◌}
 use mathlib.Core.List.{List, [], ◌∷◌, ◌++◌, flat_map, append-nil}
@@ -19,8 +20,7 @@ use Rattle.view.specs.View.{view_numbers}
 use Rattle.slice.specs.Slice as slice
 use Rattle.slice.specs.Slice.{shape_at}
 use Rattle.candidate.specs.declared.at_cut.Candidate.{Candidate}
-use Rattle.candidate.specs.declared.at_cut.Candidate.TheVariants.{Nothing, Slice}
-use Rattle.candidate.specs.Candidates.{Given, candidate_at, kept, candidates_to, candidates_of, cand_count, numbers_of, shape_of, probe_of}
+use Rattle.candidate.specs.Candidates.{Given, candidate, candidate_at, kept, candidates_to, candidates_of, numbers_of, shape_of, probe_of}
 use Rattle.candidate_write.specs.ItemLaws.{wide-numbers, wide-shapes, wide-probes, flat-more, flat-length}
 use Rattle.cut.specs.Cuts as cuts
 use Rattle.prune.specs.declared.mode.Part.{Part}
@@ -159,21 +159,21 @@ module _ (other : List ℤ) (edition : ℕ) (part : Part) where
           edition = f i;
         })
 
-    kept-one : kept_to (listed at⁺ shape⁺ probe⁺ (suc n)) part (suc n) ≡ kept_to (listed at shape probe n) part n ++ stays_of other edition part (Slice v a b)
+    kept-one : kept_to (listed at⁺ shape⁺ probe⁺ (suc n)) part (suc n) ≡ kept_to (listed at shape probe n) part n ++ stays_of other edition part (candidate v a b)
     unfolding kept_to stays_of
     kept-one =
         let h = kept_same (listed at shape probe n) (listed at⁺ shape⁺ probe⁺ (suc n)) part n inside-before slice-before in
         (λ i. h i ++ cond (eqb (inside-behind i) part.keep) (slice-behind i ∷ []) [])
 
   -- one place more, whatever it gives
-  kept_next : (at : List ℕ) (shape probe : List Float) (n : ℕ) → length at ≡ 2 * n → length shape ≡ 6 * n → length probe ≡ 6 * n → (c : Candidate)
+  kept_next : (at : List ℕ) (shape probe : List Float) (n : ℕ) → length at ≡ 2 * n → length shape ≡ 6 * n → length probe ≡ 6 * n → (c : Option Candidate)
       → kept_to (listed (at ++ numbers_of c) (shape ++ shape_of c) (probe ++ probe_of c) (n + length (kept c))) part (n + length (kept c)) ≡ kept_to (listed at shape probe n) part n ++ stays_of other edition part c
-  kept_next at shape probe n la ls lp Nothing =
+  kept_next at shape probe n la ls lp None =
       unfold stays_of in
       (λ i. kept_to (listed (append-nil at i) (append-nil shape i) (append-nil probe i) (add-zero n i)) part (add-zero n i)) ∙ sym (append-nil (kept_to (listed at shape probe n) part n))
-  kept_next at shape probe n la ls lp (Slice v a b) =
-      ap (λ (m : ℕ). kept_to (listed (at ++ (v.start_index ∷ v.end_index_offset ∷ [])) (shape ++ view_numbers v) (probe ++ (vertex_numbers a ++ vertex_numbers b)) m) part m) (add-one n)
-      ∙ kept-one at shape probe n la ls lp v a b
+  kept_next at shape probe n la ls lp (Some c) =
+      ap (λ (m : ℕ). kept_to (listed (at ++ (c.view.start_index ∷ c.view.end_index_offset ∷ [])) (shape ++ view_numbers c.view) (probe ++ (vertex_numbers c.from ++ vertex_numbers c.to)) m) part m) (add-one n)
+      ∙ kept-one at shape probe n la ls lp c.view c.from c.to
 
   module _ (g : Given) where
     abbrev up_to : ℕ → Cands

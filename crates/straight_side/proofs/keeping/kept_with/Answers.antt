@@ -1,5 +1,4 @@
 use Rattle.straight_side.proofs.Fronting.{fronts-room, fronts-kept}
-use borrow.Author.Rules.{rules}
 use Rattle.straight_side.proofs.keeping.kept_with.Goals as goal
 
 pub walk_fronts-requires : goal.walk_fronts-requires
