@@ -33,7 +33,7 @@ fn glyph(digit: u64) -> u8
     requires { Digit digit }
     ensures { result ≡ glyph_of digit }
 {
-    48 + digit as u8
+    b'0' + digit as u8
 }
 
 fn two_of(t: Tenth) -> Two
@@ -49,23 +49,21 @@ fn two_of(t: Tenth) -> Two
 pub fn spell(t: Two, out: &mut [u8])
     ensures { out.new ≡ digits_of (length out.old) (value t) }
 {
-    let mut i = out.len();
     let mut rest = t;
-    while i > 0 {
-        i -= 1;
+    for i in (0..out.len()).rev() {
         let q = tenth_of(rest);
         out[i] = glyph(q.digit);
         rest = two_of(q);
     }
 }
 
-// Where the digits begin that are no zeros in front.
+// Where the digits begin that are no zeros in front. The last digit is never one, so no `position` of the text says it.
 pub fn first_digit(text: &[u8]) -> usize
     ensures { Begins result text.now }
 {
     let mut i: usize = 0;
     while i + 1 < text.len() {
-        if text[i] != 48 {
+        if text[i] != b'0' {
             return i;
         }
         i += 1;

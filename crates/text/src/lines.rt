@@ -1,3 +1,4 @@
+#![tactic(auto, using(basis::specs::Choice::cases), unfolding(crate::specs::Lines::is_blank, crate::specs::Lines::is_digit, crate::specs::Lines::more, crate::specs::Lines::blanks_more, crate::specs::Lines::on_blank, crate::specs::Lines::on_minus, crate::specs::Lines::on_digit, crate::specs::Lines::stage_of, crate::specs::Lines::other_read, crate::specs::Lines::step, crate::specs::Lines::is_pair, crate::specs::Lines::coordinate_of))]
 // A line of text, byte by byte: a vertex as two whole numbers, an empty line, or neither.
 ghost use Rattle.std.specs.Prelude.{◌≡◌, ◌≤◌};
 ghost use Rattle.text.specs.Lines.{is_blank, is_digit, more, blanks_more, on_blank, on_minus, on_digit, digit_of, digit_read, minus_read, shifted, moved, stage_of, other_read, step, is_pair, is_empty, coordinate_of, Capped};
@@ -18,19 +19,13 @@ pub struct Line {
 fn is_blank(c: u8) -> bool
     ensures { result ≡ is_blank c }
 {
-    if c == 32 {
-        return true;
-    }
-    if c == 9 {
-        return true;
-    }
-    c == 13
+    c == b' ' || (c == b'\t' || c == b'\r')
 }
 
 fn is_digit(c: u8) -> bool
     ensures { result ≡ is_digit c }
 {
-    48 <= c && c <= 57
+    b'0' <= c && c <= b'9'
 }
 
 // A digit more. What is past the range stays so.
@@ -49,49 +44,48 @@ fn more_of(size: u64, digit: u64) -> u64
 fn blanks_more(stage: u32) -> u32
     ensures { result ≡ blanks_more stage }
 {
-    if stage == 3 {
-        return 3;
+    match stage {
+        3 => 3,
+        6 => 6,
+        _ => 7,
     }
-    if stage == 6 { 6 } else { 7 }
 }
 
 fn on_blank(stage: u32) -> u32
     ensures { result ≡ on_blank stage }
 {
-    if stage == 0 {
-        return 0;
+    match stage {
+        0 => 0,
+        2 => 3,
+        5 => 6,
+        _ => blanks_more(stage),
     }
-    if stage == 2 {
-        return 3;
-    }
-    if stage == 5 {
-        return 6;
-    }
-    blanks_more(stage)
 }
 
 fn on_minus(stage: u32) -> u32
     ensures { result ≡ on_minus stage }
 {
-    if stage == 0 {
-        return 1;
+    match stage {
+        0 => 1,
+        3 => 4,
+        _ => 7,
     }
-    if stage == 3 { 4 } else { 7 }
 }
 
 fn on_digit(stage: u32) -> u32
     ensures { result ≡ on_digit stage }
 {
-    if stage <= 2 {
-        return 2;
+    match stage {
+        0..=2 => 2,
+        3..=5 => 5,
+        _ => 7,
     }
-    if stage <= 5 { 5 } else { 7 }
 }
 
 fn digit_of(c: u8) -> u64
     ensures { (result ≡ digit_of c) × (result ≤ 255) }
 {
-    if c < 48 { 0 } else { (c - 48) as u64 }
+    if c < b'0' { 0 } else { u64::from(c - b'0') }
 }
 
 fn digit_read(l: Line, c: u8) -> Line
@@ -155,9 +149,10 @@ fn other_read(l: Line, c: u8) -> Line
 {
     let stage = stage_of(l.stage, c);
     if l.stage == 2 {
-        return shifted_by(l, stage);
+        shifted_by(l, stage)
+    } else {
+        moved_to(l, stage)
     }
-    moved_to(l, stage)
 }
 
 // One byte more of the line.
@@ -165,22 +160,19 @@ pub fn take(l: Line, c: u8) -> Line
     ensures { result ≡ step l c }
 {
     if is_digit(c) {
-        return digit_read(l, c);
+        digit_read(l, c)
+    } else if c == b'-' {
+        minus_read(l)
+    } else {
+        other_read(l, c)
     }
-    if c == 45 {
-        return minus_read(l);
-    }
-    other_read(l, c)
 }
 
 // The line is a pair: it ended in the second number, or in blanks after it.
 pub fn is_pair(l: Line) -> bool
     ensures { result ≡ is_pair l }
 {
-    if l.stage == 5 {
-        return true;
-    }
-    l.stage == 6
+    l.stage == 5 || l.stage == 6
 }
 
 // The line is empty, but for blanks.

@@ -4,6 +4,3 @@ use Rattle.text.proofs.decimal.spell.Given as goal
 
 abbrev pub invariant-loop-i : goal.invariant-loop-i
 invariant-loop-i l = Spelling (value l.initial.rest) l.initial.out l.out l.i (value l.rest)
-
-abbrev pub decreases-loop-i : goal.decreases-loop-i
-decreases-loop-i l = l.i
