@@ -17,6 +17,7 @@ use Rattle.prune_write.specs.PruneTheorems.{cands-sound, overlaps-sound}
 use Rattle.prune_entries.specs.declared.answer.PruneAnswer.{PruneAnswer}
 use Rattle.prune_entries.specs.Answers.{prune_refused, prune_given}
 use Rattle.prune_entries.specs.PruneEntry.{cands_rows, laps_rows, codes_rows, numbers_rows, starts_rows, reaches_rows, input_rows, lent_rows, prune_refusal, prune_number, PruneLeft, Sound}
+use Rattle.prune_entries.specs.PruneRows.{room_rows}
 
 -- ---- the candidates of one outline
 cands-fit : (c : Cands) (count : ℕ) → Clear (cands_rows c count) → CandsFit c count
@@ -156,3 +157,24 @@ module _ (g : Given) (l : Rooms) (number : ℕ) where
         shape = answer-yes (λ _. l.shape) number _ _ left.shape e z w.shape;
         edition = answer-yes (λ _. l.edition) number _ _ left.edition e z w.edition;
       }
+
+-- ---- the ways through the entry: what is handed in is refused
+pub input-refused : (g : Given) (l : Rooms) (found : ℕ) (r : PruneAnswer) → found ≡ first_from 0 (input_rows g) → (found ≡ 0 → ⊥) → r ≡ prune_refused found → PruneLeft g l r l
+input-refused g l found r e h q = left-refused g l found r (input-found g found e (length l.at) (length l.shape) (length l.edition) h) h q
+
+-- it is not, and the need was worked out
+module _ (g : Given) (l : Rooms) (found need number : ℕ) (e : found ≡ first_from 0 (input_rows g)) (z : found ≡ 0) (n : need ≡ need_of g.call)
+    (f : number ≡ first_from 0 (room_rows need (length l.at) (length l.shape) (length l.edition))) where
+  is_number : number ≡ prune_number g l
+  is_number = lent_found g found e (length l.at) (length l.shape) (length l.edition) number z (rw n at f)
+
+  pub lent-refused : (r : PruneAnswer) → (number ≡ 0 → ⊥) → r ≡ prune_refused number → PruneLeft g l r l
+  lent-refused r h q = left-refused g l number r is_number h q
+
+  pub accepted-ready : number ≡ 0 → Ready g l
+  accepted-ready y = prune-accepted g l number is_number y
+
+  pub accepted-given : (p : Pruned) (r : PruneAnswer) (left : Rooms) → number ≡ 0 → Written g l p left → r ≡ prune_given p → PruneLeft g l r left
+  accepted-given p r left y w q = left-given g l number p r left is_number y w q
+
+pub ruleset pruning = (input-refused, input-few, input-countable, lent-refused, accepted-ready, accepted-given)

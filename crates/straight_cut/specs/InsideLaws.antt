@@ -1,5 +1,5 @@
 -- Laws by which the inside answers are written.
-use Rattle.std.specs.Prelude.{◌≡◌, ℕ, zero, suc, negsuc, not, eqb, ◌+◌, ◌*◌, ◌<◌, Bool, ◌||◌, List, [], ◌∷◌, length, ℤ, pos, ◌+ℤ◌, FitsSigned, int_lt, slice_index, refl, Float}
+use Rattle.std.specs.Prelude.{◌≡◌, ℕ, zero, suc, negsuc, not, eqb, ◌+◌, ◌*◌, ◌<◌, Bool, ◌||◌, List, [], ◌∷◌, length, ℤ, pos, ◌+ℤ◌, FitsSigned, int_lt, slice_index, refl, Float, true, false}
 use Rattle.std.proofs.Math.Path.{sym, ap}
 use Rattle.std.proofs.lemmas.Bool.{eqb-false}
 use Rattle.std.proofs.Common.{subst, eqb-true, lt-ltb, ◌∙◌, arith, to_z, of_z, to_z-of_z}
@@ -67,3 +67,24 @@ unfolding insides_of inside_at inside_of
 insides-at other probe count k h =
     let e : k ≡ 1 * k + 0 = omega arith in
     ap (λ (i : ℕ). slice_index (first_items (λ j. inside_at other probe j ∷ []) count) i) e ∙ items_at (λ j. inside_at other probe j ∷ []) 1 (λ n. refl) 0 count k 0 h (omega arith)
+
+-- ---- the code of a winding number, which is read back as v
+module _ (w v : ℤ) (same : v ≡ w) (a : Bool) (above : a ≡ int_lt (pos 0) v) where
+  up : (t : Bool) → a ≡ t → int_lt (pos 0) w ≡ t
+  up t y = ap (int_lt (pos 0)) (sym same) ∙ sym above ∙ y
+
+  pub code-above : a ≡ true → 1 ≡ inside_code w
+  unfolding inside_code
+  code-above y = sym (λ i. code_of (up true y i || int_lt w (pos 0)))
+
+  module _ (b : Bool) (below : b ≡ int_lt v (pos 0)) where
+    down : (t : Bool) → b ≡ t → int_lt w (pos 0) ≡ t
+    down t y = ap (λ (z : ℤ). int_lt z (pos 0)) (sym same) ∙ sym below ∙ y
+
+    pub code_below : a ≡ false → b ≡ true → 1 ≡ inside_code w
+    unfolding inside_code
+    code_below n y = sym (λ i. code_of (up false n i || down true y i))
+
+    pub code-none : a ≡ false → b ≡ false → 0 ≡ inside_code w
+    unfolding inside_code
+    code-none n y = sym (λ i. code_of (up false n i || down false y i))

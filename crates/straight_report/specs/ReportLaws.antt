@@ -1,6 +1,6 @@
 -- The laws of the report: one outline of the list, the sums so far, and the code's small steps.
 use Rattle.std.specs.Prelude.{ℕ, zero, suc, ◌+◌, ◌-◌, ◌*◌, ◌^◌, ◌≤◌, ◌<◌, ◌≡◌, refl, Bool, eqb, ltb, length, take, drop, ℤ, pos, nat_abs}
-use Rattle.std.proofs.Common.{zero-le, arith, add-one, le_refl, le_trans, ◌∙◌, length-take, length-drop, drop_of_length-le, length-take-le, get_or-take, get_or-drop, ltb-true, ltb-false, ne_eqb}
+use Rattle.std.proofs.Common.{zero-le, arith, add-one, le_refl, le_trans, ◌∙◌, length-take, length-drop, drop_of_length-le, length-take-le, get_or-take, get_or-drop, ltb-true, ltb-false, ne_eqb, eq-eqb}
 use Rattle.std.proofs.Math.Nat.{add_assoc}
 use Rattle.std.proofs.Math.Path.{sym, ap, subst}
 use Rattle.std.proofs.Math.Bool.{true, false}
@@ -155,14 +155,27 @@ pub ruleset sizing = (last_none, last_some, sizes-stop, sizes-on, sizes-end)
 pub zero-high : (h l : ℕ) → (h ≡ 0 → ⊥) → false ≡ eqb (h * 2 ^ 64 + l) 0
 zero-high h l f = sym (ne_eqb (h * 2 ^ 64 + l) 0 (λ e. f (omega arith)))
 
-pub zero-low : (h l : ℕ) → h ≡ 0 → eqb l 0 ≡ eqb (h * 2 ^ 64 + l) 0
-zero-low h l e = ap (λ (n : ℕ). eqb n 0) (omega arith)
+pub low-zero : (h l : ℕ) → h ≡ 0 → eqb l 0 ≡ eqb (h * 2 ^ 64 + l) 0
+low-zero h l e = ap (λ (n : ℕ). eqb n 0) (omega arith)
 
-pub ruleset zero_words = (zero-high, zero-low)
+pub ruleset zero_words = (zero-high, low-zero)
+
+-- and its code
+pub zero_high : (h l : ℕ) → (h ≡ 0 → ⊥) → 0 ≡ code_of (eqb (h * 2 ^ 64 + l) 0)
+zero_high h l f = ap code_of (sym (ne_eqb (h * 2 ^ 64 + l) 0 (λ e. f (omega arith))))
+
+pub zero-low : (h l : ℕ) → (l ≡ 0 → ⊥) → 0 ≡ code_of (eqb (h * 2 ^ 64 + l) 0)
+zero-low h l f = ap code_of (sym (ne_eqb (h * 2 ^ 64 + l) 0 (λ e. f (omega arith))))
+
+pub zero-both : (h l : ℕ) → h ≡ 0 → l ≡ 0 → 1 ≡ code_of (eqb (h * 2 ^ 64 + l) 0)
+zero-both h l e f = ap code_of (sym (eq-eqb (h * 2 ^ 64 + l) 0 (omega arith)))
 
 -- what an area's two words say
 pub area-says : (a : Area) (z : ℤ) → a ≡ area_words z → value a.size ≡ nat_abs z
 area-says a z e = ap (λ (b : Area). value b.size) e ∙ value-two (nat_abs z)
+
+pub size-says : (s : Two) (a : Area) (z : ℤ) → a ≡ area_words z → s.high ≡ a.size.high → s.low ≡ a.size.low → value s ≡ nat_abs z
+size-says s a z e h l = (λ i. h i * 2 ^ 64 + l i) ∙ area-says a z e
 
 pub four-thousand : (v k : ℕ) → v ≤ 327680000000000000000 * k → k ≤ 4096 → v ≤ 1342177280000000000000000
 four-thousand v k h l = omega arith

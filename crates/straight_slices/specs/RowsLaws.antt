@@ -21,6 +21,7 @@ use Rattle.straight_cut.specs.KnownLaws.{outline-readable, points-readable, laps
 use Rattle.straight_slices.specs.Slices.{Given, first_cuts, second_cuts, pruning, most_call, need_all}
 use Rattle.straight_slices.specs.Ready.{Accepted}
 use Rattle.straight_slices.specs.Rows.{more_list_rows, list_rows, code_rows, number_rows, straight_rows, index_rows, input_rows, lent_rows, slices_rows, slices_refusal, slices_number, SlicesLeft}
+use Rattle.prune_entries.specs.PruneRows.{room_rows}
 
 -- ---- the parts
 pub record Parts (g : Given) : Type 0 where
@@ -209,3 +210,24 @@ module _ (g : Given) (l : Rooms) (number : ℕ) (is : number ≡ slices_number g
 -- an accepted call has few cuts
 pub accepted-few : (g : Given) (l : Rooms) (number : ℕ) → number ≡ slices_number g l → number ≡ 0 → FewCuts (g.job.hits + 2 * g.job.laps)
 accepted-few g l number is z = let c = first-pass g (accepted-parts g l (sym is ∙ z)) in record { few = omega (arith, c.few_hits, c.few_laps) }
+
+-- what is handed in is refused
+pub input-refused : (g : Given) (l : Rooms) (found : ℕ) (r : PruneAnswer) → found ≡ first_from 0 (input_rows g) → (found ≡ 0 → ⊥) → r ≡ prune_refused found → SlicesLeft g l r l
+input-refused g l found r e h q = slices-refused g l found (input-found g found e (length l.at) (length l.shape) (length l.edition) h) r h q
+
+-- it is not, and the need was worked out
+module _ (g : Given) (l : Rooms) (found need number : ℕ) (e : found ≡ first_from 0 (input_rows g)) (z : found ≡ 0) (n : need ≡ need_all g.job)
+    (f : number ≡ first_from 0 (room_rows need (length l.at) (length l.shape) (length l.edition))) where
+  is_number : number ≡ slices_number g l
+  is_number = lent_found g found e (length l.at) (length l.shape) (length l.edition) number z (rw n at f)
+
+  pub lent-refused : (r : PruneAnswer) → (number ≡ 0 → ⊥) → r ≡ prune_refused number → SlicesLeft g l r l
+  lent-refused r h q = slices-refused g l number is_number r h q
+
+  pub accepted-ready : (call : Call) → call ≡ most_call g.job → number ≡ 0 → Accepted g call l
+  accepted-ready call m y = slices-accepted g l number is_number call m y
+
+  pub accepted-given : (p : Pruned) (r : PruneAnswer) (left : Rooms) → number ≡ 0 → WrittenTo (pruning g) (need_all g.job) l p left → r ≡ prune_given p → SlicesLeft g l r left
+  accepted-given p r left y w q = slices-given g l number is_number p r left y w q
+
+pub ruleset slicing = (input-refused, input-few, need-countable, lent-refused, accepted-ready, accepted-given)

@@ -6,7 +6,7 @@ use borrow.Author.Tests.{leb-false, ltb-false, not-false}
 use Rattle.basis.specs.Choice.{code_of, by-test}
 use Rattle.basis.specs.Number.{all_within}
 use Rattle.basis.specs.Refuse.{Row, row, first_of, first_from, answer, length_fault, size_fault, choice_fault}
-use Rattle.basis.specs.RefuseLaws.{clear, stop-rows, go-rows, length-ok, size_ok}
+use Rattle.basis.specs.RefuseLaws.{clear, stop-rows, go-rows, length-ok, size_ok, first-from, then-rows}
 use Rattle.view.specs.declared.data.ViewData.{ViewData}
 use Rattle.view.specs.View.{vertex_count, view_numbers}
 use Rattle.unmoved.specs.Unmoved.{first_moved, moved, BothFit}
@@ -61,6 +61,10 @@ unfolding unmoved_given
 told-given n count = by-test (eqb n count) (λ e. rw e) (λ e. rw e)
 
 module _ (o1 : List Float) (vc1 : ℕ) (o2 : List Float) (vc2 : ℕ) (v : View) where
+  pub unmoved-rows : (p n : ℕ) → p ≡ first_from 0 (value_rows o1 vc1 o2 vc2 v) → n ≡ first_from p (index_rows vc1 vc2 v) → n ≡ unmoved_refusal o1 vc1 o2 vc2 v
+  unfolding unmoved_refusal
+  unmoved-rows p n e q = first-from (unmoved_rows o1 vc1 o2 vc2 v) n tt (then-rows n p 0 (value_rows o1 vc1 o2 vc2 v) (index_rows vc1 vc2 v) q e)
+
   -- the first part has a number, or the second is looked at
   pub unmoved-stops : (p : ℕ) → p ≡ first_from 0 (value_rows o1 vc1 o2 vc2 v) → (p ≡ 0 → ⊥) → p ≡ unmoved_refusal o1 vc1 o2 vc2 v
   unfolding unmoved_refusal

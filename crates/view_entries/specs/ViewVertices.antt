@@ -51,6 +51,14 @@ module _ (o : List Float) (vc : ℕ) (v : View) (len r : ℕ) (e : r ≡ view_ve
     unfolding view_vertex_refusal view_vertices_refusal
     later = first-later (view_vertex_rows o vc v) (list_room_rows v len) (clear (view_vertex_rows o vc v) tt (sym e ∙ z))
 
+    pub list-short : len < 3 * vertex_count (view_data v) → 9 ≡ view_vertices_refusal o vc v len
+    unfolding first_of
+    list-short h = sym (later ∙ rw (lt-ltb len (3 * vertex_count (view_data v)) h))
+
+    pub list-enough : 3 * vertex_count (view_data v) ≤ len → 0 ≡ view_vertices_refusal o vc v len
+    unfolding first_of
+    list-enough h = sym (later ∙ rw (le-ltb len (3 * vertex_count (view_data v)) h))
+
     pub list-room : (w : Result Unit Refusal) → w ≡ when (ltb len (3 * vertex_count (view_data v))) Room → found w ≡ view_vertices_refusal o vc v len
     unfolding first_of
     list-room w q = ap found q ∙ found-when (ltb len (3 * vertex_count (view_data v))) Room ∙ sym later
