@@ -17,11 +17,26 @@ pub fn list_refusal(cuts: &Cuts) -> Result<(), Refusal>
     ensures { found result ≡ first_from 0 (list_rows (held cuts.now)) }
 {
     let s = cuts.case;
-    refuse::when(refuse::bad_length(cuts.outline.len(), 3, s.vc), Refusal::Length)?;
-    refuse::when(refuse::bad_length(cuts.hit_at.len(), 2, s.hits), Refusal::Length)?;
-    refuse::when(refuse::bad_length(cuts.hit.len(), 2, s.hits), Refusal::Length)?;
-    refuse::when(refuse::bad_length(cuts.lap_at.len(), 7, s.laps), Refusal::Length)?;
-    refuse::when(refuse::bad_length(cuts.lap.len(), 6, s.laps), Refusal::Length)?;
+    refuse::when(
+        refuse::bad_length(cuts.outline.len(), 3, s.vc),
+        Refusal::Length,
+    )?;
+    refuse::when(
+        refuse::bad_length(cuts.hit_at.len(), 2, s.hits),
+        Refusal::Length,
+    )?;
+    refuse::when(
+        refuse::bad_length(cuts.hit.len(), 2, s.hits),
+        Refusal::Length,
+    )?;
+    refuse::when(
+        refuse::bad_length(cuts.lap_at.len(), 7, s.laps),
+        Refusal::Length,
+    )?;
+    refuse::when(
+        refuse::bad_length(cuts.lap.len(), 6, s.laps),
+        Refusal::Length,
+    )?;
     refuse::when(MOST_HITS < s.hits, Refusal::Length)?;
     refuse::when(MOST_LAPS < s.laps, Refusal::Length)
 }
@@ -84,6 +99,9 @@ pub fn index_refusal(cuts: &Cuts) -> Result<(), Refusal>
 {
     let s = cuts.case;
     let which = arrival::which_of(s.source);
-    refuse::when(!items::all_below(cuts.hit_at, 2, which, s.vc), Refusal::Index)?;
+    refuse::when(
+        !items::all_below(cuts.hit_at, 2, which, s.vc),
+        Refusal::Index,
+    )?;
     lap_index_refusal(s.source, s.vc, cuts.lap_at)
 }

@@ -10,12 +10,11 @@ ghost use Rattle.cut_entries.specs.CutRows.{FewCuts};
 ghost use Rattle.cut_entries.specs.CutOrder.{cut_input_rows, order_room_rows, cut_order_refusal, CutOrdered, Wrote, Few};
 
 use crate::faults;
-use basis::answer;
 use basis::answer::CountAnswer;
 use basis::number::Tolerance;
-use basis::refuse;
 use basis::refuse::Refusal;
 use basis::sizes::MOST_CANDIDATES;
+use basis::{answer, refuse};
 use cut::arrival::{Case, Cuts};
 use cut_order::write;
 

@@ -58,10 +58,7 @@ fn follows(cut_at: &[usize], i: usize, c: Cut, last: Key, key: Key) -> bool
 }
 
 // Whether the list holds the cuts in their order, three numbers each.
-pub fn is_along(
-    cuts: &Cuts,
-    cut_at: &[usize],
-) -> bool
+pub fn is_along(cuts: &Cuts, cut_at: &[usize]) -> bool
     requires { Accepted (held cuts.now) }
     ensures { Followed (held cuts.now) cut_at.now result }
 {

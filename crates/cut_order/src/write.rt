@@ -23,12 +23,7 @@ fn put_numbers(room: &mut [usize], at: usize, c: Cut, n: usize)
 
 // Every cut, in the order that is known.
 #[tactic(auto, using(crate::proofs::Writing::writing))]
-fn write_items(
-    cuts: &Cuts,
-    order: &[usize],
-    cut_at: &mut [usize],
-    cut: &mut [f64],
-)
+fn write_items(cuts: &Cuts, order: &[usize], cut_at: &mut [usize], cut: &mut [f64])
     requires { Known (held cuts.now) order.now cut_at.old cut.old }
     ensures { Written (held cuts.now) cut_at.old cut.old cut_at.new cut.new }
 {
@@ -42,12 +37,7 @@ fn write_items(
 
 // The cuts of one outline in their order, with their segments, marks, arrival numbers and points. The list lent beside the rooms is for the order, one place a cut.
 // The rooms themselves hold what the cuts are sorted by, until the cuts are written into them.
-pub fn write_order(
-    cuts: &Cuts,
-    order: &mut [usize],
-    cut_at: &mut [usize],
-    cut: &mut [f64],
-)
+pub fn write_order(cuts: &Cuts, order: &mut [usize], cut_at: &mut [usize], cut: &mut [f64])
     requires { WriteRoom (held cuts.now) order.old cut_at.old cut.old }
     ensures { Written (held cuts.now) cut_at.old cut.old cut_at.new cut.new }
 {
