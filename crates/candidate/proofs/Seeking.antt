@@ -3,12 +3,13 @@ use Prim.Native.Nat.{ℕ, zero, suc, ◌+◌, ◌-◌, ◌*◌, ◌≤◌, ◌<�
 use mathlib.Core.Bool.{Bool, true, false}
 use mathlib.Core.Path.{◌≡◌, refl, sym, ap, ◌∙◌}
 use mathlib.Core.List.{List}
+use native.Mathlib.Nat.{add_assoc, mod-add-mod}
 use native.Mathlib.Omega.{arith}
 use lib.Dec.{ltb, eqb}
 use borrow.Author.Tests.{ltb-true, ltb-false, lt-ltb, le-ltb, eqb-true, eqb-false, eq-eqb, ne_eqb}
 use Rattle.basis.specs.Choice.{by-test}
 use Rattle.outline.specs.Outline.{wrap}
-use Rattle.outline.specs.OutlineLaws.{wrap-same, wrap-less}
+use Rattle.outline.specs.OutlineLaws.{wrap-lt, wrap-same, wrap-less}
 use Rattle.candidate.specs.Candidates.{segment_at, same_next, first_from, first_cut, has_cut, traverse_from, traverse_of}
 use Rattle.candidate.specs.Steps.{Among, next_place, NextPlace, segments_on, Segments, LastCut, NextCut}
 use Rattle.candidate.specs.SearchLaws.{first-here, first-later, traverse-hit, traverse-miss}
@@ -22,7 +23,19 @@ wrap-cases : {P : Type 0} (vc i : ℕ) → i < 2 * vc → (i < vc → wrap vc i 
 wrap-cases vc i h f g =
     by-test (ltb i vc) (λ e. let l = ltb-true i vc e in f l (wrap-same vc i l)) (λ e. let l = ltb-false i vc e in g l (wrap-less vc i l h))
 
--- ---- how far on it is: at most once round, and it leads there
+-- the index after a wrapped one
+wrap-next : (vc s k j i : ℕ) → i ≡ wrap vc (s + k) → j ≡ wrap vc (i + 1) → j ≡ wrap vc (s + (k + 1))
+unfolding wrap
+wrap-next vc s k j i e f = f ∙ rw (e, mod-add-mod (s + k) vc 1, add_assoc s k 1)
+
+-- ---- the loop: it has come to the count k at the segment i, and not past the one that it seeks
+pub record Seeking (vc s to k i : ℕ) : Type 0 where
+  pub least : 1 ≤ k
+  pub short : k ≤ segments_on vc s to
+  pub most : k ≤ vc
+  pub here : i ≡ wrap vc (s + k)
+  pub inside : i < vc
+
 module _ (vc s to : ℕ) (given : Segments vc s to) where
   on-least : 1 ≤ segments_on vc s to
   on-least = on-cases vc s to (λ l e. omega arith) (λ l e. omega arith)
@@ -34,6 +47,37 @@ module _ (vc s to : ℕ) (given : Segments vc s to) where
   on-there =
       wrap-cases vc (s + segments_on vc s to) (omega (arith, on-most)) (λ h w. w ∙ on-cases vc s to (λ l e. omega arith) (λ l e. omega arith))
       (λ h w. w ∙ on-cases vc s to (λ l e. omega arith) (λ l e. omega arith))
+
+  pub seek-start : (i : ℕ) → i ≡ wrap vc (s + 1) → Seeking vc s to 1 i
+  seek-start i e =
+      record { least = omega arith; short = on-least; most = omega arith; here = e; inside = omega (arith, wrap-lt vc (s + 1) (omega arith)) }
+
+  module _ (k i : ℕ) (at : Seeking vc s to k i) where
+    seek-on : (i ≡ to → ⊥) → k < segments_on vc s to
+    seek-on n =
+        by-test (ltb k (segments_on vc s to)) (λ e. ltb-true k (segments_on vc s to) e)
+        (λ e. let z : k ≡ segments_on vc s to = omega (arith, ltb-false k (segments_on vc s to) e) in
+        absurd (n (at.here ∙ ap (λ (j : ℕ). wrap vc (s + j)) z ∙ on-there)))
+
+    pub seek-less : (i ≡ to → ⊥) → vc - (k + 1) < vc - k
+    seek-less n = omega (arith, seek-on n, on-most)
+
+    pub seek-turn : (j : ℕ) → (i ≡ to → ⊥) → j ≡ wrap vc (i + 1) → Seeking vc s to (k + 1) j
+    seek-turn j n e =
+        record {
+          least = omega arith;
+          short = omega (arith, seek-on n);
+          most = omega (arith, seek-on n, on-most);
+          here = wrap-next vc s k j i at.here e;
+          inside = omega (arith, wrap-lt vc (i + 1) (omega arith));
+        }
+
+    pub seek-end : i ≡ to → k ≡ segments_on vc s to
+    seek-end e =
+        wrap-cases vc (s + k) (omega arith) (λ h w. on-cases vc s to (λ l d. omega arith) (λ l d. omega arith))
+        (λ h w. on-cases vc s to (λ l d. omega arith) (λ l d. omega arith))
+
+pub ruleset seeking = (seek-start, seek-less, seek-turn, seek-end)
 
 -- ---- a segment's first cut, by what stands at the places
 first-none : (left : ℕ) (cut_at : List ℕ) (i p : ℕ) → ((q : ℕ) → p ≤ q → q < p + left → segment_at cut_at q ≡ i → ⊥) → first_from left cut_at i p ≡ p + left

@@ -2,6 +2,8 @@
 ghost use Rattle.std.specs.Prelude.{◌≡◌};
 ghost use Rattle.candidate.specs.Steps.{Among, NextPlace, segments_on, Segments, LastCut, NextCut};
 
+use outline::read;
+
 // Where a walk ends: its traverse count, the segment there, and that segment's first cut.
 #[derive(Clone, Copy)]
 pub struct Next {
@@ -20,12 +22,20 @@ fn next_place(count: usize, p: usize) -> usize
 }
 
 // The traverse count: how many segments on from `s` the next one is that has a cut, which is `to`. It is from 1 to vc, and vc where `to` is `s` itself.
-#[tactic(auto, using(basis::specs::Choice::cases), unfolding(crate::specs::Steps::segments_on))]
+// A loop that breaks with it, as document 01 asks at this place ("Language forms by place").
 fn traverse_count(vc: usize, s: usize, to: usize) -> usize
     requires { Segments vc s to }
     ensures { result ≡ segments_on vc s to }
 {
-    if s < to { to - s } else { vc + to - s }
+    let mut k = 1;
+    let mut i = read::wrapped(s + 1, vc);
+    loop {
+        if i == to {
+            break k;
+        }
+        k += 1;
+        i = read::wrapped(i + 1, vc);
+    }
 }
 
 // Where the walk from the cut at place p, its segment's last, ends. The cuts go by segment, so the next segment that has one is that of the next place.
