@@ -1,5 +1,5 @@
 -- Document 01, "Cuts and candidates": the cuts of one outline, in their order of arrival.
-use Rattle.std.specs.Prelude.{ℕ, ◌+◌, ◌-◌, ◌*◌, ◌/◌, ◌%◌, ◌≤◌, ◌<◌, false, cond, ◌≡◌, List, length, get_or, ltb, eqb, Float}
+use Rattle.std.specs.Prelude.{ℕ, ◌+◌, ◌-◌, ◌*◌, ◌/◌, ◌%◌, ◌^◌, ◌≤◌, ◌<◌, false, cond, ◌≡◌, List, length, get_or, ltb, eqb, Float}
 use Rattle.basis.specs.declared.number.Tolerance.{Tolerance}
 use Rattle.basis.specs.Sizes.{most_hits, most_laps}
 use Rattle.outline.specs.declared.point.Point.{Point}
@@ -61,6 +61,10 @@ lap_cut o vc source la l t j end =
       mark = eqb end (marked_end source (get_or la (7 * j + 4) 0));
       point = point_at l (6 * j + 4 * end);
     }
+
+-- the number of cuts is a number of the machine
+abbrev pub Countable : Case → Type 0
+Countable s = s.hits + 2 * s.laps < 2 ^ 64
 
 -- one cut for each intersection, two for each overlap
 abbrev pub cut_count : Given → ℕ

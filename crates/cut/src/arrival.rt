@@ -1,8 +1,8 @@
 #![tactic(auto, using(crate::proofs::Arriving::parts), unfolding(crate::specs::Cuts::cut_of, crate::specs::Cuts::marked_end, crate::specs::Cuts::moved))]
 // The cuts of one outline, by their numbers of arrival. Outline 1 and outline 2 differ in the source, 1 or 2, and in nothing else.
-ghost use Rattle.std.specs.Prelude.{◌≡◌, ◌+◌, ◌*◌, ◌≤◌};
+ghost use Rattle.std.specs.Prelude.{◌≡◌, ◌+◌, ◌*◌};
 ghost use Rattle.outline.specs.Outline.{Segment};
-ghost use Rattle.cut.specs.Cuts.{held, hit_cut, moved, marked_end, lap_cut, cut_of, Which, Arrival, HitFit, LapFit};
+ghost use Rattle.cut.specs.Cuts.{Countable, held, hit_cut, moved, marked_end, lap_cut, cut_of, Which, Arrival, HitFit, LapFit};
 
 use basis::number::Tolerance;
 use outline::point::Point;
@@ -31,7 +31,7 @@ pub struct Case {
 impl Case {
     // How many cuts there are: one for each intersection, two for each overlap.
     pub fn count(&self) -> usize
-        requires { self.now.hits + 2 * self.now.laps ≤ usize.MAX }
+        requires { Countable self.now }
         ensures { result ≡ self.now.hits + 2 * self.now.laps }
     {
         self.hits + 2 * self.laps
@@ -49,7 +49,7 @@ pub struct Cuts<'a> {
     pub case: Case,
 }
 
-// Which of two indexes, the one on outline 1 and the one on outline 2, is of the outline that a source names.
+// Which of two indexes, the one on outline 1 and the one on outline 2, is of the outline that a source names. A place in C's list: no plainer by a conversion.
 pub fn which_of(source: usize) -> usize
     ensures { Which source result }
 {
@@ -68,7 +68,7 @@ fn moved_index(outline: &[f64], vc: usize, i: usize, p: Point, t: Tolerance) -> 
     }
 }
 
-// Where an overlap carries the mark: 0 is its start, 1 its end.
+// Where an overlap carries the mark: 0 is its start, 1 its end, places in C's list.
 fn marked_end(source: usize, opposing: usize) -> usize
     ensures { result ≡ marked_end source opposing }
 {

@@ -47,7 +47,7 @@ fn goes_on(i: usize, last: Key, key: Key) -> bool
     is_sooner(last, key) || (last.arrival < key.arrival) & !is_sooner(key, last)
 }
 
-// What the hint has at place i is the cut, and the cut may come after the one before it.
+// What the hint has at place i is the cut, and the cut may come after the one before it. Joined by `&`, since `&&` would be a branch more for each cut.
 fn follows(cut_at: &[usize], i: usize, c: Cut, last: Key, key: Key) -> bool
     requires { Third cut_at.now i }
     ensures { result ≡ follows_by cut_at.now i c last key }

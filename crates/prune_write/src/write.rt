@@ -30,7 +30,7 @@ pub fn write_kept(cands: &Cands, count: usize, part: Part, lent: &mut Lent, m: u
     n
 }
 
-// Writes the overlaps for outline 1 or for outline 2, as slices from number m on, and says where they end.
+// Writes the overlaps for outline 1 or for outline 2, as slices from number m on, and says where they end. No twin of write_kept: none of them is tested.
 #[tactic(auto, using(crate::specs::WriteLaws::lapping))]
 fn write_laps(laps: &Overlaps, count: usize, first: bool, lent: &mut Lent, m: usize) -> usize
     requires { LapsFit (laps_in laps.now) count (rooms_in lent.old) m }

@@ -7,6 +7,7 @@ pub const CODE_WIDTH: usize = 4;
 // Updated start x, y, bulge, end bulge, end x, y.
 pub const SHAPE_WIDTH: usize = 6;
 
+// The four codes of a slice as they stand in C's list: `source` is 1 or 2, `inverted` 0 or 1.
 #[derive(Clone, Copy)]
 pub struct Codes {
     pub source: usize,

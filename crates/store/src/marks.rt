@@ -11,6 +11,8 @@ use basis::room;
 // The most places that lists have here: a party's half.
 pub const MOST_PLACES: usize = 896;
 
+// A mark is one number, place and handle packed, since the list of marks is C's.
+
 // The handle that a mark names; of a number that names none, 0.
 pub fn handle_of(m: usize) -> usize
     ensures { result ≡ handle_of m }
