@@ -24,6 +24,19 @@ use Rattle.stitch_run.specs.TallyLaws.{passing-same}
 use Rattle.stitch_round.specs.Ready.{told_of, step_of, comes_to, RoundFit, standing, Rounded}
 use Rattle.stitch_slices.specs.Ready.{Points}
 
+-- the outcome of each answer
+module _ (n first : ℕ) (a : Option (Option ℕ)) where
+  pub step-none : a ≡ None → Ends 2 ≡ comes_to n first a
+  unfolding how_of
+  step-none e = ap (comes_to n first) (sym e)
+
+  pub step-no : (z : Option ℕ) → a ≡ Some z → z ≡ None → Ends 3 ≡ comes_to n first a
+  unfolding how_of
+  step-no z e f = ap (λ (y : Option ℕ). comes_to n first (Some y)) (sym f) ∙ ap (comes_to n first) (sym e)
+
+  pub step-chosen : (z : Option ℕ) (j : ℕ) (r : Step) → a ≡ Some z → z ≡ Some j → r ≡ step_of n first j → r ≡ comes_to n first a
+  step-chosen z j r e f q = q ∙ ap (λ (y : Option ℕ). comes_to n first (Some y)) (sym f) ∙ ap (comes_to n first) (sym e)
+
 module _ (points : List Float) (visited : List Bool) (link : List ℕ) (w : Layout) (room : List Float) (n first : ℕ) (p : Plan) (f : RoundFit points visited link w room n first p) where
   -- what a look by lists of cells needs
   pub round-asking : (w.lists ≡ 0 → ⊥) → Asking points visited link w first p

@@ -48,7 +48,13 @@ fn walk(outline: &[f64], cut_at: &[usize], cut: &[f64], s: Case, p: usize) -> Op
 }
 
 // What the cut at place p gives: nothing where it is marked, the piece to its neighbour, or the walk.
-pub fn candidate_at(outline: &[f64], cut_at: &[usize], cut: &[f64], s: Case, p: usize) -> Option<Candidate>
+pub fn candidate_at(
+    outline: &[f64],
+    cut_at: &[usize],
+    cut: &[f64],
+    s: Case,
+    p: usize,
+) -> Option<Candidate>
     requires { Place (straight_given outline.now cut_at.now cut.now s) p }
     ensures { result ≡ candidate_at (straight_given outline.now cut_at.now cut.now s) p }
 {
