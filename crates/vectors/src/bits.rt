@@ -25,10 +25,8 @@ pub(crate) fn low(word: usize) -> u8 {
 // A sum so far, and every word added to it, modulo 2^64: one changed bit changes it.
 pub(crate) fn sum(s: &[u8], so_far: usize) -> usize {
     let mut total = so_far;
-    let mut i: usize = 0;
-    while i < s.len() / 8 {
-        total = std::num::wrapping_add_usize(total, word_at(s, i));
-        i += 1;
+    for i in 0..s.len() / 8 {
+        total = total.wrapping_add(word_at(s, i));
     }
     total
 }

@@ -1,28 +1,23 @@
 // A case: its words in every form, and the entry that it is of. No case has more than 4096 words.
+use crate::entry::Entry;
 use crate::{bits, cuts, pruning, starts, stitching, views, words};
 
 // Writes the words of the case's bytes to a list, and words to lists as floats and as bytes. Beyond the end they are 0.
 fn fill_counts(bytes: &[u8], l: &mut [usize]) {
-    let mut i: usize = 0;
-    while i < l.len() {
-        l[i] = bits::word_at(bytes, i);
-        i += 1;
+    for (i, word) in l.iter_mut().enumerate() {
+        *word = bits::word_at(bytes, i);
     }
 }
 
 fn fill_numbers(w: &[usize], l: &mut [f64]) {
-    let mut i: usize = 0;
-    while i < l.len() {
-        l[i] = words::float_of(words::at(w, i));
-        i += 1;
+    for (x, word) in l.iter_mut().zip(w) {
+        *x = words::float_of(*word);
     }
 }
 
 fn fill_flags(w: &[usize], l: &mut [u8]) {
-    let mut i: usize = 0;
-    while i < l.len() {
-        l[i] = bits::low(words::at(w, i));
-        i += 1;
+    for (flag, word) in l.iter_mut().zip(w) {
+        *flag = bits::low(*word);
     }
 }
 
@@ -63,44 +58,35 @@ fn area_pass(w: &[usize; 4096], x: &[f64; 4096]) -> bool {
 }
 
 // The entries that begin with an outline and write no list.
-fn of_views(entry: usize, outline: &[f64], r: &[usize], y: &[f64]) -> bool {
+fn behind_outline(entry: Entry, w: &[usize], x: &[f64]) -> bool {
+    let p = words::behind(w, 1);
+    let (outline, r, y) = (words::list(w, x, 1), words::from(w, p), words::from(x, p));
     match entry {
-        0 => views::view_vertex(outline, r, y),
-        1 => views::create(outline, r, y),
-        2 => views::create_on_single_segment(outline, r, y),
-        3 => views::from_entire_pline(outline, r),
-        4 => views::validate_for_source(outline, r, y),
-        10 => starts::slice_span(outline, r, y),
-        11 => starts::from_slice_points(outline, r, y),
-        12 => starts::from_new_start(outline, r, y),
+        Entry::ViewVertex => views::view_vertex(outline, r, y),
+        Entry::Create => views::create(outline, r, y),
+        Entry::CreateOnSingleSegment => views::create_on_single_segment(outline, r, y),
+        Entry::FromEntirePline => views::from_entire_pline(outline, r),
+        Entry::ValidateForSource => views::validate_for_source(outline, r, y),
+        Entry::SliceSpan => starts::slice_span(outline, r, y),
+        Entry::FromSlicePoints => starts::from_slice_points(outline, r, y),
+        Entry::FromNewStart => starts::from_new_start(outline, r, y),
         _ => false,
     }
 }
 
-fn behind_outline(entry: usize, w: &[usize], x: &[f64]) -> bool {
-    let p = words::behind(w, 1);
-    of_views(
-        entry,
-        words::numbers(w, x, 1),
-        words::from(w, p),
-        words::floats_from(x, p),
-    )
-}
-
-// An entry that is not known differs.
-fn of_entry(entry: usize, w: &[usize; 4096], x: &[f64; 4096]) -> bool {
+fn of_entry(entry: Entry, w: &[usize; 4096], x: &[f64; 4096]) -> bool {
     match entry {
-        5 => cut_order(w, x),
-        6 => candidates(w, x),
-        7 => prune(w, x),
-        8 => stitch(w, x),
-        9 => area_pass(w, x),
+        Entry::CutOrder => cut_order(w, x),
+        Entry::Candidates => candidates(w, x),
+        Entry::Prune => prune(w, x),
+        Entry::Stitch => stitch(w, x),
+        Entry::AreaPass => area_pass(w, x),
         _ => behind_outline(entry, w, x),
     }
 }
 
 // The entry answers what the case says.
-pub(crate) fn holds(entry: usize, bytes: &[u8]) -> bool {
+pub(crate) fn holds(entry: Entry, bytes: &[u8]) -> bool {
     let mut w = [0usize; 4096];
     fill_counts(bytes, &mut w);
     let mut x = [0.0; 4096];

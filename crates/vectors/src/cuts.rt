@@ -42,12 +42,9 @@ fn is_ordered(w: &[usize], p: usize, r: CountAnswer, cut_at: &[usize], cut: &[f6
     let q = words::behind(w, p);
     let end = words::behind(w, q);
     let left = words::after(w, end, 2);
-    words::all(
-        lists::is_count_answer(words::from(w, end), r),
-        words::left_counts(w, cut_at, p, left),
-        words::left_numbers(w, cut, q, words::left_behind(w, p, left)),
-        true,
-    )
+    lists::is_count_answer(words::from(w, end), r)
+        && words::left_counts(w, cut_at, p, left)
+        && words::left_numbers(w, cut, q, words::left_behind(w, p, left))
 }
 
 pub(crate) fn cut_order(w: &[usize], x: &[f64], c1: &mut [usize], x1: &mut [f64]) -> bool {
@@ -55,19 +52,19 @@ pub(crate) fn cut_order(w: &[usize], x: &[f64], c1: &mut [usize], x1: &mut [f64]
     let tolerance = words::float_at(x, g.next);
     let p = words::after(w, g.next, 1);
     let answer = mask::cutting::mask_cut_order(
-        words::numbers(w, x, 1),
+        words::list(w, x, 1),
         g.vc,
         g.source,
-        words::counts(w, w, g.hit_at),
-        words::numbers(w, x, g.hit),
+        words::list(w, w, g.hit_at),
+        words::list(w, x, g.hit),
         g.hits,
-        words::counts(w, w, g.lap_at),
-        words::numbers(w, x, g.lap),
+        words::list(w, w, g.lap_at),
+        words::list(w, x, g.lap),
         g.laps,
         tolerance,
         tolerance,
-        words::lent_counts(w, c1, p),
-        words::lent_numbers(w, x1, words::behind(w, p)),
+        words::lent(w, c1, p),
+        words::lent(w, x1, words::behind(w, p)),
     );
     is_ordered(w, p, answer, c1, x1)
 }
@@ -86,12 +83,10 @@ fn is_sliced(
     let end = words::behind(w, s);
     let left = words::after(w, end, 2);
     let left_cand = words::left_behind(w, p, left);
-    words::all(
-        lists::is_count_answer(words::from(w, end), r),
-        words::left_counts(w, cand_at, p, left),
-        words::left_numbers(w, cand, q, left_cand),
-        words::left_numbers(w, probe, s, words::left_behind(w, q, left_cand)),
-    )
+    lists::is_count_answer(words::from(w, end), r)
+        && words::left_counts(w, cand_at, p, left)
+        && words::left_numbers(w, cand, q, left_cand)
+        && words::left_numbers(w, probe, s, words::left_behind(w, q, left_cand))
 }
 
 pub(crate) fn candidates(
@@ -108,22 +103,22 @@ pub(crate) fn candidates(
     let q = words::behind(w, p);
     let mut edition = [0u32; 768];
     let answer = mask::cutting::mask_candidates(
-        words::numbers(w, x, 1),
+        words::list(w, x, 1),
         g.vc,
         0,
         g.source,
-        words::counts(w, w, g.hit_at),
-        words::numbers(w, x, g.hit),
+        words::list(w, w, g.hit_at),
+        words::list(w, x, g.hit),
         g.hits,
-        words::counts(w, w, g.lap_at),
-        words::numbers(w, x, g.lap),
+        words::list(w, w, g.lap_at),
+        words::list(w, x, g.lap),
         g.laps,
-        words::numbers(w, x, g.next),
+        words::list(w, x, g.next),
         tolerance,
         tolerance,
-        words::lent_counts(w, c1, p),
-        words::lent_numbers(w, x1, q),
-        words::lent_numbers(w, x2, words::behind(w, q)),
+        words::lent(w, c1, p),
+        words::lent(w, x1, q),
+        words::lent(w, x2, words::behind(w, q)),
         &mut edition,
     );
     is_sliced(w, p, answer, c1, x1, x2)

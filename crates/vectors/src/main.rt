@@ -3,6 +3,7 @@
 mod bits;
 mod case;
 mod cuts;
+mod entry;
 mod lists;
 mod pruning;
 mod starts;
@@ -11,77 +12,53 @@ mod tally;
 mod views;
 mod words;
 
+use crate::entry::Entry;
+use crate::tally::Tally;
 use std::fs::File;
 use std::io;
 use std::io::Read;
 
-// The front of a list, to be written.
-fn front(buf: &mut [u8], n: usize) -> &mut [u8] {
-    if n > buf.len() {
-        return &mut buf[..0];
-    }
-    &mut buf[0..n]
-}
+// The number that a record begins with.
+const MARK: usize = 3549757168231334221;
 
-// Reads so many words to the front of the buffer: yes where they were all there.
-fn read_words(file: &mut File, buf: &mut [u8], n: usize) -> bool {
+// Reads so many words to the front of the buffer: none where they are not all there.
+fn read_words<'a>(file: &mut File, buf: &'a mut [u8], n: usize) -> Option<&'a [u8]> {
     if n > buf.len() / 8 {
-        return false;
+        return None;
     }
-    file.read_exact(front(buf, 8 * n)).is_ok()
+    let read = &mut buf[..8 * n];
+    file.read_exact(read).ok()?;
+    Some(read)
 }
 
-// So many words at the front of a list.
-fn words_of(bytes: &[u8], n: usize) -> &[u8] {
-    if n > bytes.len() / 8 {
-        return &bytes[..0];
-    }
-    &bytes[0..8 * n]
+// Two words.
+fn read_pair(file: &mut File) -> Option<(usize, usize)> {
+    let mut buf = [0u8; 16];
+    let pair = read_words(file, &mut buf, 2)?;
+    Some((bits::word_at(pair, 0), bits::word_at(pair, 1)))
 }
 
-// Replays a case, and counts it.
-fn take(entry: usize, own: &[u8], counts: &mut [usize; 80]) {
-    tally::count(counts, entry, bits::word(own));
-    tally::add_words(counts, own);
-    tally::count_differing(counts, entry, case::holds(entry, own));
+// Replays one case, and counts it: its entry and its length, then its words. None where it is not all there.
+fn replay(file: &mut File, buf: &mut [u8], tally: &mut Tally) -> Option<()> {
+    let (number, n) = read_pair(file)?;
+    let own = read_words(file, buf, n)?;
+    let entry = Entry::try_from(number).ok();
+    tally.count(entry, own, entry.is_some_and(|e| case::holds(e, own)));
+    Some(())
 }
 
-// One case: its entry and its length, then its words. Yes where it was all there.
-fn next(file: &mut File, buf: &mut [u8], counts: &mut [usize; 80]) -> bool {
-    if !read_words(file, buf, 2) {
-        return false;
+// All cases, as many as the file's head says, and fewer where the record breaks off.
+fn replay_all(file: &mut File, tally: &mut Tally) -> Option<()> {
+    let (mark, count) = read_pair(file)?;
+    if mark != MARK {
+        return None;
     }
-    let entry = bits::word_at(buf, 0);
-    let n = bits::word_at(buf, 1);
-    if !read_words(file, buf, n) {
-        return false;
+    tally.announced = count;
+    let mut buf = [0u8; 32768];
+    for _ in 0..count {
+        replay(file, &mut buf, tally)?;
     }
-    take(entry, words_of(buf, n), counts);
-    true
-}
-
-// So many cases, and fewer where the record breaks off.
-fn cases(file: &mut File, count: usize, buf: &mut [u8], counts: &mut [usize; 80]) {
-    let mut k: usize = 0;
-    while k < count {
-        if !next(file, buf, counts) {
-            break;
-        }
-        k += 1;
-    }
-}
-
-// All cases, as many as the file's head says.
-fn all(file: &mut File, buf: &mut [u8], counts: &mut [usize; 80]) {
-    if !read_words(file, buf, 2) {
-        return;
-    }
-    if bits::word_at(buf, 0) != 3549757168231334221 {
-        return;
-    }
-    let count = bits::word_at(buf, 1);
-    tally::announce(counts, count);
-    cases(file, count, buf, counts);
+    Some(())
 }
 
 // The words of an error, without the number that std puts behind those of the system.
@@ -108,8 +85,7 @@ fn main(rt: HostRuntime) {
             return;
         }
     };
-    let mut buf = [0u8; 32768];
-    let mut counts = [0usize; 80];
-    all(&mut file, &mut buf, &mut counts);
-    tally::show(&rt, &counts);
+    let mut tally = Tally::NONE;
+    let _ = replay_all(&mut file, &mut tally);
+    let _ = tally.show(&rt);
 }

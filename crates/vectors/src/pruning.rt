@@ -46,12 +46,11 @@ fn laps(w: &[usize], at: usize) -> LapWords {
 }
 
 fn is_prune_answer(w: &[usize], r: PruneAnswer) -> bool {
-    words::all(
-        words::is_code(w, 0, r.refusal) && words::is(w, 1, r.slices),
-        words::is(w, 2, r.starts.pline2),
-        words::is(w, 3, r.starts.pline1_overlapping),
-        words::is(w, 4, r.starts.pline2_overlapping),
-    )
+    words::is_code(w, 0, r.refusal)
+        && words::is(w, 1, r.slices)
+        && words::is(w, 2, r.starts.pline2)
+        && words::is(w, 3, r.starts.pline1_overlapping)
+        && words::is(w, 4, r.starts.pline2_overlapping)
 }
 
 // The lists lent begin at place p. The answer stands behind them.
@@ -59,12 +58,9 @@ fn is_pruned(w: &[usize], p: usize, r: PruneAnswer, slice_at: &[usize], slice: &
     let q = words::behind(w, p);
     let end = words::behind(w, q);
     let left = words::after(w, end, 5);
-    words::all(
-        is_prune_answer(words::from(w, end), r),
-        words::left_counts(w, slice_at, p, left),
-        words::left_numbers(w, slice, q, words::left_behind(w, p, left)),
-        true,
-    )
+    is_prune_answer(words::from(w, end), r)
+        && words::left_counts(w, slice_at, p, left)
+        && words::left_numbers(w, slice, q, words::left_behind(w, p, left))
 }
 
 pub(crate) fn prune(w: &[usize], x: &[f64], b: &[u8], c1: &mut [usize], x1: &mut [f64]) -> bool {
@@ -78,22 +74,22 @@ pub(crate) fn prune(w: &[usize], x: &[f64], b: &[u8], c1: &mut [usize], x1: &mut
         words::code_at(w, 2),
         words::at(w, 3),
         words::at(w, 4),
-        words::counts(w, w, g.at),
-        words::numbers(w, x, g.cand),
+        words::list(w, w, g.at),
+        words::list(w, x, g.cand),
         words::editions(&zeros, g.count),
-        words::flags(w, b, g.inside),
+        words::list(w, b, g.inside),
         g.count,
-        words::counts(w, w, h.at),
-        words::numbers(w, x, h.cand),
+        words::list(w, w, h.at),
+        words::list(w, x, h.cand),
         words::editions(&zeros, h.count),
-        words::flags(w, b, h.inside),
+        words::list(w, b, h.inside),
         h.count,
-        words::counts(w, w, l.at),
-        words::numbers(w, x, l.lap),
+        words::list(w, w, l.at),
+        words::list(w, x, l.lap),
         words::editions(&zeros, l.count),
         l.count,
-        words::lent_counts(w, c1, l.next),
-        words::lent_numbers(w, x1, words::behind(w, l.next)),
+        words::lent(w, c1, l.next),
+        words::lent(w, x1, words::behind(w, l.next)),
         &mut edition,
     );
     is_pruned(w, l.next, answer, c1, x1)

@@ -3,12 +3,10 @@ use crate::{views, words};
 use view_start_entries::answer::SpanAnswer;
 
 fn is_span_answer(w: &[usize], r: SpanAnswer) -> bool {
-    words::all(
-        words::is_code(w, 0, r.refusal),
-        words::is_code(w, 1, r.moved),
-        words::is(w, 2, r.start_index),
-        words::is(w, 3, r.traverse_count),
-    )
+    words::is_code(w, 0, r.refusal)
+        && words::is_code(w, 1, r.moved)
+        && words::is(w, 2, r.start_index)
+        && words::is(w, 3, r.traverse_count)
 }
 
 pub(crate) fn slice_span(outline: &[f64], r: &[usize], y: &[f64]) -> bool {
@@ -18,9 +16,9 @@ pub(crate) fn slice_span(outline: &[f64], r: &[usize], y: &[f64]) -> bool {
         words::at(r, 0),
         words::code_at(r, 1),
         words::at(r, 2),
-        views::point(words::floats_from(y, 3)),
+        views::point(words::from(y, 3)),
         words::at(r, 5),
-        views::point(words::floats_from(y, 6)),
+        views::point(words::from(y, 6)),
         tolerance,
         tolerance,
     );
@@ -34,13 +32,13 @@ pub(crate) fn from_slice_points(outline: &[f64], r: &[usize], y: &[f64]) -> bool
         words::at(r, 0),
         words::code_at(r, 1),
         words::at(r, 2),
-        views::point(words::floats_from(y, 3)),
+        views::point(words::from(y, 3)),
         words::at(r, 5),
-        views::point(words::floats_from(y, 6)),
+        views::point(words::from(y, 6)),
         tolerance,
         tolerance,
-        views::split(words::floats_from(y, 9)),
-        views::split(words::floats_from(y, 15)),
+        views::split(words::from(y, 9)),
+        views::split(words::from(y, 15)),
     );
     views::is_view_answer(words::from(r, 21), answer)
 }
@@ -52,11 +50,11 @@ pub(crate) fn from_new_start(outline: &[f64], r: &[usize], y: &[f64]) -> bool {
         words::at(r, 0),
         words::code_at(r, 1),
         words::at(r, 2),
-        views::point(words::floats_from(y, 3)),
+        views::point(words::from(y, 3)),
         tolerance,
         tolerance,
-        views::split(words::floats_from(y, 6)),
-        views::split(words::floats_from(y, 12)),
+        views::split(words::from(y, 6)),
+        views::split(words::from(y, 12)),
     );
     views::is_view_answer(words::from(r, 18), answer)
 }

@@ -70,12 +70,10 @@ fn lent(w: &[usize], room: usize) -> LentWords {
 }
 
 fn is_stitch_answer(w: &[usize], r: StitchAnswer) -> bool {
-    words::all(
-        words::is_code(w, 0, r.refusal),
-        words::is(w, 1, r.rounds),
-        words::is(w, 2, r.loops),
-        words::is(w, 3, r.chains),
-    )
+    words::is_code(w, 0, r.refusal)
+        && words::is(w, 1, r.rounds)
+        && words::is(w, 2, r.loops)
+        && words::is(w, 3, r.chains)
 }
 
 // The four lists of whole numbers hold at exit what the case has one behind the other: the loops' ends, the chains, their ends, how they ended.
@@ -91,12 +89,10 @@ fn left_chains(
     let left2 = words::left_behind(w, l.ends, left);
     let left3 = words::left_behind(w, l.chain, left2);
     let left4 = words::left_behind(w, l.chain_ends, left3);
-    words::all(
-        words::left_counts(w, c1, l.ends, left),
-        words::left_counts(w, c2, l.chain, left2),
-        words::left_counts(w, c3, l.chain_ends, left3),
-        words::left_counts(w, c4, l.chain_how, left4),
-    )
+    words::left_counts(w, c1, l.ends, left)
+        && words::left_counts(w, c2, l.chain, left2)
+        && words::left_counts(w, c3, l.chain_ends, left3)
+        && words::left_counts(w, c4, l.chain_how, left4)
 }
 
 pub(crate) fn stitch(
@@ -114,14 +110,14 @@ pub(crate) fn stitch(
     let entered = [1usize];
     let settings = lists::one_setting(words::float_at(x, g.tolerance), 0.0);
     let answer = mask::stitching::mask_stitch(
-        words::numbers(w, x, 1),
+        words::list(w, x, 1),
         g.vc1,
         0,
-        words::numbers(w, x, g.outline2),
+        words::list(w, x, g.outline2),
         g.vc2,
         0,
-        words::counts(w, w, g.slice_at),
-        words::numbers(w, x, g.slice),
+        words::list(w, w, g.slice_at),
+        words::list(w, x, g.slice),
         words::editions(&zeros, g.slices),
         g.slices,
         g.pline2,
@@ -131,11 +127,11 @@ pub(crate) fn stitch(
         &entered,
         &settings,
         1,
-        words::lent_numbers(w, x1, l.room),
-        words::lent_counts(w, c1, l.ends),
-        words::lent_counts(w, c2, l.chain),
-        words::lent_counts(w, c3, l.chain_ends),
-        words::lent_counts(w, c4, l.chain_how),
+        words::lent(w, x1, l.room),
+        words::lent(w, c1, l.ends),
+        words::lent(w, c2, l.chain),
+        words::lent(w, c3, l.chain_ends),
+        words::lent(w, c4, l.chain_how),
     );
     let left = words::after(w, l.end, 4);
     is_stitch_answer(words::from(w, l.end), answer)
@@ -148,14 +144,14 @@ pub(crate) fn area_pass(w: &[usize], x: &[f64], c1: &mut [usize]) -> bool {
     let kept = words::after(w, loops, 2);
     let end = words::behind(w, kept);
     let entered = [1usize];
-    let settings = lists::one_setting(1.0, words::float_at(words::floats_from(x, loops), 1));
+    let settings = lists::one_setting(1.0, words::float_at(words::from(x, loops), 1));
     let answer = mask::stitching::mask_area_pass(
-        words::numbers(w, x, 1),
+        words::list(w, x, 1),
         words::at(w, loops),
         &entered,
         &settings,
         1,
-        words::lent_counts(w, c1, kept),
+        words::lent(w, c1, kept),
     );
     lists::is_count_answer(words::from(w, end), answer)
         && words::left_counts(w, c1, kept, words::after(w, end, 2))

@@ -1,121 +1,77 @@
-// How many cases of each entry there were, and how many of them differ: one list of 80 counts.
+// How many cases of each entry there were, and how many of them differ.
 use crate::bits;
+use crate::entry::{ENTRIES, Entry, NAMES};
+use std::io;
 
-// The count of all cases stands here; below it those of the entries, by their numbers in the record.
-const ALL: usize = 32;
+// Cases, and those of them that differ.
+#[derive(Clone, Copy)]
+struct Count {
+    cases: usize,
+    differ: usize,
+}
 
-// The cases whose answer is the original's, and those whose answer is the refusal table's.
-const ORIGINAL: usize = 33;
-
-const TABLE: usize = 34;
-
-// The sum of all words, and how many cases the record's head announces.
-const WORDS: usize = 35;
-
-const ANNOUNCED: usize = 36;
-
-// The cases that differ: from the first place on by the numbers of the entries, and at the second all of them.
-const DIFFER: usize = 40;
-
-const ALL_DIFFER: usize = 72;
-
-// One more at place i.
-fn add(counts: &mut [usize; 80], i: usize) {
-    if i < 80 {
-        if counts[i] < 4294967295 {
-            counts[i] = counts[i] + 1;
+impl Count {
+    // One case more.
+    fn add(&mut self, holds: bool) {
+        self.cases = self.cases.saturating_add(1);
+        if !holds {
+            self.differ = self.differ.saturating_add(1);
         }
     }
 }
 
-// A case of an entry, whose answer is the original's (0) or the refusal table's.
-pub(crate) fn count(counts: &mut [usize; 80], entry: usize, origin: usize) {
-    add(counts, entry);
-    add(counts, ALL);
-    add(counts, place_of(origin));
+// The cases of each entry and of all, how many the record's head announces, those whose answer is the original's and those whose answer is the refusal table's, and the sum of all words.
+#[derive(Clone, Copy)]
+pub(crate) struct Tally {
+    entries: [Count; ENTRIES],
+    all: Count,
+    pub(crate) announced: usize,
+    original: usize,
+    table: usize,
+    words: usize,
 }
 
-fn place_of(origin: usize) -> usize {
-    if origin == 0 { ORIGINAL } else { TABLE }
-}
+impl Tally {
+    pub(crate) const NONE: Tally = Tally {
+        entries: [Count {
+            cases: 0,
+            differ: 0,
+        }; ENTRIES],
+        all: Count {
+            cases: 0,
+            differ: 0,
+        },
+        announced: 0,
+        original: 0,
+        table: 0,
+        words: 0,
+    };
 
-pub(crate) fn announce(counts: &mut [usize; 80], n: usize) {
-    counts[ANNOUNCED] = n;
-}
-
-pub(crate) fn add_words(counts: &mut [usize; 80], own: &[u8]) {
-    counts[WORDS] = bits::sum(own, counts[WORDS]);
-}
-
-// Counts a case that does not hold.
-pub(crate) fn count_differing(counts: &mut [usize; 80], entry: usize, holds: bool) {
-    if holds {
-        return;
+    // A case of an entry, whose answer is the original's (0) or the refusal table's. One of an entry that is not known counts with all.
+    pub(crate) fn count(&mut self, entry: Option<Entry>, own: &[u8], holds: bool) {
+        if let Some(entry) = entry {
+            self.entries[entry as usize].add(holds);
+        }
+        self.all.add(holds);
+        if bits::word(own) == 0 {
+            self.original = self.original.saturating_add(1);
+        } else {
+            self.table = self.table.saturating_add(1);
+        }
+        self.words = bits::sum(own, self.words);
     }
-    if entry < ALL {
-        add(counts, DIFFER + entry);
+
+    pub(crate) fn show(&self, rt: &impl Print) -> io::Result<()> {
+        for (name, count) in NAMES.iter().zip(&self.entries) {
+            println!(rt; "{name} {} cases, {} differ", count.cases, count.differ)?;
+        }
+        println!(rt;
+            "{} answers of the original, {} of the refusal table; all words add up to {}",
+            self.original, self.table, self.words
+        )?;
+        println!(rt;
+            "{} of {} cases, {} differ",
+            self.all.cases, self.announced, self.all.differ
+        )
     }
-    add(counts, ALL_DIFFER);
-}
-
-fn word(rt: &impl Print, text: &[u8]) {
-    let _ = rt.write_all(text);
-}
-
-// The count at place i, and the words behind it.
-fn part(rt: &impl Print, counts: &[usize; 80], i: usize, text: &[u8]) {
-    if i < 80 {
-        let _ = rt.print(counts[i]);
-    }
-    word(rt, text);
-}
-
-// The cases of an entry stand at place i, those that differ at place j.
-fn line(rt: &impl Print, name: &[u8], counts: &[usize; 80], i: usize, j: usize) {
-    word(rt, name);
-    part(rt, counts, i, b" cases, ");
-    part(rt, counts, j, b" differ\n");
-}
-
-fn of_views(rt: &impl Print, counts: &[usize; 80]) {
-    line(rt, b"mask_view_vertex ", counts, 0, 40);
-    line(rt, b"mask_create ", counts, 1, 41);
-    line(rt, b"mask_create_on_single_segment ", counts, 2, 42);
-    line(rt, b"mask_from_entire_pline ", counts, 3, 43);
-    line(rt, b"mask_validate_for_source ", counts, 4, 44);
-}
-
-fn of_lists(rt: &impl Print, counts: &[usize; 80]) {
-    line(rt, b"mask_cut_order ", counts, 5, 45);
-    line(rt, b"mask_candidates ", counts, 6, 46);
-    line(rt, b"mask_prune ", counts, 7, 47);
-    line(rt, b"mask_stitch ", counts, 8, 48);
-    line(rt, b"mask_area_pass ", counts, 9, 49);
-}
-
-fn of_starts(rt: &impl Print, counts: &[usize; 80]) {
-    line(rt, b"mask_slice_span ", counts, 10, 50);
-    line(rt, b"mask_from_slice_points ", counts, 11, 51);
-    line(rt, b"mask_from_new_start ", counts, 12, 52);
-}
-
-fn of_all(rt: &impl Print, counts: &[usize; 80]) {
-    part(rt, counts, ORIGINAL, b" answers of the original, ");
-    part(
-        rt,
-        counts,
-        TABLE,
-        b" of the refusal table; all words add up to ",
-    );
-    part(rt, counts, WORDS, b"\n");
-    part(rt, counts, ALL, b" of ");
-    part(rt, counts, ANNOUNCED, b" cases, ");
-    part(rt, counts, ALL_DIFFER, b" differ\n");
-}
-
-pub(crate) fn show(rt: &impl Print, counts: &[usize; 80]) {
-    of_views(rt, counts);
-    of_lists(rt, counts);
-    of_starts(rt, counts);
-    of_all(rt, counts);
 }

@@ -23,7 +23,7 @@ pub(crate) fn vertex(x: &[f64]) -> Vertex {
 pub(crate) fn split(x: &[f64]) -> Split {
     Split {
         updated_start: vertex(x),
-        split_vertex: vertex(words::floats_from(x, 3)),
+        split_vertex: vertex(words::from(x, 3)),
     }
 }
 
@@ -31,9 +31,9 @@ fn view(w: &[usize], x: &[f64]) -> View {
     View {
         start_index: words::at(w, 0),
         end_index_offset: words::at(w, 1),
-        updated_start: vertex(words::floats_from(x, 2)),
+        updated_start: vertex(words::from(x, 2)),
         updated_end_bulge: words::float_at(x, 5),
-        end_point: point(words::floats_from(x, 6)),
+        end_point: point(words::from(x, 6)),
         inverted_direction: words::code_at(w, 8),
     }
 }
@@ -43,21 +43,16 @@ fn is_point(w: &[usize], p: Point) -> bool {
 }
 
 fn is_vertex(w: &[usize], v: Vertex) -> bool {
-    words::all(
-        words::is_float(w, 0, v.x),
-        words::is_float(w, 1, v.y),
-        words::is_float(w, 2, v.bulge),
-        true,
-    )
+    words::is_float(w, 0, v.x) && words::is_float(w, 1, v.y) && words::is_float(w, 2, v.bulge)
 }
 
 fn is_view(w: &[usize], v: View) -> bool {
-    words::all(
-        words::is(w, 0, v.start_index) && words::is(w, 1, v.end_index_offset),
-        is_vertex(words::from(w, 2), v.updated_start),
-        words::is_float(w, 5, v.updated_end_bulge) && words::is_code(w, 8, v.inverted_direction),
-        is_point(words::from(w, 6), v.end_point),
-    )
+    words::is(w, 0, v.start_index)
+        && words::is(w, 1, v.end_index_offset)
+        && is_vertex(words::from(w, 2), v.updated_start)
+        && words::is_float(w, 5, v.updated_end_bulge)
+        && words::is_code(w, 8, v.inverted_direction)
+        && is_point(words::from(w, 6), v.end_point)
 }
 
 // An answer that begins with its refusal and whether it found something.
@@ -70,23 +65,19 @@ pub(crate) fn is_view_answer(w: &[usize], r: ViewAnswer) -> bool {
 }
 
 fn is_verdict_answer(w: &[usize], r: VerdictAnswer) -> bool {
-    let numbers = words::all(
-        is_found(w, r.refusal, r.verdict),
-        words::is(w, 2, r.offset),
-        words::is(w, 3, r.source_length),
-        words::is_float(w, 9, r.updated_bulge),
-    );
-    words::all(
-        numbers,
-        is_point(words::from(w, 4), r.point),
-        is_vertex(words::from(w, 6), r.vertex),
-        words::is_float(w, 10, r.expected),
-    )
+    let numbers = is_found(w, r.refusal, r.verdict)
+        && words::is(w, 2, r.offset)
+        && words::is(w, 3, r.source_length)
+        && words::is_float(w, 9, r.updated_bulge);
+    numbers
+        && is_point(words::from(w, 4), r.point)
+        && is_vertex(words::from(w, 6), r.vertex)
+        && words::is_float(w, 10, r.expected)
 }
 
 // An entry is handed the outline, and the words behind it as whole numbers and as floats.
 pub(crate) fn view_vertex(outline: &[f64], r: &[usize], y: &[f64]) -> bool {
-    let v = view(words::from(r, 1), words::floats_from(y, 1));
+    let v = view(words::from(r, 1), words::from(y, 1));
     let answer = mask::viewing::mask_view_vertex(outline, words::at(r, 0), v, words::at(r, 10));
     let w = words::from(r, 11);
     is_found(w, answer.refusal, answer.found) && is_vertex(words::from(w, 2), answer.vertex)
@@ -98,13 +89,13 @@ pub(crate) fn create(outline: &[f64], r: &[usize], y: &[f64]) -> bool {
         outline,
         words::at(r, 0),
         words::at(r, 1),
-        point(words::floats_from(y, 2)),
+        point(words::from(y, 2)),
         words::at(r, 4),
-        vertex(words::floats_from(y, 5)),
+        vertex(words::from(y, 5)),
         words::at(r, 8),
         tolerance,
         tolerance,
-        split(words::floats_from(y, 10)),
+        split(words::from(y, 10)),
     );
     is_view_answer(words::from(r, 16), answer)
 }
@@ -115,8 +106,8 @@ pub(crate) fn create_on_single_segment(outline: &[f64], r: &[usize], y: &[f64]) 
         outline,
         words::at(r, 0),
         words::at(r, 1),
-        vertex(words::floats_from(y, 2)),
-        point(words::floats_from(y, 5)),
+        vertex(words::from(y, 2)),
+        point(words::from(y, 5)),
         tolerance,
         tolerance,
     );
@@ -133,7 +124,7 @@ pub(crate) fn from_entire_pline(outline: &[f64], r: &[usize]) -> bool {
 }
 
 pub(crate) fn validate_for_source(outline: &[f64], r: &[usize], y: &[f64]) -> bool {
-    let v = view(words::from(r, 1), words::floats_from(y, 1));
+    let v = view(words::from(r, 1), words::from(y, 1));
     let answer = mask::viewing::mask_validate_for_source(
         outline,
         words::at(r, 0),
