@@ -1,5 +1,5 @@
 -- What a caller has shown.
-use Rattle.std.specs.Prelude.{ℕ, ◌+◌, ◌*◌, ◌≤◌, ◌<◌, List, length, take, ℤ, Float, Option, Some, None}
+use Rattle.std.specs.Prelude.{ℕ, ◌+◌, ◌*◌, ◌≤◌, ◌<◌, List, length, take, ℤ, Float, Option}
 use Rattle.basis.specs.Sizes.{most_candidates, most_slices}
 use Rattle.straight.specs.Ready.{Outline}
 use Rattle.cut.specs.declared.arrival.Case.{Case}

@@ -1,6 +1,6 @@
 // Along the cuts of one outline in their order: the candidate of each place, and its slice where it stays.
 ghost use Rattle.std.specs.Prelude.{◌≡◌, ◌+◌, ◌*◌, take};
-ghost use Rattle.slice.specs.Ready.{rooms, Placed};
+ghost use Rattle.slice.specs.Ready.{rooms_in, Same, Placed};
 ghost use Rattle.prune_put.specs.Ready.{Wrote};
 ghost use Rattle.straight_cut.specs.Splits.{straight_given};
 ghost use Rattle.straight_along.specs.Stays.{view_codes, view_shape, stays_of, stays_to};
@@ -41,19 +41,19 @@ fn shape_of(v: ViewData) -> Shape
 }
 
 // Writes a candidate as slice number n where it stays, and says where the slices end then.
+#[tactic(auto, using(crate::proofs::Walking::stays))]
 fn put_stay(
     c: Option<Candidate>,
     other: &[i64],
     other_vc: usize,
     edition: u32,
     part: Part,
-    slice_at: &mut [usize],
-    slice: &mut [f64],
-    slice_edition: &mut [u32],
+    lent: &mut Lent,
     n: usize,
 ) -> usize
-    requires { StayFit c other.now other_vc (rooms slice_at.old slice.old slice_edition.old) n }
-    ensures { Placed (stays_of other.now edition part c) (rooms slice_at.old slice.old slice_edition.old) n result (rooms slice_at.new slice.new slice_edition.new) }
+    requires { StayFit c other.now other_vc (rooms_in lent.old) n }
+    ensures same { Same lent.old lent.new }
+    ensures placed { Placed (stays_of other.now edition part c) (rooms_in lent.old) n result (rooms_in lent.new) }
 {
     let Some(c) = c else {
         return n;
@@ -63,16 +63,12 @@ fn put_stay(
     }
     let codes = codes_of(part, c.view);
     let shape = shape_of(c.view);
-    let mut lent = Lent {
-        at: slice_at,
-        shape: slice,
-        edition: slice_edition,
-    };
-    write::put_slice(codes, shape, edition, &mut lent, n);
+    write::put_slice(codes, shape, edition, lent, n);
     n + 1
 }
 
 // Writes what stays at each place as slices from number m on, and says where they end. The other outline is in whole microdegrees.
+#[tactic(auto, using(crate::proofs::Walking::walking))]
 fn walk(
     outline: &[f64],
     cut_at: &[usize],
@@ -82,34 +78,24 @@ fn walk(
     other_vc: usize,
     edition: u32,
     part: Part,
-    slice_at: &mut [usize],
-    slice: &mut [f64],
-    slice_edition: &mut [u32],
+    lent: &mut Lent,
     m: usize,
 ) -> usize
-    requires { PlacesRoom (straight_given outline.now cut_at.now cut.now s) other.now other_vc (rooms slice_at.old slice.old slice_edition.old) m }
-    ensures { Wrote (stays_to other.now edition part (straight_given outline.now cut_at.now cut.now s) (s.hits + 2 * s.laps)) (s.hits + 2 * s.laps) (rooms slice_at.old slice.old slice_edition.old) m result (rooms slice_at.new slice.new slice_edition.new) }
+    requires { PlacesRoom (straight_given outline.now cut_at.now cut.now s) other.now other_vc (rooms_in lent.old) m }
+    ensures same { Same lent.old lent.new }
+    ensures wrote { Wrote (stays_to other.now edition part (straight_given outline.now cut_at.now cut.now s) (s.hits + 2 * s.laps)) (s.hits + 2 * s.laps) (rooms_in lent.old) m result (rooms_in lent.new) }
 {
     let count = s.hits + 2 * s.laps;
     let mut n = m;
     for p in 0..count {
         let c = at_cut::candidate_at(outline, cut_at, cut, s, p);
-        n = put_stay(
-            c,
-            other,
-            other_vc,
-            edition,
-            part,
-            slice_at,
-            slice,
-            slice_edition,
-            n,
-        );
+        n = put_stay(c, other, other_vc, edition, part, lent, n);
     }
     n
 }
 
 // The same over cuts and whole microdegrees that stand in front of their lists.
+#[tactic(auto, using(crate::proofs::Fronts::front_length))]
 pub fn walk_fronts(
     outline: &[f64],
     cut_at: &[usize],
@@ -119,13 +105,12 @@ pub fn walk_fronts(
     other_vc: usize,
     edition: u32,
     part: Part,
-    slice_at: &mut [usize],
-    slice: &mut [f64],
-    slice_edition: &mut [u32],
+    lent: &mut Lent,
     m: usize,
 ) -> usize
-    requires { FrontsRoom outline.now cut_at.now cut.now s other.now other_vc (rooms slice_at.old slice.old slice_edition.old) m }
-    ensures { Wrote (stays_to (take (2 * other_vc) other.now) edition part (straight_given outline.now (take (3 * (s.hits + 2 * s.laps)) cut_at.now) (take (2 * (s.hits + 2 * s.laps)) cut.now) s) (s.hits + 2 * s.laps)) (s.hits + 2 * s.laps) (rooms slice_at.old slice.old slice_edition.old) m result (rooms slice_at.new slice.new slice_edition.new) }
+    requires { FrontsRoom outline.now cut_at.now cut.now s other.now other_vc (rooms_in lent.old) m }
+    ensures same { Same lent.old lent.new }
+    ensures wrote { Wrote (stays_to (take (2 * other_vc) other.now) edition part (straight_given outline.now (take (3 * (s.hits + 2 * s.laps)) cut_at.now) (take (2 * (s.hits + 2 * s.laps)) cut.now) s) (s.hits + 2 * s.laps)) (s.hits + 2 * s.laps) (rooms_in lent.old) m result (rooms_in lent.new) }
 {
     let count = s.hits + 2 * s.laps;
     let numbers = 3 * count;
@@ -140,9 +125,7 @@ pub fn walk_fronts(
         other_vc,
         edition,
         part,
-        slice_at,
-        slice,
-        slice_edition,
+        lent,
         m,
     )
 }

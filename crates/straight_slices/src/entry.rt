@@ -11,6 +11,7 @@ use basis::refuse::Refusal;
 use prune::call;
 use prune_entries::answer::PruneAnswer;
 use prune_entries::{answer, faults as pruning};
+use slice::write::Lent;
 
 // All numbers. The need is worked out only where 1 to 7 and 18 found nothing.
 fn refusal(h: &Handed, at: usize, shape: usize, edition: usize) -> Result<(), Refusal>
@@ -49,12 +50,13 @@ pub fn entry(
     };
     match refusal(&h, slice_at.len(), slice.len(), slice_edition.len()) {
         Err(refusal) => answer::prune_refused(refusal.number()),
-        Ok(()) => answer::prune_given(slicing::sliced(
-            &h,
-            job.most_call(),
-            slice_at,
-            slice,
-            slice_edition,
-        )),
+        Ok(()) => {
+            let mut lent = Lent {
+                at: slice_at,
+                shape: slice,
+                edition: slice_edition,
+            };
+            answer::prune_given(slicing::sliced(&h, job.most_call(), &mut lent))
+        }
     }
 }
