@@ -7,6 +7,8 @@ use cut::arrival::Cuts;
 use prune::mode::Part;
 use slice::write::Lent;
 use straight_along::along;
+use straight_along::along::Sieve;
+use straight_cut::at_cut::Ordered;
 use straight_cut::microdegrees;
 
 // The numbers of one outline's turn: the other outline's vertex count, its edition, how its candidates become slices, and from which slice number on.
@@ -37,16 +39,17 @@ pub fn kept_with(
     let part = side.part;
     cut_order::write::write_order(cuts, order, cut_at, cut);
     microdegrees::write_wholes(other, side.other_vc, wholes);
-    along::walk_fronts(
-        cuts.outline,
+    let ordered = Ordered {
+        outline: cuts.outline,
         cut_at,
         cut,
-        cuts.case,
-        wholes,
-        side.other_vc,
-        side.edition,
+        case: cuts.case,
+    };
+    let sieve = Sieve {
+        other: wholes,
+        other_vc: side.other_vc,
+        edition: side.edition,
         part,
-        lent,
-        side.from,
-    )
+    };
+    along::walk_fronts(&ordered, &sieve, lent, side.from)
 }

@@ -1,7 +1,7 @@
 use Rattle.straight_along.specs.Stays.{stays_of}
 use Rattle.straight_along.proofs.Walking.{stays, stay-nothing, stay-not}
 use borrow.Author.Rules.{rules}
-use Rattle.straight_along.proofs.along.put_stay.Goals as goal
+use Rattle.straight_along.proofs.along.Sieve.put_stay.Goals as goal
 
 pub returns-in_default-clause-placed : goal.returns-in_default-clause-placed
 returns-in_default-clause-placed c = stay-nothing _ _ _ _ _ _ (search rules)
