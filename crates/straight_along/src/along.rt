@@ -25,7 +25,7 @@ pub struct Sieve<'a> {
     pub part: Part,
 }
 
-// The codes of the slice that a view becomes.
+// The codes of the slice that a view becomes. No `From`, here and below: neither type is of this crate.
 fn codes_of(part: Part, v: ViewData) -> Codes
     ensures { result ≡ view_codes part v }
 {
@@ -79,10 +79,10 @@ fn walk(cuts: &Ordered, sieve: &Sieve, lent: &mut Lent, m: usize) -> usize
     ensures same { Same lent.old lent.new }
     ensures wrote { Wrote (stays_to sieve.now.other.now sieve.now.edition sieve.now.part (ordered cuts.now) (ordered cuts.now).count) (ordered cuts.now).count (rooms_in lent.old) m result (rooms_in lent.new) }
 {
-    let count = cuts.case.hits + 2 * cuts.case.laps;
+    let count = cuts.case.count();
     let mut n = m;
     for p in 0..count {
-        n = sieve.put_stay(cuts.candidate_at(p), lent, n);
+        n = sieve.put_stay(cuts.candidate(p), lent, n);
     }
     n
 }
@@ -95,7 +95,7 @@ pub fn walk_fronts(cuts: &Ordered, sieve: &Sieve, lent: &mut Lent, m: usize) -> 
     ensures wrote { Wrote (stays_to (other_front sieve.now) sieve.now.edition sieve.now.part (ordered_front cuts.now) (ordered_front cuts.now).count) (ordered_front cuts.now).count (rooms_in lent.old) m result (rooms_in lent.new) }
 {
     let case = cuts.case;
-    let count = case.hits + 2 * case.laps;
+    let count = case.count();
     let numbers = 3 * count;
     let points = 2 * count;
     let wide = 2 * sieve.other_vc;

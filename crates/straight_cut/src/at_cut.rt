@@ -56,14 +56,14 @@ impl Ordered<'_> {
         ensures { result ≡ walk_at (ordered self.now) p }
     {
         let s = self.case;
-        let next = next::next_cut(self.cut_at, s.vc, s.hits + 2 * s.laps, p);
+        let next = next::next_cut(self.cut_at, s.vc, s.count(), p);
         let w = walk_by(self.cut, self.cut_at[3 * p], p, next);
         at_cut::walk_candidate(self.outline, s.vc, w, s.tolerance)
     }
 
     // What the cut at place p gives: nothing where it is marked, the piece to its neighbour, or the walk.
     #[tactic(auto, using(crate::specs::SplitsLaws::pieces, basis::specs::Choice::cases), unfolding(candidate::specs::Candidates::candidate_at))]
-    pub fn candidate_at(&self, p: usize) -> Option<Candidate>
+    pub fn candidate(&self, p: usize) -> Option<Candidate>
         requires { Place (ordered self.now) p }
         ensures { result ≡ candidate_at (ordered self.now) p }
     {
@@ -71,7 +71,7 @@ impl Ordered<'_> {
         if self.cut_at[3 * p + 1] == 1 {
             return None;
         }
-        if at_cut::same_next(self.cut_at, s.hits + 2 * s.laps, p) {
+        if at_cut::same_next(self.cut_at, s.count(), p) {
             let a = cut_vertex(self.cut, p);
             let b = cut_vertex(self.cut, p + 1);
             return at_cut::piece(self.cut_at[3 * p], a, b, s.tolerance);

@@ -9,7 +9,8 @@ use cut::arrival::Cuts;
 use slice::write::Lent;
 use straight_side::keeping::{Side, kept_with};
 
-// With working lists for so many cuts and so many vertices of the other outline: few of them cost little to set up.
+// With working lists for so many cuts and so many vertices of the other outline: few of them cost little to set up. Each length is a parameter of its own: that
+// of an array is no product of a parameter.
 #[tactic(auto, using(crate::proofs::Sizes::sizes))]
 fn kept_in<
     const CUTS: usize,

@@ -12,6 +12,7 @@ use straight_cut::at_cut::Ordered;
 use straight_cut::microdegrees;
 
 // The numbers of one outline's turn: the other outline's vertex count, its edition, how its candidates become slices, and from which slice number on.
+// No `Sieve` yet: its list of whole microdegrees is written first.
 #[derive(Clone, Copy)]
 pub struct Side {
     pub other_vc: usize,

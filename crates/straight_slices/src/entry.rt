@@ -22,7 +22,8 @@ fn refusal(h: &Handed, at: usize, shape: usize, edition: usize) -> Result<(), Re
     pruning::room_refusal(need, at, shape, edition)
 }
 
-// The slices of a mode of two straight masks: the candidates of each outline that stay, then the overlaps for each outline.
+// The slices of a mode of two straight masks: the candidates of each outline that stay, then the overlaps for each outline. The lists come
+// one by one, as `mask` hands over what C has.
 pub fn entry(
     job: Job,
     outline1: &[f64],

@@ -9,5 +9,5 @@ pub loop-p-preserved : goal.loop-p-preserved
 loop-p-preserved c =
     record {
       same = search rules;
-      walked = walk_more _ _ _ _ _ _ _ _ _ _ c.loop-p.invariant.walked _ _ _ (search rules) c.candidate_at.ensures c.put_stay-n.ensures.placed;
+      walked = walk_more _ _ _ _ _ _ _ _ _ _ c.loop-p.invariant.walked _ _ _ (search rules) c.candidate.ensures c.put_stay-n.ensures.placed;
     }
