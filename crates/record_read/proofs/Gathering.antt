@@ -1,109 +1,129 @@
--- The loops that gather a column through a function g: what is left to do, over what is done, is the whole.
-use Prim.Native.Nat.{ℕ, suc, ◌+◌, ◌-◌, ◌*◌, ◌^◌, ◌≤◌, ◌<◌}
-use mathlib.Core.Path.{◌≡◌, refl, sym, ap, ◌∙◌}
-use mathlib.Core.List.{List, [], ◌∷◌, ◌++◌, map, map-append, map-id}
+-- A column gathered, element by element, each as R says.
+use Prim.Native.Nat.{ℕ, zero, suc, ◌+◌, ◌-◌, ◌*◌, ◌≤◌, ◌<◌}
+use mathlib.Core.Path.{◌≡◌, refl, sym, ap, subst, ◌∙◌}
+use mathlib.Core.List.{List, [], ◌∷◌, ◌++◌, map, map-id, append_assoc, append-nil}
 use native.Mathlib.Omega.{arith}
+use native.Mathlib.Numerals.{add-one}
 use native.Mathlib.Nat.{suc-mul}
-use lib.ListN.{length, get_or, set, take, drop, length-map, length-drop}
-use lib.Seq.{drop-cons, drop-drop, length-take-le, sets, length-sets}
-use Rattle.fields.specs.Ready.{CopyAt}
-use Rattle.fields.specs.StepLaws.{step-inside, step_left}
-use Rattle.basis.specs.StoreLaws.{sets_then}
-use Rattle.record_form.specs.Form.{column}
-use Rattle.record_read.specs.Ready.{ColumnFit, Short, DatesFit}
+use lib.ListN.{length, get_or, set, take, drop, length-append, length-drop}
+use lib.Seq.{take-suc, drop-drop, get_or-drop, length-take-le, take-length, sets, length-sets}
+use Rattle.basis.specs.StoreLaws.{sets-append}
+use Rattle.fields.specs.Ready.{Each, each-none, each-one}
+use Rattle.fields.specs.StepLaws.{row_inside}
+use Rattle.record_form.specs.Form.{column, common_width, entry_width}
+use Rattle.record.specs.RecordLaws.{length-column}
+use Rattle.record_read.specs.Ready.{ColumnFit, DateFit, Short, GatheredBy}
 
-pub record Gathering {A B : Type 0} (g : A → B) (vs : List A) (from stride offset per n : ℕ) (l l' : List B) (p q left : ℕ) : Type 0 where
-  pub part : offset + per ≤ stride
-  pub inside : p + left * stride ≤ length vs
-  pub target : q + left * per ≤ length l
-  pub long : length l' ≡ length l
-  pub state : sets l' q (map g (column stride offset per left (drop p vs))) ≡ sets l 0 (map g (column stride offset per n (drop from vs)))
+each-length : {A B : Type 0} {R : A → B → Type 0} {xs : List A} {ys : List B} → Each R xs ys → length ys ≡ length xs
+each-length each-none = refl
+each-length (each-one r e) = ap suc (each-length e)
 
-pub gathering-none : {A B : Type 0} (g : A → B) (vs : List A) (from stride offset per n : ℕ) (l : List B) → ColumnFit (length vs) from stride offset per n (length l)
-    → Gathering g vs from stride offset per n l l from 0 n
-gathering-none g vs from stride offset per n l h = record { part = h.part; inside = h.inside; target = omega (arith, h.target); long = refl; state = refl }
+each-last : {A B : Type 0} {R : A → B → Type 0} {xs : List A} {ys : List B} {x : A} {y : B} → Each R xs ys → R x y → Each R (xs ++ (x ∷ [])) (ys ++ (y ∷ []))
+each-last each-none r = each-one r each-none
+each-last (each-one q e) r = each-one q (each-last e r)
 
-module _ {A B : Type 0} {g : A → B} {vs : List A} {from stride offset per n : ℕ} {l l' : List B} {p q left : ℕ}
-    (c : Gathering g vs from stride offset per n l l' p q left) (h : 0 < left) where
-  pub gathering-row : p + stride ≤ length vs
-  gathering-row = step-inside p left stride (length vs) h c.inside
+-- where R is a function g
+each-map : {A B : Type 0} (g : A → B) {xs : List A} {ys : List B} → Each (λ x y. y ≡ g x) xs ys → ys ≡ map g xs
+each-map g each-none = refl
+each-map g (each-one {x} {y} {xs} {ys} r e) = λ i. r i ∷ each-map g e i
 
-  pub gathering-room : q + per ≤ length l
-  gathering-room = step-inside q left per (length l) h c.target
-
-  pub gathering-copy : CopyAt (length vs) (p + offset) per (length l') q
-  gathering-copy = record { source = omega (arith, gathering-row, c.part); target = omega (arith, gathering-room, c.long) }
-
-  pub gathering-more : {l'' : List B} → l'' ≡ sets l' q (map g (take per (drop (p + offset) vs))) → Gathering g vs from stride offset per n l l'' (p + stride) (q + per) (left - 1)
-  unfolding column
-  gathering-more {l''} e =
-      let k : left ≡ suc (left - 1) = omega arith in
-      let X = map g (take per (drop (p + offset) vs)) in
-      let Y = map g (column stride offset per (left - 1) (drop (p + stride) vs)) in
-      let z : length X ≡ per =
-      length-map (take per (drop (p + offset) vs)) g
-      ∙ length-take-le per (drop (p + offset) vs) (rw length-drop (omega (arith, gathering-row, c.part))) in
-      let d : map g (take per (drop offset (drop p vs)) ++ column stride offset per (left - 1) (drop stride (drop p vs))) ≡ X ++ Y =
-      rw (drop-drop offset p vs, drop-drop stride p vs) (map-append g (take per (drop (p + offset) vs)) (column stride offset per (left - 1) (drop (p + stride) vs))) in
-      record {
-        part = c.part;
-        inside = step_left p left stride (length vs) h c.inside;
-        target = step_left q left per (length l) h c.target;
-        long = ap length e ∙ length-sets l' q X ∙ c.long;
-        state = rw e (sets_then l' q per X Y z ∙ rw (k, d) at c.state);
-      }
-
-pub gathering-end : {A B : Type 0} {g : A → B} {vs : List A} {from stride offset per n : ℕ} {l l' : List B} {p q left : ℕ}
-    → Gathering g vs from stride offset per n l l' p q left → left ≤ 0 → l' ≡ sets l 0 (map g (column stride offset per n (drop from vs)))
+-- a column of one row more
+column-more : {A : Type 0} (stride offset per n : ℕ) (vs : List A)
+    → column stride offset per (suc n) vs ≡ column stride offset per n vs ++ take per (drop (n * stride + offset) vs)
 unfolding column
-gathering-end {left = left} c h = let e : left ≡ 0 = omega arith in rw e at c.state
+column-more stride offset per zero vs = let e : 0 * stride + offset ≡ offset = omega arith in rw e (append-nil (take per (drop offset vs)))
+column-more stride offset per (suc n) vs =
+    let e : stride + (n * stride + offset) ≡ suc n * stride + offset = omega (arith, suc-mul n stride) in
+    let d : drop (n * stride + offset) (drop stride vs) ≡ drop (suc n * stride + offset) vs = drop-drop (n * stride + offset) stride vs ∙ ap (λ (k : ℕ). drop k vs) e in
+    ap (λ x. take per (drop offset vs) ++ x) (column-more stride offset per n (drop stride vs) ∙ ap (λ x. column stride offset per n (drop stride vs) ++ take per x) d)
+    ∙ sym (append_assoc (take per (drop offset vs)) (column stride offset per n (drop stride vs)) (take per (drop (suc n * stride + offset) vs)))
 
--- codes are gathered as they are
-abbrev pub same : ℕ → ℕ
-same x = x
+-- all of `row` rows are done, and j elements of the next
+pub record Gathering {B : Type 0} (R : ℕ → B → Type 0) (vs : List ℕ) (offset per : ℕ) (l l' : List B) (row j : ℕ) : Type 0 where
+  pub within : j ≤ per
+  pub long : length l' ≡ length l
+  pub items : List B
+  pub each : Each R (column entry_width offset per row vs ++ take j (drop (row * entry_width + offset) vs)) items
+  pub state : l' ≡ sets l 0 items
 
-pub gathering-codes : {vs : List ℕ} {from stride offset per n : ℕ} {l l' : List ℕ} {p q left : ℕ}
-    → Gathering same vs from stride offset per n l l' p q left → 0 < left → {l'' : List ℕ} → l'' ≡ sets l' q (take per (drop (p + offset) vs))
-    → Gathering same vs from stride offset per n l l'' (p + stride) (q + per) (left - 1)
-gathering-codes {vs} {from} {stride} {offset} {per} {n} {l} {l'} {p} {q} c h e =
-    gathering-more c h (e ∙ ap (sets l' q) (sym (map-id (take per (drop (p + offset) vs)))))
+pub gathering-none : {B : Type 0} (R : ℕ → B → Type 0) (vs : List ℕ) (offset per : ℕ) (l : List B) → Gathering R vs offset per l l 0 0
+unfolding column
+gathering-none R vs offset per l = record { within = omega arith; long = refl; items = []; each = each-none; state = refl }
 
-pub gathered-codes : {vs : List ℕ} {from stride offset per n : ℕ} {l l' : List ℕ} {p q left : ℕ}
-    → Gathering same vs from stride offset per n l l' p q left → left ≤ 0 → l' ≡ sets l 0 (column stride offset per n (drop from vs))
-gathered-codes {vs} {from} {stride} {offset} {per} {n} {l} c h = gathering-end c h ∙ ap (sets l 0) (map-id (column stride offset per n (drop from vs)))
+module _ {m n offset per count : ℕ} (fit : ColumnFit m 0 entry_width offset per count n) {i j : ℕ} (h : i < count) (k : j < per) where
+  pub place : i * entry_width + offset + j < m
+  place = omega (arith, row_inside 0 i count entry_width m h fit.inside, fit.part)
 
--- ---- editions are codes of 32 bits, one a row
-pub record Dating (vs : List ℕ) (from stride offset n : ℕ) (l l' : List ℕ) (p q left : ℕ) : Type 0 where
-  pub rows : Gathering same vs from stride offset 1 n l l' p q left
-  pub short : Short vs p stride offset left
+  pub target : i * per + j < n
+  target = let all : 0 + count * per ≤ n = omega (arith, fit.target) in omega (arith, row_inside 0 i count per n h all)
 
-pub dating-none : (vs : List ℕ) (from stride offset n : ℕ) (l : List ℕ) → DatesFit vs from stride offset n (length l) → Dating vs from stride offset n l l from 0 n
-dating-none vs from stride offset n l h = record { rows = gathering-none same vs from stride offset 1 n l h.rows; short = h.short }
+pub gathering-more : {B : Type 0} {R : ℕ → B → Type 0} {vs : List ℕ} {offset per count : ℕ} {l l' : List B} {i j : ℕ} (y : B)
+    → ColumnFit (length vs) 0 entry_width offset per count (length l) → Gathering R vs offset per l l' i j → i < count → j < per
+    → R (get_or vs (i * entry_width + offset + j) 0) y → Gathering R vs offset per l (set l' (i * per + j) y) i (j + 1)
+gathering-more {B} {R} {vs} {offset} {per} {count} {l} {l'} {i} {j} y fit c h k r =
+    let at = i * entry_width + offset in
+    let x = get_or vs (at + j) 0 in
+    let C = column entry_width offset per i vs in
+    let ys = c.items in
+    let there = place fit h k in
+    let inside : i * entry_width ≤ length vs = omega arith in
+    let d : j < length (drop at vs) = rw length-drop (omega arith) in
+    let t : take (j + 1) (drop at vs) ≡ take j (drop at vs) ++ (x ∷ []) =
+    ap (λ (k : ℕ). take k (drop at vs)) (add-one j) ∙ take-suc (drop at vs) j 0 d ∙ ap (λ (a : ℕ). take j (drop at vs) ++ (a ∷ [])) (get_or-drop at vs j 0) in
+    let more : C ++ take (j + 1) (drop at vs) ≡ (C ++ take j (drop at vs)) ++ (x ∷ []) =
+    ap (λ (z : List ℕ). C ++ z) t ∙ sym (append_assoc C (take j (drop at vs)) (x ∷ [])) in
+    let size : length ys ≡ i * per + j =
+    each-length c.each ∙ length-append C (take j (drop at vs))
+    ∙ omega (arith, length-column entry_width offset per i vs fit.part inside, length-take-le j (drop at vs) (omega arith)) in
+    let zero-place : 0 + (i * per + j) ≡ i * per + j = omega arith in
+    let s : sets l 0 (ys ++ (y ∷ [])) ≡ set l' (i * per + j) y = sets-append l 0 ys (y ∷ []) ∙ rw (size, zero-place, ← c.state) in
+    record {
+      within = omega arith;
+      long = ap length (sym s) ∙ length-sets l 0 (ys ++ (y ∷ []));
+      items = ys ++ (y ∷ []);
+      each = rw more (each-last c.each r);
+      state = sym s;
+    }
 
-module _ {vs : List ℕ} {from stride offset n : ℕ} {l l' : List ℕ} {p q left : ℕ} (c : Dating vs from stride offset n l l' p q left) (h : 0 < left) where
-  pub dating-row : p + stride ≤ length vs
-  dating-row = gathering-row c.rows h
+-- a row is done, and the next begins
+pub gathering-row : {B : Type 0} {R : ℕ → B → Type 0} {vs : List ℕ} {offset per : ℕ} {l l' : List B} {i j : ℕ}
+    → Gathering R vs offset per l l' i j → per ≤ j → Gathering R vs offset per l l' (i + 1) 0
+gathering-row {B} {R} {vs} {offset} {per} {l} {l'} {i} {j} c h =
+    let e : j ≡ per = omega (arith, c.within) in
+    let C = column entry_width offset per i vs in
+    let f : C ++ take j (drop (i * entry_width + offset) vs) ≡ column entry_width offset per (i + 1) vs ++ [] =
+    ap (λ (k : ℕ). C ++ take k (drop (i * entry_width + offset) vs)) e ∙ sym (column-more entry_width offset per i vs)
+    ∙ ap (λ (k : ℕ). column entry_width offset per k vs) (sym (add-one i)) ∙ sym (append-nil (column entry_width offset per (i + 1) vs)) in
+    record { within = omega arith; long = c.long; items = c.items; each = subst (λ (xs : List ℕ). Each R xs c.items) f c.each; state = c.state }
 
-  pub dating-place : p + offset < length vs
-  dating-place = omega (arith, dating-row, c.rows.part)
+pub gathering-end : {B : Type 0} {R : ℕ → B → Type 0} {vs : List ℕ} {offset per count : ℕ} {l l' : List B} {i : ℕ}
+    → Gathering R vs offset per l l' i 0 → i ≡ count → GatheredBy R vs offset per count l l'
+gathering-end {B} {R} {vs} {offset} {per} {count} {l} {l'} {i} c e =
+    let f : column entry_width offset per i vs ++ [] ≡ column entry_width offset per count vs =
+    append-nil (column entry_width offset per i vs) ∙ ap (λ (k : ℕ). column entry_width offset per k vs) e in
+    record { items = c.items; each = subst (λ (xs : List ℕ). Each R xs c.items) f c.each; state = c.state }
 
-  pub dating-room : q + 1 ≤ length l'
-  dating-room = omega (arith, gathering-room c.rows h, c.rows.long)
+-- the rows are the rest of a list
+rest-is : (vs : List ℕ) (from : ℕ) → take (length vs - from) (drop from vs) ≡ drop from vs
+rest-is vs from = ap (λ (k : ℕ). take k (drop from vs)) (sym (length-drop from vs)) ∙ take-length (drop from vs)
 
-  pub dating-short : get_or vs (p + offset) 0 < 2 ^ 32
-  dating-short = let e : p + 0 * stride + offset ≡ p + offset = omega arith in rw e at (c.short 0 h)
+-- where R is a function, or the values stay as they are
+pub gathered-map : {B : Type 0} (g : ℕ → B) (vs : List ℕ) (from : ℕ) {offset per count : ℕ} {l l' : List B}
+    → GatheredBy (λ x y. y ≡ g x) (take (length vs - from) (drop from vs)) offset per count l l' → l' ≡ sets l 0 (map g (column entry_width offset per count (drop from vs)))
+gathered-map g vs from {offset} {per} {count} {l} c =
+    c.state ∙ ap (sets l 0) (each-map g c.each) ∙ ap (λ (x : List ℕ). sets l 0 (map g (column entry_width offset per count x))) (rest-is vs from)
 
-  pub dating-more : {x : ℕ} → x ≡ get_or vs (p + offset) 0 → Dating vs from stride offset n l (set l' q x) (p + stride) (q + 1) (left - 1)
-  dating-more {x} e =
-      let d : take 1 (drop (p + offset) vs) ≡ x ∷ [] = ap (take 1) (drop-cons vs (p + offset) 0 dating-place) ∙ ap (λ (y : ℕ). y ∷ []) (sym e) in
-      record {
-        rows = gathering-codes c.rows h (sym (ap (sets l' q) d));
-        short =
-            λ i k.
-            let s : p + suc i * stride + offset ≡ p + stride + i * stride + offset = omega (arith, suc-mul i stride) in
-            rw s at (c.short (suc i) (omega arith));
-      }
+pub gathered-same : (vs : List ℕ) (from : ℕ) {offset per count : ℕ} {l l' : List ℕ}
+    → GatheredBy (λ x y. y ≡ x) (take (length vs - from) (drop from vs)) offset per count l l' → l' ≡ sets l 0 (column entry_width offset per count (drop from vs))
+gathered-same vs from {offset} {per} {count} {l} c =
+    gathered-map (λ x. x) vs from c ∙ ap (sets l 0) (map-id (column entry_width offset per count (drop from vs)))
 
-pub dating-end : {vs : List ℕ} {from stride offset n : ℕ} {l l' : List ℕ} {p q left : ℕ}
-    → Dating vs from stride offset n l l' p q left → left ≤ 0 → l' ≡ sets l 0 (column stride offset 1 n (drop from vs))
-dating-end c h = gathered-codes c.rows h
+-- the editions among the values of rows fit 32 bits
+pub dates-fit : (vs : List ℕ) (from n : ℕ) → Short vs from entry_width common_width n → (i j : ℕ) → i < n → j < 1
+    → DateFit (get_or (take (length vs - from) (drop from vs)) (i * entry_width + common_width + j) 0)
+dates-fit vs from n short i j h k =
+    let at = i * entry_width + common_width + j in
+    let e : from + at ≡ from + i * entry_width + common_width = omega arith in
+    let f : get_or (take (length vs - from) (drop from vs)) at 0 ≡ get_or vs (from + i * entry_width + common_width) 0 =
+    ap (λ (x : List ℕ). get_or x at 0) (rest-is vs from) ∙ get_or-drop from vs at 0 ∙ ap (λ (q : ℕ). get_or vs q 0) e in
+    record { short = rw f (short i h) }

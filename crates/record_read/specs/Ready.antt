@@ -1,11 +1,12 @@
 -- What the functions of the reader require and leave.
 use Rattle.std.specs.Prelude.{ℕ, ◌+◌, ◌*◌, ◌^◌, ◌≤◌, ◌<◌, ◌≡◌, List, length, get_or}
 use Rattle.std.proofs.lemmas.List.Edits.{sets}
+use Rattle.fields.specs.Ready.{Each}
 use Rattle.slice.specs.Slice.{code_width, shape_width}
 use Rattle.stitch_run.specs.declared.plan.Plan.{Plan}
 use Rattle.record_form.specs.declared.form.Version.{Version}
 use Rattle.record.specs.Record.{Lengths}
-use Rattle.record_form.specs.Form.{taken_vertices, taken_slices, common_width, entry_width}
+use Rattle.record_form.specs.Form.{taken_vertices, taken_slices, common_width, entry_width, column}
 use Rattle.record.specs.Record.{Lists, outline1_from, outline2_from, slices_from, codes_from, shapes_from, dates_from, length_of}
 use Rattle.record_form.specs.Ready.{FormOk}
 
@@ -19,10 +20,11 @@ pub record ColumnFit (n from stride offset per count m : ℕ) : Type 0 where
 abbrev pub Short : List ℕ → ℕ → ℕ → ℕ → ℕ → Type 0
 Short vs from stride offset count = (i : ℕ) → i < count → get_or vs (from + i * stride + offset) 0 < 2 ^ 32
 
--- rows of values, and room for the one of 32 bits that is wanted of each
-pub record DatesFit (vs : List ℕ) (from stride offset count m : ℕ) : Type 0 where
-  pub rows : ColumnFit (length vs) from stride offset 1 count m
-  pub short : Short vs from stride offset count
+-- of n rows, the `per` values from `offset` on stand at the front of a list, each as R says
+pub record GatheredBy {B : Type 0} (R : ℕ → B → Type 0) (rows : List ℕ) (offset per n : ℕ) (l l' : List B) : Type 0 where
+  pub items : List B
+  pub each : Each R (column entry_width offset per n rows) items
+  pub state : l' ≡ sets l 0 items
 
 -- a value of 32 bits
 pub record DateFit (value : ℕ) : Type 0 where

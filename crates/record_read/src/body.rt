@@ -1,10 +1,9 @@
 // What follows the head: both outlines, then the slices.
-ghost use Rattle.std.specs.Prelude.{◌≡◌, map, length, drop};
+ghost use Rattle.std.specs.Prelude.{ℕ, ◌+◌, ◌*◌, ◌<◌, ◌≡◌, length, get_or};
 ghost use Rattle.std.proofs.lemmas.List.Edits.{sets};
-ghost use Rattle.fields.specs.Fields.{num_of};
-ghost use Rattle.record_form.specs.Form.{column};
+ghost use Rattle.record_form.specs.Form.{entry_width};
 ghost use Rattle.record.specs.Record.{body_in, lent, lengths_of};
-ghost use Rattle.record_read.specs.Ready.{ColumnFit, DateFit, DatesFit, ListsFit, ListsFilled, ValuesFit, BodyFit};
+ghost use Rattle.record_read.specs.Ready.{ColumnFit, DateFit, GatheredBy, ListsFit, ListsFilled, ValuesFit, BodyFit};
 
 use fields::{copy, shape};
 use record::head::Room;
@@ -13,52 +12,11 @@ use record_form::form::Version;
 use slice::data::{CODE_WIDTH, SHAPE_WIDTH};
 use stitch_run::plan::Plan;
 
-// Of `count` rows of `stride` values, the `per` values from `offset` on.
-fn gather_codes(
-    values: &[usize],
-    from: usize,
-    stride: usize,
-    offset: usize,
-    per: usize,
-    count: usize,
-    out: &mut [usize],
-)
-    requires { ColumnFit (length values.now) from stride offset per count (length out.old) }
-    ensures { out.new ≡ sets out.old 0 (column stride offset per count (drop from values.now)) }
+// A value as a code.
+fn code(value: usize) -> usize
+    ensures { result ≡ value }
 {
-    let mut p = from;
-    let mut q = 0;
-    let mut left = count;
-    while left > 0 {
-        copy::copy(values, p + offset, per, out, q);
-        p += stride;
-        q += per;
-        left -= 1;
-    }
-}
-
-// The same, as numbers.
-fn gather_numbers(
-    values: &[usize],
-    from: usize,
-    stride: usize,
-    offset: usize,
-    per: usize,
-    count: usize,
-    out: &mut [f64],
-)
-    requires { ColumnFit (length values.now) from stride offset per count (length out.old) }
-    ensures { out.new ≡ sets out.old 0 (map num_of (column stride offset per count (drop from values.now))) }
-{
-    let mut p = from;
-    let mut q = 0;
-    let mut left = count;
-    while left > 0 {
-        copy::copy_numbers(values, p + offset, per, out, q);
-        p += stride;
-        q += per;
-        left -= 1;
-    }
+    value
 }
 
 // A value of 32 bits as an edition.
@@ -69,27 +27,23 @@ fn edition(value: usize) -> u32
     value as u32
 }
 
-// The editions, of which a row has one.
-fn gather_editions(
-    values: &[usize],
-    from: usize,
-    stride: usize,
+// Of `count` rows, the `per` values from `offset` on, each as `change` gives it.
+fn gather<T: Copy, F: Fn(usize) -> T>(
+    rows: &[usize],
     offset: usize,
+    per: usize,
     count: usize,
-    out: &mut [u32],
+    out: &mut [T],
+    change: F,
 )
-    requires { DatesFit values.now from stride offset count (length out.old) }
-    ensures { out.new ≡ sets out.old 0 (column stride offset 1 count (drop from values.now)) }
+    requires places { ColumnFit (length rows.now) 0 entry_width offset per count (length out.old) }
+    requires taken { (i : ℕ) (j : ℕ) → i < count → j < per → F.pre change (get_or rows.now (i * entry_width + offset + j) 0) }
+    ensures { GatheredBy (F.post change) rows.now offset per count out.old out.new }
 {
-    let mut p = from;
-    let mut q = 0;
-    let mut left = count;
-    while left > 0 {
-        let i = p + offset;
-        out[q] = edition(values[i]);
-        p += stride;
-        q += 1;
-        left -= 1;
+    for i in 0..count {
+        for j in 0..per {
+            out[i * per + j] = change(rows[i * form::ENTRY_WIDTH + offset + j]);
+        }
     }
 }
 
@@ -100,22 +54,13 @@ fn fill_lists(values: &[usize], p: Plan, room: &mut Room)
 {
     let n1 = 3 * p.vc1;
     let n2 = 3 * p.vc2;
-    let from = n1 + n2;
-    let stride = form::ENTRY_WIDTH;
-    let dates = form::COMMON_WIDTH;
     copy::copy_numbers(values, 0, n1, room.outline1, 0);
     copy::copy_numbers(values, n1, n2, room.outline2, 0);
-    gather_codes(values, from, stride, 0, CODE_WIDTH, p.slices, room.slice_at);
-    gather_numbers(
-        values,
-        from,
-        stride,
-        CODE_WIDTH,
-        SHAPE_WIDTH,
-        p.slices,
-        room.slice,
-    );
-    gather_editions(values, from, stride, dates, p.slices, room.slice_edition);
+    let rows = &values[n1 + n2..];
+    let n = p.slices;
+    gather(rows, 0, CODE_WIDTH, n, room.slice_at, code);
+    gather(rows, CODE_WIDTH, SHAPE_WIDTH, n, room.slice, copy::number);
+    gather(rows, form::COMMON_WIDTH, 1, n, room.slice_edition, edition);
 }
 
 // The values of all fields that follow the head, from the front of the lent list on.

@@ -5,7 +5,7 @@ use crate::print;
 use straight_entries::answer::ReportAnswer;
 use straight_entries::running;
 use text::lines;
-use text::lines::Line;
+use text::lines::{Line, Stage};
 
 #[derive(Clone, Copy)]
 pub(crate) struct State {
@@ -18,10 +18,10 @@ pub(crate) struct State {
 }
 
 const NOTHING: Line = Line {
-    stage: 0,
-    negative: 0,
+    stage: Stage::Start,
+    negative: false,
     size: 0,
-    first_negative: 0,
+    first_negative: false,
     first_size: 0,
 };
 

@@ -1,6 +1,6 @@
 -- Laws of the loop along the cuts.
 use Rattle.std.specs.Prelude.{Option, Some, None}
-use Prim.Native.Nat.{ℕ, suc, ◌+◌, ◌*◌, ◌≤◌, ◌<◌, zero-le}
+use Prim.Native.Nat.{ℕ, ◌+◌, ◌≤◌, ◌<◌, zero-le}
 use mathlib.Core.Bool.{Bool, true, false, cond}
 use mathlib.Core.Path.{◌≡◌, refl, sym, ap, subst, ◌∙◌}
 use mathlib.Core.List.{List, [], ◌∷◌, ◌++◌}
@@ -10,8 +10,6 @@ use lib.Dec.{eqb}
 use lib.ListN.{length}
 use lib.IntN.{ℤ}
 use borrow.Author.Tests.{eq-eqb, ne_eqb}
-use Rattle.outline.specs.declared.point.Vertex.{Vertex}
-use Rattle.view.specs.declared.data.ViewData.{ViewData}
 use Rattle.slice.specs.declared.data.Codes.{Codes}
 use Rattle.slice.specs.declared.data.Shape.{Shape}
 use Rattle.slice.specs.Slice as slice

@@ -1,21 +1,31 @@
 // Along the cuts of one outline in their order: the candidate of each place, and its slice where it stays.
-ghost use Rattle.std.specs.Prelude.{◌≡◌, ◌+◌, ◌*◌, take};
-ghost use Rattle.slice.specs.Ready.{rooms, Placed};
+ghost use Rattle.std.specs.Prelude.{◌≡◌};
+ghost use Rattle.slice.specs.Ready.{rooms_in, Same, Placed};
 ghost use Rattle.prune_put.specs.Ready.{Wrote};
-ghost use Rattle.straight_cut.specs.Splits.{straight_given};
+ghost use Rattle.straight_cut.specs.Splits.{ordered};
 ghost use Rattle.straight_along.specs.Stays.{view_codes, view_shape, stays_of, stays_to};
-ghost use Rattle.straight_along.specs.Ready.{StayFit, PlacesRoom, FrontsRoom};
+ghost use Rattle.straight_along.specs.Ready.{StayFit, PlacesRoom, FrontsRoom, ordered_front, other_front};
 
 use candidate::at_cut::Candidate;
-use cut::arrival::Case;
 use prune::mode::Part;
 use slice::data::{Codes, Shape};
 use slice::write;
 use slice::write::Lent;
-use straight_cut::{at_cut, inside};
+use straight_cut::at_cut::Ordered;
+use straight_cut::inside;
 use view::data::ViewData;
 
-// The codes of the slice that a view becomes.
+// What decides which candidates of one outline stay, and how they become slices: the other outline in whole microdegrees, its vertex count, the slices' edition, their codes and
+// the inside answer asked for.
+#[derive(Clone, Copy)]
+pub struct Sieve<'a> {
+    pub other: &'a [i64],
+    pub other_vc: usize,
+    pub edition: u32,
+    pub part: Part,
+}
+
+// The codes of the slice that a view becomes. No `From`, here and below: neither type is of this crate.
 fn codes_of(part: Part, v: ViewData) -> Codes
     ensures { result ≡ view_codes part v }
 {
@@ -40,109 +50,67 @@ fn shape_of(v: ViewData) -> Shape
     }
 }
 
-// Writes a candidate as slice number n where it stays, and says where the slices end then.
-fn put_stay(
-    c: Option<Candidate>,
-    other: &[i64],
-    other_vc: usize,
-    edition: u32,
-    part: Part,
-    slice_at: &mut [usize],
-    slice: &mut [f64],
-    slice_edition: &mut [u32],
-    n: usize,
-) -> usize
-    requires { StayFit c other.now other_vc (rooms slice_at.old slice.old slice_edition.old) n }
-    ensures { Placed (stays_of other.now edition part c) (rooms slice_at.old slice.old slice_edition.old) n result (rooms slice_at.new slice.new slice_edition.new) }
-{
-    let Some(c) = c else {
-        return n;
-    };
-    if inside::inside_of(other, other_vc, c.from, c.to) != part.keep {
-        return n;
+impl Sieve<'_> {
+    // Writes a candidate as slice number n where it stays, and says where the slices end then.
+    #[tactic(auto, using(crate::proofs::Walking::stays))]
+    fn put_stay(&self, c: Option<Candidate>, lent: &mut Lent, n: usize) -> usize
+        requires { StayFit c self.now.other.now self.now.other_vc (rooms_in lent.old) n }
+        ensures same { Same lent.old lent.new }
+        ensures placed { Placed (stays_of self.now.other.now self.now.edition self.now.part c) (rooms_in lent.old) n result (rooms_in lent.new) }
+    {
+        let part = self.part;
+        let Some(c) = c else {
+            return n;
+        };
+        if inside::inside_of(self.other, self.other_vc, c.from, c.to) != part.keep {
+            return n;
+        }
+        let codes = codes_of(part, c.view);
+        let shape = shape_of(c.view);
+        write::put_slice(codes, shape, self.edition, lent, n);
+        n + 1
     }
-    let codes = codes_of(part, c.view);
-    let shape = shape_of(c.view);
-    let mut lent = Lent {
-        at: slice_at,
-        shape: slice,
-        edition: slice_edition,
-    };
-    write::put_slice(codes, shape, edition, &mut lent, n);
-    n + 1
 }
 
-// Writes what stays at each place as slices from number m on, and says where they end. The other outline is in whole microdegrees.
-fn walk(
-    outline: &[f64],
-    cut_at: &[usize],
-    cut: &[f64],
-    s: Case,
-    other: &[i64],
-    other_vc: usize,
-    edition: u32,
-    part: Part,
-    slice_at: &mut [usize],
-    slice: &mut [f64],
-    slice_edition: &mut [u32],
-    m: usize,
-) -> usize
-    requires { PlacesRoom (straight_given outline.now cut_at.now cut.now s) other.now other_vc (rooms slice_at.old slice.old slice_edition.old) m }
-    ensures { Wrote (stays_to other.now edition part (straight_given outline.now cut_at.now cut.now s) (s.hits + 2 * s.laps)) (s.hits + 2 * s.laps) (rooms slice_at.old slice.old slice_edition.old) m result (rooms slice_at.new slice.new slice_edition.new) }
+// Writes what stays at each place as slices from number m on, and says where they end.
+#[tactic(auto, using(crate::proofs::Walking::walking))]
+fn walk(cuts: &Ordered, sieve: &Sieve, lent: &mut Lent, m: usize) -> usize
+    requires { PlacesRoom (ordered cuts.now) sieve.now.other.now sieve.now.other_vc (rooms_in lent.old) m }
+    ensures same { Same lent.old lent.new }
+    ensures wrote { Wrote (stays_to sieve.now.other.now sieve.now.edition sieve.now.part (ordered cuts.now) (ordered cuts.now).count) (ordered cuts.now).count (rooms_in lent.old) m result (rooms_in lent.new) }
 {
-    let count = s.hits + 2 * s.laps;
+    let count = cuts.case.count();
     let mut n = m;
     for p in 0..count {
-        let c = at_cut::candidate_at(outline, cut_at, cut, s, p);
-        n = put_stay(
-            c,
-            other,
-            other_vc,
-            edition,
-            part,
-            slice_at,
-            slice,
-            slice_edition,
-            n,
-        );
+        n = sieve.put_stay(cuts.candidate(p), lent, n);
     }
     n
 }
 
 // The same over cuts and whole microdegrees that stand in front of their lists.
-pub fn walk_fronts(
-    outline: &[f64],
-    cut_at: &[usize],
-    cut: &[f64],
-    s: Case,
-    other: &[i64],
-    other_vc: usize,
-    edition: u32,
-    part: Part,
-    slice_at: &mut [usize],
-    slice: &mut [f64],
-    slice_edition: &mut [u32],
-    m: usize,
-) -> usize
-    requires { FrontsRoom outline.now cut_at.now cut.now s other.now other_vc (rooms slice_at.old slice.old slice_edition.old) m }
-    ensures { Wrote (stays_to (take (2 * other_vc) other.now) edition part (straight_given outline.now (take (3 * (s.hits + 2 * s.laps)) cut_at.now) (take (2 * (s.hits + 2 * s.laps)) cut.now) s) (s.hits + 2 * s.laps)) (s.hits + 2 * s.laps) (rooms slice_at.old slice.old slice_edition.old) m result (rooms slice_at.new slice.new slice_edition.new) }
+#[tactic(auto, using(crate::proofs::Fronts::front_length))]
+pub fn walk_fronts(cuts: &Ordered, sieve: &Sieve, lent: &mut Lent, m: usize) -> usize
+    requires { FrontsRoom cuts.now.outline.now cuts.now.cut_at.now cuts.now.cut.now cuts.now.case sieve.now.other.now sieve.now.other_vc (rooms_in lent.old) m }
+    ensures same { Same lent.old lent.new }
+    ensures wrote { Wrote (stays_to (other_front sieve.now) sieve.now.edition sieve.now.part (ordered_front cuts.now) (ordered_front cuts.now).count) (ordered_front cuts.now).count (rooms_in lent.old) m result (rooms_in lent.new) }
 {
-    let count = s.hits + 2 * s.laps;
+    let case = cuts.case;
+    let count = case.count();
     let numbers = 3 * count;
     let points = 2 * count;
-    let wide = 2 * other_vc;
-    walk(
-        outline,
-        &cut_at[..numbers],
-        &cut[..points],
-        s,
-        &other[..wide],
-        other_vc,
-        edition,
+    let wide = 2 * sieve.other_vc;
+    let part = sieve.part;
+    let front = Ordered {
+        outline: cuts.outline,
+        cut_at: &cuts.cut_at[..numbers],
+        cut: &cuts.cut[..points],
+        case,
+    };
+    let near = Sieve {
+        other: &sieve.other[..wide],
+        other_vc: sieve.other_vc,
+        edition: sieve.edition,
         part,
-        slice_at,
-        slice,
-        slice_edition,
-        m,
-    )
+    };
+    walk(&front, &near, lent, m)
 }

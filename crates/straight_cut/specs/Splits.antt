@@ -13,6 +13,7 @@ use Rattle.cut.specs.Order.{cut_numbers, cut_points}
 use Rattle.candidate.specs.Candidates as slices
 use Rattle.candidate.specs.Candidates.{segment_at}
 use Rattle.candidate.specs.declared.next.Next.{Next}
+use Rattle.straight_cut.specs.declared.at_cut.Ordered.{Ordered}
 
 -- "the split of the running vertex": at the first cut of a segment that is the segment's own first vertex, and at a later one the cut before it
 unfoldable pub running_at : List Float → List ℕ → List Float → ℕ → Vertex
@@ -37,6 +38,10 @@ straight_splits g = splits_of g.outline (cut_numbers g) (cut_points g) (cut_coun
 -- over cuts that are in order, in lists: the splits along them are straight
 abbrev pub straight_given : List Float → List ℕ → List Float → Case → slices.Given
 straight_given o cut_at cut s = slices.given o cut_at cut (splits_of o cut_at cut (s.hits + 2 * s.laps)) s
+
+-- the same, of the references that a function is handed
+abbrev pub ordered : Ordered → slices.Given
+ordered c = straight_given c.outline.now c.cut_at.now c.cut.now c.case
 
 -- a walk by these splits: it starts at the cut at place p, and the start part where it ends has bulge +0
 abbrev pub straight_walk : List Float → ℕ → ℕ → Next → Walk

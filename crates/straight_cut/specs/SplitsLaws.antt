@@ -1,5 +1,5 @@
 -- Laws of straight splits: how long they are, what stands where, and that a walk by them is that of the candidates.
-use Rattle.std.specs.Prelude.{◌≡◌, ℕ, zero, suc, ◌+◌, ◌-◌, ◌*◌, ◌<◌, ◌≤◌, Bool, true, ◌&&◌, List, length, get_or, ◌==◌, nat_lt, slice_index_or, Float, Option, Some, None}
+use Rattle.std.specs.Prelude.{◌≡◌, ℕ, zero, suc, ◌+◌, ◌-◌, ◌*◌, ◌<◌, ◌≤◌, Bool, true, ◌&&◌, List, length, get_or, ◌==◌, nat_lt, slice_index_or, Float, Option}
 use Rattle.std.proofs.Math.Path.{refl}
 use Rattle.std.proofs.Common.{sym, ap, ◌∙◌, mul-suc, mul-le-mul_left, not-suc-le-zero, get_or-append-add}
 use native.Mathlib.Omega.{arith}
@@ -97,8 +97,8 @@ module _ (o : List Float) (cut_at : List ℕ) (cut : List Float) where
       e ∙ sym (rw (whole_is count p h, b))
 
 -- ---- what the code makes of a cut
-pub cut-is : (cut : List Float) (p : ℕ) (q : Point) (v : Vertex) → q ≡ point_at cut (2 * p) → v ≡ record { x = q.x; y = q.y; bulge = +0 } → v ≡ cut_vertex cut p
-cut-is cut p q v e f = f ∙ ap (λ (u : Point). at_point u +0) e
+pub cut_is : (cut : List Float) (p : ℕ) (q : Point) (v : Vertex) → q ≡ point_at cut (2 * p) → v ≡ record { x = q.x; y = q.y; bulge = +0 } → v ≡ cut_vertex cut p
+cut_is cut p q v e f = f ∙ ap (λ (u : Point). at_point u +0) e
 
 pub walk-made : (cut : List Float) (segment p : ℕ) (n : Next) (end : Point) (start : Vertex) → start ≡ cut_vertex cut p → end ≡ point_at cut (2 * n.cut)
     → ◌≡◌ {A = Walk}

@@ -7,7 +7,7 @@ use crate::microdegrees;
 use outline::point::Vertex;
 use straight::sum;
 
-// 1 for a winding number other than 0.
+// 1 for a winding number other than 0. A number and no bool: it is compared with `Part.keep`, which has the code of C's list.
 fn code_of(w: i64) -> u8
     ensures { result ≡ inside_code w }
 {

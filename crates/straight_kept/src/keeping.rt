@@ -1,14 +1,16 @@
 // The slices of one outline, with working lists of its own, in three sizes.
 ghost use Rattle.cut.specs.Cuts.{held};
-ghost use Rattle.slice.specs.Ready.{rooms};
+ghost use Rattle.slice.specs.Ready.{rooms_in, Same};
 ghost use Rattle.straight_side.specs.Ready.{KeptRoom, Kept};
 ghost use Rattle.straight_kept.specs.Ready.{KeptFew, Sized};
 
 use basis::sizes::MOST_CANDIDATES;
 use cut::arrival::Cuts;
+use slice::write::Lent;
 use straight_side::keeping::{Side, kept_with};
 
-// With working lists for so many cuts and so many vertices of the other outline: few of them cost little to set up.
+// With working lists for so many cuts and so many vertices of the other outline: few of them cost little to set up. Each length is a parameter of its own: that
+// of an array is no product of a parameter.
 #[tactic(auto, using(crate::proofs::Sizes::sizes))]
 fn kept_in<
     const CUTS: usize,
@@ -16,17 +18,11 @@ fn kept_in<
     const POINTS: usize,
     const VERTICES: usize,
     const WHOLES: usize,
->(
-    cuts: &Cuts,
-    other: &[f64],
-    side: Side,
-    slice_at: &mut [usize],
-    slice: &mut [f64],
-    slice_edition: &mut [u32],
-) -> usize
-    requires room { KeptFew CUTS VERTICES (held cuts.now) other.now side (rooms slice_at.old slice.old slice_edition.old) }
+>(cuts: &Cuts, other: &[f64], side: Side, lent: &mut Lent) -> usize
+    requires room { KeptFew CUTS VERTICES (held cuts.now) other.now side (rooms_in lent.old) }
     requires sizes { Sized CUTS NUMBERS POINTS VERTICES WHOLES }
-    ensures { Kept (held cuts.now) other.now side (rooms slice_at.old slice.old slice_edition.old) result (rooms slice_at.new slice.new slice_edition.new) }
+    ensures same { Same lent.old lent.new }
+    ensures kept { Kept (held cuts.now) other.now side (rooms_in lent.old) result (rooms_in lent.new) }
 {
     let mut order = [0usize; CUTS];
     let mut cut_at = [0usize; NUMBERS];
@@ -40,38 +36,23 @@ fn kept_in<
         &mut cut_at,
         &mut cut,
         &mut wholes,
-        slice_at,
-        slice,
-        slice_edition,
+        lent,
     )
 }
 
 // Writes the slices of one outline, and says where they end.
 #[tactic(auto, using(crate::proofs::Sizes::sizes))]
-pub fn kept(
-    cuts: &Cuts,
-    other: &[f64],
-    side: Side,
-    slice_at: &mut [usize],
-    slice: &mut [f64],
-    slice_edition: &mut [u32],
-) -> usize
-    requires { KeptRoom (held cuts.now) other.now side (rooms slice_at.old slice.old slice_edition.old) }
-    ensures { Kept (held cuts.now) other.now side (rooms slice_at.old slice.old slice_edition.old) result (rooms slice_at.new slice.new slice_edition.new) }
+pub fn kept(cuts: &Cuts, other: &[f64], side: Side, lent: &mut Lent) -> usize
+    requires { KeptRoom (held cuts.now) other.now side (rooms_in lent.old) }
+    ensures same { Same lent.old lent.new }
+    ensures kept { Kept (held cuts.now) other.now side (rooms_in lent.old) result (rooms_in lent.new) }
 {
     let count = cuts.case.count();
     if count <= 8 && side.other_vc <= 16 {
-        return kept_in::<8, 24, 16, 16, 32>(cuts, other, side, slice_at, slice, slice_edition);
+        return kept_in::<8, 24, 16, 16, 32>(cuts, other, side, lent);
     }
     if count <= 64 && side.other_vc <= 128 {
-        return kept_in::<64, 192, 128, 128, 256>(cuts, other, side, slice_at, slice, slice_edition);
+        return kept_in::<64, 192, 128, 128, 256>(cuts, other, side, lent);
     }
-    kept_in::<MOST_CANDIDATES, 2304, 1536, 1024, 2048>(
-        cuts,
-        other,
-        side,
-        slice_at,
-        slice,
-        slice_edition,
-    )
+    kept_in::<MOST_CANDIDATES, 2304, 1536, 1024, 2048>(cuts, other, side, lent)
 }

@@ -1,14 +1,18 @@
 // The slices of one outline: those of its candidates that stay.
 ghost use Rattle.cut.specs.Cuts.{held};
-ghost use Rattle.slice.specs.Ready.{rooms};
+ghost use Rattle.slice.specs.Ready.{rooms_in, Same};
 ghost use Rattle.straight_side.specs.Ready.{KeptWith, Kept};
 
 use cut::arrival::Cuts;
 use prune::mode::Part;
+use slice::write::Lent;
 use straight_along::along;
+use straight_along::along::Sieve;
+use straight_cut::at_cut::Ordered;
 use straight_cut::microdegrees;
 
 // The numbers of one outline's turn: the other outline's vertex count, its edition, how its candidates become slices, and from which slice number on.
+// No `Sieve` yet: its list of whole microdegrees is written first.
 #[derive(Clone, Copy)]
 pub struct Side {
     pub other_vc: usize,
@@ -27,28 +31,26 @@ pub fn kept_with(
     cut_at: &mut [usize],
     cut: &mut [f64],
     wholes: &mut [i64],
-    slice_at: &mut [usize],
-    slice: &mut [f64],
-    slice_edition: &mut [u32],
+    lent: &mut Lent,
 ) -> usize
-    requires { KeptWith (held cuts.now) other.now side order.old cut_at.old cut.old wholes.old (rooms slice_at.old slice.old slice_edition.old) }
-    ensures { Kept (held cuts.now) other.now side (rooms slice_at.old slice.old slice_edition.old) result (rooms slice_at.new slice.new slice_edition.new) }
+    requires { KeptWith (held cuts.now) other.now side order.old cut_at.old cut.old wholes.old (rooms_in lent.old) }
+    ensures same { Same lent.old lent.new }
+    ensures kept { Kept (held cuts.now) other.now side (rooms_in lent.old) result (rooms_in lent.new) }
 {
     let part = side.part;
     cut_order::write::write_order(cuts, order, cut_at, cut);
     microdegrees::write_wholes(other, side.other_vc, wholes);
-    along::walk_fronts(
-        cuts.outline,
+    let ordered = Ordered {
+        outline: cuts.outline,
         cut_at,
         cut,
-        cuts.case,
-        wholes,
-        side.other_vc,
-        side.edition,
+        case: cuts.case,
+    };
+    let sieve = Sieve {
+        other: wholes,
+        other_vc: side.other_vc,
+        edition: side.edition,
         part,
-        slice_at,
-        slice,
-        slice_edition,
-        side.from,
-    )
+    };
+    along::walk_fronts(&ordered, &sieve, lent, side.from)
 }

@@ -1,5 +1,5 @@
 -- The refusals of the call: one table, of the parts of those of `mask_candidates` and `mask_prune`, in document 01's order, and number 18 behind 5.
-use Rattle.std.specs.Prelude.{ℕ, ◌+◌, ◌*◌, ◌≡◌, not, List, [], ◌∷◌, ◌++◌, length, Float}
+use Rattle.std.specs.Prelude.{ℕ, ◌≡◌, not, List, [], ◌∷◌, ◌++◌, length, Float}
 use Rattle.basis.specs.declared.number.Tolerance.{Tolerance}
 use Rattle.basis.specs.Number.{+0, all_within, tolerable}
 use Rattle.basis.specs.Each.{places_below, places_at_most, choices_known}

@@ -1,6 +1,6 @@
 -- What the call is proved by: the table in its parts, acceptance, and the ways out.
-use Rattle.std.specs.Prelude.{ℕ, zero, suc, ◌+◌, ◌*◌, ◌≤◌, ◌<◌, Bool, true, false, ◌≡◌, refl, List, ◌++◌, length}
-use Rattle.std.proofs.Common.{sym, ap, subst, ◌∙◌, arith, ltb-false}
+use Rattle.std.specs.Prelude.{ℕ, ◌+◌, ◌*◌, ◌≡◌, refl, List, ◌++◌, length}
+use Rattle.std.proofs.Common.{sym, ap, ◌∙◌, arith, ltb-false}
 use Rattle.std.proofs.lemmas.Bool.{not-false}
 use Rattle.basis.specs.Sizes.{most_hits, most_laps}
 use Rattle.basis.specs.Refuse.{Row, first_from}
@@ -9,7 +9,7 @@ use Rattle.slice.specs.Ready.{Countable, Rooms, Roomy}
 use Rattle.cut.specs.Cuts as cut
 use Rattle.cut.specs.Cuts.{which_of}
 use Rattle.cut_entries.specs.CutRows as cuts
-use Rattle.cut_entries.specs.CutRowsLaws.{CutsPass, cuts-accepted, few-listed}
+use Rattle.cut_entries.specs.CutRowsLaws.{CutsPass, cuts-accepted}
 use Rattle.cut_entries.specs.CutRows.{FewCuts}
 use Rattle.prune.specs.declared.call.Call.{Call}
 use Rattle.prune.specs.declared.counts.Pruned.{Pruned}
@@ -20,7 +20,7 @@ use Rattle.prune_entries.specs.Answers.{prune_refused, prune_given}
 use Rattle.straight_cut.specs.KnownLaws.{outline-readable, points-readable, laps-readable}
 use Rattle.straight_slices.specs.Slices.{Given, first_cuts, second_cuts, pruning, most_call, need_all}
 use Rattle.straight_slices.specs.Ready.{Accepted}
-use Rattle.straight_slices.specs.Rows.{more_list_rows, list_rows, code_rows, number_rows, straight_rows, index_rows, input_rows, lent_rows, slices_rows, slices_refusal, slices_number, SlicesLeft}
+use Rattle.straight_slices.specs.Rows.{more_list_rows, list_rows, code_rows, number_rows, straight_rows, index_rows, input_rows, lent_rows, slices_refusal, slices_number, SlicesLeft}
 use Rattle.prune_entries.specs.PruneRows.{room_rows}
 
 -- ---- the parts

@@ -1,5 +1,5 @@
 -- Document 02, K11: listing candidates, asking inside and pruning in one call. What it is given, and the three calls that it makes of it.
-use Rattle.std.specs.Prelude.{ℕ, ◌+◌, ◌*◌, ◌≤◌, List, Float}
+use Rattle.std.specs.Prelude.{ℕ, ◌+◌, ◌*◌, List, Float}
 use Rattle.basis.specs.declared.number.Tolerance.{Tolerance}
 use Rattle.cut.specs.declared.arrival.Case.{Case}
 use Rattle.cut.specs.Cuts as cuts

@@ -1,18 +1,17 @@
 -- What is handed on is in order: the candidates of an accepted call are sound for their outlines, each with its outline's edition. So a stitch accepts the slices.
 use Prim.Native.Nat.{ℕ, zero, suc, ◌+◌, ◌-◌, ◌*◌, ◌≤◌, ◌<◌}
-use Rattle.std.specs.Prelude.{true, cond, ◌&&◌, ◌≡◌, List, [], ◌∷◌, ◌++◌, ltb, length, get_or, Float}
+use Rattle.std.specs.Prelude.{true, ◌&&◌, ◌≡◌, List, ◌++◌, ltb, length, get_or, Float}
 use Rattle.std.proofs.Math.Path.{refl}
-use Rattle.std.proofs.Common.{sym, ap, ◌∙◌, add-zero, arith}
+use Rattle.std.proofs.Common.{◌∙◌, arith}
 use Rattle.std.proofs.Math.Dec.{eqb}
 use Rattle.std.proofs.lemmas.List.{get_or-replicate}
 use Rattle.std.specs.Float.Ieee.{nan, of_bits, le}
-use Rattle.std.proofs.lemmas.Bool.{not-false}
 use Rattle.basis.specs.Choice.{by-test}
 use Rattle.basis.specs.All.{all_of, all_append, all-at}
 use Rattle.basis.specs.Number.{+0, abs_f, within, all_within}
 use Rattle.basis.specs.Items.{first_items}
 use Rattle.outline.specs.declared.point.Vertex.{Vertex}
-use Rattle.outline.specs.Points.{at_point, with_bulge, vertex_numbers}
+use Rattle.outline.specs.Points.{with_bulge, vertex_numbers}
 use Rattle.outline.specs.Outline.{vertex_at, point_at}
 use Rattle.cut.specs.Cuts as cuts
 use Rattle.cut.specs.Cuts.{cut_count}
@@ -20,7 +19,7 @@ use Rattle.cut.specs.Order as order
 use Rattle.cut.specs.Order.{cut_numbers, cut_points}
 use Rattle.cut_order.specs.CutsLaws.{points-length, points-within, segment-below}
 use Rattle.cut_entries.specs.CutRowsLaws.{cuts-accepted}
-use Rattle.candidate.specs.Candidates.{segment_at, candidates_of, numbers_of, shape_of}
+use Rattle.candidate.specs.Candidates.{segment_at, candidates_of, shape_of}
 use Rattle.candidate_write.specs.ItemLaws.{flat-length, wide-shapes}
 use Rattle.candidate_write.specs.CandidateTheorems.{starts-below, offsets-most}
 use Rattle.candidate_write.specs.RangeTheorems.{InRange, shapes-in}

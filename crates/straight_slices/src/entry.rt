@@ -11,6 +11,7 @@ use basis::refuse::Refusal;
 use prune::call;
 use prune_entries::answer::PruneAnswer;
 use prune_entries::{answer, faults as pruning};
+use slice::write::Lent;
 
 // All numbers. The need is worked out only where 1 to 7 and 18 found nothing.
 fn refusal(h: &Handed, at: usize, shape: usize, edition: usize) -> Result<(), Refusal>
@@ -21,7 +22,8 @@ fn refusal(h: &Handed, at: usize, shape: usize, edition: usize) -> Result<(), Re
     pruning::room_refusal(need, at, shape, edition)
 }
 
-// The slices of a mode of two straight masks: the candidates of each outline that stay, then the overlaps for each outline.
+// The slices of a mode of two straight masks: the candidates of each outline that stay, then the overlaps for each outline. The lists come
+// one by one, as `mask` hands over what C has.
 pub fn entry(
     job: Job,
     outline1: &[f64],
@@ -49,12 +51,13 @@ pub fn entry(
     };
     match refusal(&h, slice_at.len(), slice.len(), slice_edition.len()) {
         Err(refusal) => answer::prune_refused(refusal.number()),
-        Ok(()) => answer::prune_given(slicing::sliced(
-            &h,
-            job.most_call(),
-            slice_at,
-            slice,
-            slice_edition,
-        )),
+        Ok(()) => {
+            let mut lent = Lent {
+                at: slice_at,
+                shape: slice,
+                edition: slice_edition,
+            };
+            answer::prune_given(slicing::sliced(&h, job.most_call(), &mut lent))
+        }
     }
 }

@@ -1,6 +1,6 @@
 // What a call has: its numbers and its lists, made at its entry and handed on as one.
 ghost use Rattle.std.specs.Prelude.{◌≡◌, ◌+◌, ◌*◌};
-ghost use Rattle.cut.specs.Cuts.{held};
+ghost use Rattle.cut.specs.Cuts.{held, given, case_of};
 ghost use Rattle.cut_entries.specs.CutRows.{FewCuts};
 ghost use Rattle.straight_slices.specs.Slices.{handed, first_cuts, second_cuts, most_call};
 
@@ -56,20 +56,20 @@ pub struct Handed<'a> {
 }
 
 impl<'a> Handed<'a> {
-    // The cuts of outline 1.
-    pub(crate) fn first_cuts(&self) -> Cuts<'a>
-        ensures { held result ≡ first_cuts (handed self.now) }
+    // The cuts of one of the two outlines.
+    fn cuts_of(&self, outline: &'a [f64], vc: usize, source: usize) -> Cuts<'a>
+        ensures { held result ≡ given outline.now self.now.hit_at.now self.now.hit.now self.now.lap_at.now self.now.lap.now (case_of vc source self.now.job.hits self.now.job.laps self.now.job.tolerance) }
     {
         let tolerance = self.job.tolerance;
         Cuts {
-            outline: self.outline1,
+            outline,
             hit_at: self.hit_at,
             hit: self.hit,
             lap_at: self.lap_at,
             lap: self.lap,
             case: Case {
-                vc: self.job.vc1,
-                source: 1,
+                vc,
+                source,
                 hits: self.job.hits,
                 laps: self.job.laps,
                 tolerance,
@@ -77,24 +77,17 @@ impl<'a> Handed<'a> {
         }
     }
 
+    // The cuts of outline 1.
+    pub(crate) fn first_cuts(&self) -> Cuts<'a>
+        ensures { held result ≡ first_cuts (handed self.now) }
+    {
+        self.cuts_of(self.outline1, self.job.vc1, 1)
+    }
+
     // The cuts of outline 2.
     pub(crate) fn second_cuts(&self) -> Cuts<'a>
         ensures { held result ≡ second_cuts (handed self.now) }
     {
-        let tolerance = self.job.tolerance;
-        Cuts {
-            outline: self.outline2,
-            hit_at: self.hit_at,
-            hit: self.hit,
-            lap_at: self.lap_at,
-            lap: self.lap,
-            case: Case {
-                vc: self.job.vc2,
-                source: 2,
-                hits: self.job.hits,
-                laps: self.job.laps,
-                tolerance,
-            },
-        }
+        self.cuts_of(self.outline2, self.job.vc2, 2)
     }
 }

@@ -1,6 +1,6 @@
 // The slices of an accepted call.
 ghost use Rattle.std.specs.Prelude.{◌≡◌};
-ghost use Rattle.slice.specs.Ready.{rooms};
+ghost use Rattle.slice.specs.Ready.{rooms_in, Same};
 ghost use Rattle.prune_write.specs.Ready.{BothWritten, WrittenTo};
 ghost use Rattle.straight_slices.specs.Slices.{handed, first_side, second_side, first_cands, second_cands, pruning, need_all};
 ghost use Rattle.straight_slices.specs.Ready.{SidesRoom, Accepted};
@@ -41,22 +41,18 @@ fn second_side(job: Job, part: Part, from: usize) -> Side
 }
 
 // What stays of both outlines, from the front, and where each ends. The overlaps' editions are not looked at here.
-fn both_sides(
-    h: &Handed,
-    slice_at: &mut [usize],
-    slice: &mut [f64],
-    slice_edition: &mut [u32],
-) -> Ends
-    requires { SidesRoom (handed h.now) (rooms slice_at.old slice.old slice_edition.old) }
-    ensures { BothWritten (pruning (handed h.now)).call (first_cands (handed h.now)) (second_cands (handed h.now)) (rooms slice_at.old slice.old slice_edition.old) result (rooms slice_at.new slice.new slice_edition.new) }
+fn both_sides(h: &Handed, lent: &mut Lent) -> Ends
+    requires { SidesRoom (handed h.now) (rooms_in lent.old) }
+    ensures same { Same lent.old lent.new }
+    ensures written { BothWritten (pruning (handed h.now)).call (first_cands (handed h.now)) (second_cands (handed h.now)) (rooms_in lent.old) result (rooms_in lent.new) }
 {
     let parts = mode::parts_of(h.job.mode, h.job.opposing == 1);
     let one = first_side(h.job, parts.first);
     let own = h.first_cuts();
-    let a = kept(&own, h.outline2, one, slice_at, slice, slice_edition);
+    let a = kept(&own, h.outline2, one, lent);
     let two = second_side(h.job, parts.second, a);
     let others = h.second_cuts();
-    let b = kept(&others, h.outline1, two, slice_at, slice, slice_edition);
+    let b = kept(&others, h.outline1, two, lent);
     Ends {
         first: a,
         second: b,
@@ -64,26 +60,16 @@ fn both_sides(
 }
 
 // The slices of an accepted call: what stays of both outlines, the overlaps twice, and zero up to the need.
-pub(crate) fn sliced(
-    h: &Handed,
-    call: Call,
-    slice_at: &mut [usize],
-    slice: &mut [f64],
-    slice_edition: &mut [u32],
-) -> Pruned
-    requires { Accepted (handed h.now) call (rooms slice_at.old slice.old slice_edition.old) }
-    ensures { WrittenTo (pruning (handed h.now)) (need_all h.now.job) (rooms slice_at.old slice.old slice_edition.old) result (rooms slice_at.new slice.new slice_edition.new) }
+pub(crate) fn sliced(h: &Handed, call: Call, lent: &mut Lent) -> Pruned
+    requires { Accepted (handed h.now) call (rooms_in lent.old) }
+    ensures same { Same lent.old lent.new }
+    ensures written { WrittenTo (pruning (handed h.now)) (need_all h.now.job) (rooms_in lent.old) result (rooms_in lent.new) }
 {
-    let kept = both_sides(h, slice_at, slice, slice_edition);
+    let kept = both_sides(h, lent);
     let laps = Overlaps {
         at: h.lap_at,
         shape: h.lap,
         edition: h.lap_edition,
     };
-    let mut lent = Lent {
-        at: slice_at,
-        shape: slice,
-        edition: slice_edition,
-    };
-    write::finish(call, kept, &laps, &mut lent)
+    write::finish(call, kept, &laps, lent)
 }

@@ -67,6 +67,7 @@ pub(crate) fn holds(entry: usize, own: &[u8]) -> bool {
     answered(entry, front(&list, n), words::from(own, n + 1))
 }
 
+// The entry goes by its number, as the file has it.
 fn answered(entry: usize, outline: &[i64], told: &[u8]) -> bool {
     match entry {
         0 => winding(outline, told),

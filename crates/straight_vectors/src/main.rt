@@ -21,7 +21,7 @@ fn show(rt: &impl Print, counts: &[usize]) {
     let _ = println!(rt; "{seen} of {all} cases, {differ} differ");
 }
 
-// A case of an entry. Place 3 counts those that differ, 4 all.
+// A case of an entry. Place 3 counts those that differ, 4 all. A list and no struct: the first three places go by the entry's number in the file.
 fn tally(counts: &mut [usize], entry: usize, holds: bool) {
     words::add(counts, entry);
     words::add(counts, 4);

@@ -1,10 +1,12 @@
 -- A line of two numerals reads as their numbers: exactly where they are in range, and as past the range where they are past it.
-use Rattle.std.specs.Prelude.{ℕ, ◌+◌, ◌-◌, ◌*◌, ◌≤◌, ◌<◌, ◌≡◌, refl, Bool, true, false, cond, List, [], ◌∷◌, ◌++◌, eqb, ltb}
+use Rattle.std.specs.Prelude.{ℕ, ◌+◌, ◌*◌, ◌≤◌, ◌<◌, ◌≡◌, refl, Bool, true, false, cond, List, [], ◌∷◌, ◌++◌, eqb, ltb}
 use Rattle.std.proofs.Common.{arith, ap, ◌∙◌, lt-ltb, ltb-true}
 use Rattle.basis.specs.Choice.{by-test, and_left, and_right}
 use Rattle.basis.specs.All.{all_of}
 use Rattle.text.specs.declared.lines.Line.{Line}
-use Rattle.text.specs.Lines.{is_blank, is_digit, blanks_more, on_blank, on_minus, on_digit, more, digit_of, digit_read, minus_read, stage_of, other_read, step, line_from, line_of}
+use Rattle.text.specs.declared.lines.Stage.{Stage}
+use Rattle.text.specs.declared.lines.Stage.TheVariants.{Start, FirstSign, FirstDigits, Between, SecondSign, SecondDigits}
+use Rattle.text.specs.Lines.{is_blank, is_digit, on_blank, on_minus, on_digit, in_first, more, digit_of, digit_read, minus_read, stage_of, other_read, step, line_from, line_of}
 
 -- the number that digits say, without bound, and what is read of it
 abbrev pub value_from : ℕ → List ℕ → ℕ
@@ -55,7 +57,7 @@ size-past n (c ∷ r) h =
     past e p = omega arith
 
 -- ---- how a line goes on
-abbrev line : ℕ → ℕ → ℕ → ℕ → ℕ → Line
+abbrev line : Stage → Bool → ℕ → Bool → ℕ → Line
 line s neg size fn fs = record { stage = s; negative = neg; size = size; first_negative = fn; first_size = fs }
 
 from-append : (l : Line) (xs ys : List ℕ) → line_from l (xs ++ ys) ≡ line_from (line_from l xs) ys
@@ -63,17 +65,17 @@ unfolding line_from
 from-append l [] ys = refl
 from-append l (x ∷ xs) ys = from-append (step l x) xs ys
 
-digit-step : (s neg size fn fs c : ℕ) → is_digit c ≡ true → step (line s neg size fn fs) c ≡ line (on_digit s) neg (more size (digit_of c)) fn fs
+digit-step : (s : Stage) (neg : Bool) (size : ℕ) (fn : Bool) (fs c : ℕ) → is_digit c ≡ true → step (line s neg size fn fs) c ≡ line (on_digit s) neg (more size (digit_of c)) fn fs
 unfolding step
 digit-step s neg size fn fs c h =
     let l = line s neg size fn fs in
     ap (λ (b : Bool). cond b (digit_read l c) (cond (eqb c 45) (minus_read l) (other_read l c))) h
 
-digits-on : (s neg size fn fs : ℕ) (r : List ℕ) → on_digit s ≡ s → all_of is_digit r ≡ true → line_from (line s neg size fn fs) r ≡ line s neg (size_from size r) fn fs
+digits-on : (s : Stage) (neg : Bool) (size : ℕ) (fn : Bool) (fs : ℕ) (r : List ℕ) → on_digit s ≡ s → all_of is_digit r ≡ true → line_from (line s neg size fn fs) r ≡ line s neg (size_from size r) fn fs
 unfolding line_from all_of
 digits-on s neg size fn fs [] k h = refl
 digits-on s neg size fn fs (c ∷ r) k h =
-    ap (λ (l : Line). line_from l r) (digit-step s neg size fn fs c (and_left (is_digit c) _ h) ∙ ap (λ (n : ℕ). line n neg (more size (digit_of c)) fn fs) k)
+    ap (λ (l : Line). line_from l r) (digit-step s neg size fn fs c (and_left (is_digit c) _ h) ∙ ap (λ (n : Stage). line n neg (more size (digit_of c)) fn fs) k)
     ∙ digits-on s neg (more size (digit_of c)) fn fs r k (and_right (is_digit c) _ h)
 
 -- a numeral: a minus sign or none, and digits
@@ -81,37 +83,33 @@ abbrev pub numeral : Bool → List ℕ → List ℕ
 numeral true ds = 45 ∷ ds
 numeral false ds = ds
 
-abbrev pub sign : Bool → ℕ
-sign true = 1
-sign false = 0
-
 -- the first number, from the start of a line
-first_on : (a : Bool) (d : ℕ) (ds : List ℕ) → all_of is_digit (d ∷ ds) ≡ true → line_from (line 0 0 0 0 0) (numeral a (d ∷ ds)) ≡ line 2 (sign a) (size_from 0 (d ∷ ds)) 0 0
+first_on : (a : Bool) (d : ℕ) (ds : List ℕ) → all_of is_digit (d ∷ ds) ≡ true → line_from (line Start false 0 false 0) (numeral a (d ∷ ds)) ≡ line FirstDigits a (size_from 0 (d ∷ ds)) false 0
 unfolding line_from all_of step is_digit is_blank on_minus on_digit
 first_on true d ds h =
-    ap (λ (l : Line). line_from l ds) (digit-step 1 1 0 0 0 d (and_left (is_digit d) _ h)) ∙ digits-on 2 1 (more 0 (digit_of d)) 0 0 ds refl (and_right (is_digit d) _ h)
+    ap (λ (l : Line). line_from l ds) (digit-step FirstSign true 0 false 0 d (and_left (is_digit d) _ h)) ∙ digits-on FirstDigits true (more 0 (digit_of d)) false 0 ds refl (and_right (is_digit d) _ h)
 first_on false d ds h =
-    ap (λ (l : Line). line_from l ds) (digit-step 0 0 0 0 0 d (and_left (is_digit d) _ h)) ∙ digits-on 2 0 (more 0 (digit_of d)) 0 0 ds refl (and_right (is_digit d) _ h)
+    ap (λ (l : Line). line_from l ds) (digit-step Start false 0 false 0 d (and_left (is_digit d) _ h)) ∙ digits-on FirstDigits false (more 0 (digit_of d)) false 0 ds refl (and_right (is_digit d) _ h)
 
 -- the second, after the blank
-second-on : (fn fs : ℕ) (a : Bool) (d : ℕ) (ds : List ℕ) → all_of is_digit (d ∷ ds) ≡ true
-    → line_from (line 3 0 0 fn fs) (numeral a (d ∷ ds)) ≡ line 5 (sign a) (size_from 0 (d ∷ ds)) fn fs
+second-on : (fn : Bool) (fs : ℕ) (a : Bool) (d : ℕ) (ds : List ℕ) → all_of is_digit (d ∷ ds) ≡ true
+    → line_from (line Between false 0 fn fs) (numeral a (d ∷ ds)) ≡ line SecondDigits a (size_from 0 (d ∷ ds)) fn fs
 unfolding line_from all_of step is_digit is_blank on_minus on_digit
 second-on fn fs true d ds h =
-    ap (λ (l : Line). line_from l ds) (digit-step 4 1 0 fn fs d (and_left (is_digit d) _ h)) ∙ digits-on 5 1 (more 0 (digit_of d)) fn fs ds refl (and_right (is_digit d) _ h)
+    ap (λ (l : Line). line_from l ds) (digit-step SecondSign true 0 fn fs d (and_left (is_digit d) _ h)) ∙ digits-on SecondDigits true (more 0 (digit_of d)) fn fs ds refl (and_right (is_digit d) _ h)
 second-on fn fs false d ds h =
-    ap (λ (l : Line). line_from l ds) (digit-step 3 0 0 fn fs d (and_left (is_digit d) _ h)) ∙ digits-on 5 0 (more 0 (digit_of d)) fn fs ds refl (and_right (is_digit d) _ h)
+    ap (λ (l : Line). line_from l ds) (digit-step Between false 0 fn fs d (and_left (is_digit d) _ h)) ∙ digits-on SecondDigits false (more 0 (digit_of d)) fn fs ds refl (and_right (is_digit d) _ h)
 
-blank-on : (neg size : ℕ) → step (line 2 neg size 0 0) 32 ≡ line 3 0 0 neg size
-unfolding step is_digit is_blank blanks_more on_blank stage_of other_read
+blank-on : (neg : Bool) (size : ℕ) → step (line FirstDigits neg size false 0) 32 ≡ line Between false 0 neg size
+unfolding step is_digit is_blank on_blank in_first stage_of other_read
 blank-on neg size = refl
 
 -- two numerals with a space between them: a pair, of these numbers
 pub pair_reads : (a b : Bool) (d e : ℕ) (ds es : List ℕ) → all_of is_digit (d ∷ ds) ≡ true → all_of is_digit (e ∷ es) ≡ true
-    → line_of (numeral a (d ∷ ds) ++ (32 ∷ numeral b (e ∷ es))) ≡ line 5 (sign b) (size_from 0 (e ∷ es)) (sign a) (size_from 0 (d ∷ ds))
+    → line_of (numeral a (d ∷ ds) ++ (32 ∷ numeral b (e ∷ es))) ≡ line SecondDigits b (size_from 0 (e ∷ es)) a (size_from 0 (d ∷ ds))
 unfolding line_from
 pair_reads a b d e ds es h k =
-    from-append (line 0 0 0 0 0) (numeral a (d ∷ ds)) (32 ∷ numeral b (e ∷ es))
+    from-append (line Start false 0 false 0) (numeral a (d ∷ ds)) (32 ∷ numeral b (e ∷ es))
     ∙ ap (λ (l : Line). line_from l (32 ∷ numeral b (e ∷ es))) (first_on a d ds h)
-    ∙ ap (λ (l : Line). line_from l (numeral b (e ∷ es))) (blank-on (sign a) (size_from 0 (d ∷ ds)))
-    ∙ second-on (sign a) (size_from 0 (d ∷ ds)) b e es k
+    ∙ ap (λ (l : Line). line_from l (numeral b (e ∷ es))) (blank-on a (size_from 0 (d ∷ ds)))
+    ∙ second-on a (size_from 0 (d ∷ ds)) b e es k

@@ -1,17 +1,32 @@
-#![tactic(auto, using(basis::specs::Choice::cases), unfolding(crate::specs::Lines::is_blank, crate::specs::Lines::is_digit, crate::specs::Lines::more, crate::specs::Lines::blanks_more, crate::specs::Lines::on_blank, crate::specs::Lines::on_minus, crate::specs::Lines::on_digit, crate::specs::Lines::stage_of, crate::specs::Lines::other_read, crate::specs::Lines::step, crate::specs::Lines::is_pair, crate::specs::Lines::coordinate_of))]
+#![tactic(auto, using(basis::specs::Choice::cases), unfolding(crate::specs::Lines::is_blank, crate::specs::Lines::is_digit, crate::specs::Lines::more, crate::specs::Lines::on_blank, crate::specs::Lines::on_minus, crate::specs::Lines::on_digit, crate::specs::Lines::in_first, crate::specs::Lines::stage_of, crate::specs::Lines::other_read, crate::specs::Lines::step, crate::specs::Lines::is_pair, crate::specs::Lines::coordinate_of))]
 // A line of text, byte by byte: a vertex as two whole numbers, an empty line, or neither.
 ghost use Rattle.std.specs.Prelude.{◌≡◌, ◌≤◌};
-ghost use Rattle.text.specs.Lines.{is_blank, is_digit, more, blanks_more, on_blank, on_minus, on_digit, digit_of, digit_read, minus_read, shifted, moved, stage_of, other_read, step, is_pair, is_empty, coordinate_of, Capped};
+ghost use Rattle.text.specs.Lines.{is_blank, is_digit, more, on_blank, on_minus, on_digit, digit_of, digit_read, minus_read, shifted, moved, stage_of, other_read, step, is_pair, is_empty, coordinate_of, Capped};
 
 use whole::signed;
 
-// What was read of a line: how far it came (a stage from 0 to 7, see specs/Lines.antt), the number that is being read, and the first number once it is read.
+// How far a line came.
+#[derive(Clone, Copy, PartialEq, Eq)]
+pub enum Stage {
+    Start, // nothing but blanks
+    FirstSign, // the first number's minus sign
+    FirstDigits, // its digits
+    Between, // blanks after it
+    SecondSign, // the second number's minus sign
+    SecondDigits, // its digits
+    After, // blanks after it
+    NoPair, // no pair, whatever follows
+}
+
+use Stage::{After, Between, FirstDigits, FirstSign, NoPair, SecondDigits, SecondSign, Start};
+
+// What was read of a line: how far it came, the number that is being read, and the first number once it is read.
 #[derive(Clone, Copy)]
 pub struct Line {
-    pub stage: u32,
-    pub negative: u32,
+    pub stage: Stage,
+    pub negative: bool,
     pub size: u64,
-    pub first_negative: u32,
+    pub first_negative: bool,
     pub first_size: u64,
 }
 
@@ -40,45 +55,34 @@ fn more_of(size: u64, digit: u64) -> u64
     }
 }
 
-// A blank after a blank.
-fn blanks_more(stage: u32) -> u32
-    ensures { result ≡ blanks_more stage }
-{
-    match stage {
-        3 => 3,
-        6 => 6,
-        _ => 7,
-    }
-}
-
-fn on_blank(stage: u32) -> u32
+fn on_blank(stage: Stage) -> Stage
     ensures { result ≡ on_blank stage }
 {
     match stage {
-        0 => 0,
-        2 => 3,
-        5 => 6,
-        _ => blanks_more(stage),
+        Start => Start,
+        FirstDigits | Between => Between,
+        SecondDigits | After => After,
+        _ => NoPair,
     }
 }
 
-fn on_minus(stage: u32) -> u32
+fn on_minus(stage: Stage) -> Stage
     ensures { result ≡ on_minus stage }
 {
     match stage {
-        0 => 1,
-        3 => 4,
-        _ => 7,
+        Start => FirstSign,
+        Between => SecondSign,
+        _ => NoPair,
     }
 }
 
-fn on_digit(stage: u32) -> u32
+fn on_digit(stage: Stage) -> Stage
     ensures { result ≡ on_digit stage }
 {
     match stage {
-        0..=2 => 2,
-        3..=5 => 5,
-        _ => 7,
+        Start | FirstSign | FirstDigits => FirstDigits,
+        Between | SecondSign | SecondDigits => SecondDigits,
+        _ => NoPair,
     }
 }
 
@@ -93,10 +97,8 @@ fn digit_read(l: Line, c: u8) -> Line
 {
     Line {
         stage: on_digit(l.stage),
-        negative: l.negative,
         size: more_of(l.size, digit_of(c)),
-        first_negative: l.first_negative,
-        first_size: l.first_size,
+        ..l
     }
 }
 
@@ -105,50 +107,42 @@ fn minus_read(l: Line) -> Line
 {
     Line {
         stage: on_minus(l.stage),
-        negative: 1,
-        size: l.size,
-        first_negative: l.first_negative,
-        first_size: l.first_size,
+        negative: true,
+        ..l
     }
 }
 
 // The first number is read.
-fn shifted_by(l: Line, stage: u32) -> Line
+fn shifted_by(l: Line, stage: Stage) -> Line
     ensures { result ≡ shifted l stage }
 {
     Line {
         stage,
-        negative: 0,
+        negative: false,
         size: 0,
         first_negative: l.negative,
         first_size: l.size,
     }
 }
 
-fn moved_to(l: Line, stage: u32) -> Line
+fn moved_to(l: Line, stage: Stage) -> Line
     ensures { result ≡ moved l stage }
 {
-    Line {
-        stage,
-        negative: l.negative,
-        size: l.size,
-        first_negative: l.first_negative,
-        first_size: l.first_size,
-    }
+    Line { stage, ..l }
 }
 
 // Where a byte leads that is no digit and no minus sign.
-fn stage_of(stage: u32, c: u8) -> u32
+fn stage_of(stage: Stage, c: u8) -> Stage
     ensures { result ≡ stage_of stage c }
 {
-    if is_blank(c) { on_blank(stage) } else { 7 }
+    if is_blank(c) { on_blank(stage) } else { NoPair }
 }
 
 fn other_read(l: Line, c: u8) -> Line
     ensures { result ≡ other_read l c }
 {
     let stage = stage_of(l.stage, c);
-    if l.stage == 2 {
+    if l.stage == FirstDigits {
         shifted_by(l, stage)
     } else {
         moved_to(l, stage)
@@ -172,14 +166,14 @@ pub fn take(l: Line, c: u8) -> Line
 pub fn is_pair(l: Line) -> bool
     ensures { result ≡ is_pair l }
 {
-    l.stage == 5 || l.stage == 6
+    matches!(l.stage, SecondDigits | After)
 }
 
 // The line is empty, but for blanks.
 pub fn is_empty(l: Line) -> bool
     ensures { result ≡ is_empty l }
 {
-    l.stage == 0
+    l.stage == Start
 }
 
 // A number's size, and one past the range for all that are past it.
@@ -194,11 +188,11 @@ fn capped(size: u64) -> u64
 }
 
 // A number that was read, as a coordinate.
-pub fn coordinate(negative: u32, size: u64) -> i64
+pub fn coordinate(negative: bool, size: u64) -> i64
     ensures { result ≡ coordinate_of negative size }
 {
     let n = signed::signed(capped(size));
-    if negative == 1 {
+    if negative {
         return signed::minus(0, n);
     }
     n

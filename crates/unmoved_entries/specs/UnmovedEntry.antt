@@ -1,5 +1,5 @@
 -- The entry `mask_unmoved`: its refusals, its answer, and what acceptance gives. 6 and 7 look at both outlines.
-use Rattle.std.specs.Prelude.{ℕ, ◌+◌, not, cond, ◌≡◌, List, [], ◌∷◌, ◌++◌, length, ltb, leb, eqb, Float, Option, Some, None}
+use Rattle.std.specs.Prelude.{ℕ, not, cond, ◌≡◌, List, [], ◌∷◌, ◌++◌, length, ltb, leb, eqb, Float, Option, Some, None}
 use Rattle.std.proofs.Common.{sym, ap, ◌∙◌}
 use Rattle.std.proofs.Math.Path.{subst}
 use borrow.Author.Tests.{leb-false, ltb-false, not-false}

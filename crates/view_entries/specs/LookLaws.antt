@@ -1,5 +1,5 @@
 -- One row of a table, as the code looks at it: the number that it gives.
-use Rattle.std.specs.Prelude.{ℕ, Bool, true, false, cond, ◌≡◌, refl}
+use Rattle.std.specs.Prelude.{Bool, true, false, cond, ◌≡◌, refl}
 use Rattle.basis.specs.declared.refuse.Refusal.{Refusal}
 use Rattle.basis.specs.Refusals.{number_of, when, found}
 

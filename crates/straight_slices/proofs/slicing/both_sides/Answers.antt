@@ -8,9 +8,9 @@ kept-a-requires c =
 
 pub kept-b-requires : goal.kept-b-requires
 kept-b-requires c =
-    second-room _ _ c.requires _ _ c.first_side-one.ensures _ c.first_cuts-own.ensures _ _ c.kept-a.ensures _ _ c.second_side-two.ensures _ c.second_cuts-others.ensures
+    second-room _ _ c.requires _ _ c.first_side-one.ensures _ c.first_cuts-own.ensures _ _ c.kept-a.ensures.kept _ _ c.second_side-two.ensures _ c.second_cuts-others.ensures
 
-pub returns : goal.returns
-returns c =
-    both-made _ _ c.requires _ _ c.first_side-one.ensures _ c.first_cuts-own.ensures _ _ c.kept-a.ensures _ _ c.second_side-two.ensures _ c.second_cuts-others.ensures
-    c.parts_of-parts.result c.parts_of-parts.ensures refl refl _ _ c.kept-b.ensures
+pub returns-clause-written : goal.returns-clause-written
+returns-clause-written c =
+    both-made _ _ c.requires _ _ c.first_side-one.ensures _ c.first_cuts-own.ensures _ _ c.kept-a.ensures.kept _ _ c.second_side-two.ensures _ c.second_cuts-others.ensures
+    c.parts_of-parts.result c.parts_of-parts.ensures refl refl _ _ c.kept-b.ensures.kept

@@ -1,4 +1,3 @@
-use Prim.Native.Nat.{◌-◌}
 use Rattle.text.proofs.DecimalLaws.{trimming}
 use borrow.Author.Rules.{rules}
 use Rattle.text.proofs.decimal.first_digit.Goals as goal

@@ -10,16 +10,16 @@ minus-requires c =
     let w = c.signed-n in
     minus-fits s.negative s.size k.result _ k.ensures (got w.result w.type_inv ∙ w.ensures)
 
-pub returns-then-negative-eq1 : goal.returns-then-negative-eq1
-returns-then-negative-eq1 c =
+pub returns-then-negative : goal.returns-then-negative
+returns-then-negative c =
     let s = c.args in
     let k = c.capped in
     let w = c.signed-n in
-    coordinate-minus s.negative s.size k.result _ k.ensures (got w.result w.type_inv ∙ w.ensures) _ c.if-negative-eq1.true (got c.minus.result c.minus.type_inv ∙ c.minus.ensures)
+    coordinate-minus s.negative s.size k.result _ k.ensures (got w.result w.type_inv ∙ w.ensures) _ c.if-negative.true (got c.minus.result c.minus.type_inv ∙ c.minus.ensures)
 
 pub returns : goal.returns
 returns c =
     let s = c.args in
     let k = c.capped in
     let w = c.signed-n in
-    coordinate-plus s.negative s.size k.result _ k.ensures (got w.result w.type_inv ∙ w.ensures) c.if-negative-eq1.false
+    coordinate-plus s.negative s.size k.result _ k.ensures (got w.result w.type_inv ∙ w.ensures) c.if-negative.false

@@ -1,9 +1,0 @@
-use Rattle.fields.specs.Fields.{num_of}
-use Rattle.record_read.proofs.Gathering.{Gathering}
-use Rattle.record_read.proofs.body.gather_numbers.Given as goal
-
-abbrev pub invariant-loop-left : goal.invariant-loop-left
-invariant-loop-left l = Gathering num_of l.values l.from l.stride l.offset l.per l.count l.initial.out l.out l.p l.q l.left
-
-abbrev pub decreases-loop-left : goal.decreases-loop-left
-decreases-loop-left l = l.left
