@@ -1,20 +1,22 @@
 -- How a number that was read is a coordinate.
-use Prim.Native.Nat.{ℕ, ◌≤◌, ◌<◌, zero-le}
+use Prim.Native.Nat.{ℕ, zero-le, min}
 use native.Mathlib.Omega.{arith}
 use mathlib.Core.Path.{◌≡◌, sym, ap, ◌∙◌}
 use mathlib.Core.Bool.{Bool, true, false, cond}
 use lib.IntN.{ℤ, pos, ◌-ℤ◌}
-use borrow.Author.Tests.{lt-ltb, le-ltb}
+use borrow.Author.Tests.{ltb-true, ltb-false}
+use lib.Dec.{ltb}
+use Rattle.basis.specs.Choice.{by-test}
 use Rattle.whole.specs.Fit.{Fitting}
 use Rattle.whole.specs.FitLaws.{fit, sub-near, as-near}
 use Rattle.text.specs.Lines.{capped_of, coordinate_of, Capped}
 
 -- a number's size in the range, or one past it
-pub capped-over : (size : ℕ) → 400000000 < size → Capped size 400000001
-capped-over size h = record { is = sym (ap (λ (b : Bool). cond b 400000001 size) (lt-ltb 400000000 size h)); most = omega arith }
-
-pub capped-in : (size : ℕ) → size ≤ 400000000 → Capped size size
-capped-in size h = record { is = sym (ap (λ (b : Bool). cond b 400000001 size) (le-ltb 400000000 size h)); most = omega arith }
+pub capped-is : (size r : ℕ) → r ≡ min size 400000001 → Capped size r
+capped-is size r e =
+    by-test (ltb 400000000 size)
+    (λ t. record { is = rw t (omega (arith, ltb-true 400000000 size t, e)); most = omega (arith, e) })
+    (λ t. record { is = rw t (omega (arith, ltb-false 400000000 size t, e)); most = omega (arith, e) })
 
 -- what is read back of it
 module _ (negative : Bool) (size c : ℕ) (n : ℤ) (k : Capped size c) (e : n ≡ pos c) where

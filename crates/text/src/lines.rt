@@ -180,11 +180,7 @@ pub fn is_empty(l: Line) -> bool
 fn capped(size: u64) -> u64
     ensures { Capped size result }
 {
-    if 400_000_000 < size {
-        400_000_001
-    } else {
-        size
-    }
+    size.min(400_000_001)
 }
 
 // A number that was read, as a coordinate.
