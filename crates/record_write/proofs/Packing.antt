@@ -5,26 +5,18 @@ use mathlib.Core.List.{List, ◌++◌, append_assoc}
 use native.Mathlib.Omega.{arith}
 use native.Mathlib.Nat.{le_of_eq}
 use lib.ListN.{length, drop, length-append}
-use lib.Seq.{sets}
+use lib.Seq.{sets, length-sets}
 use Rattle.fields.specs.Fields.{pack, rows}
 use Rattle.fields.specs.FieldLaws.{length-pack, pack-append, size-rows, length-rows}
-use Rattle.fields.specs.Ready.{RowsFrom, ShapeFrom}
+use Rattle.fields.specs.Ready.{RowsFrom}
 use Rattle.basis.specs.StoreLaws.{sets-after}
 use Rattle.record_form.specs.Form.{vertex_shape}
 use Rattle.record.specs.RecordLaws.{vertex-size}
 use Rattle.record_write.specs.Ready.{PackFit}
 
--- room for each part
-module _ {start stride : ℕ} {hs es : List ℕ} {head values k n m : ℕ} (w : PackFit start stride hs head es values k n m) where
-  pub packing-head : ShapeFrom head 0 hs m 0
-  packing-head = record { source = omega (arith, w.heads); inside = omega (arith, w.bytes, w.room) }
-
-  module _ {m' : ℕ} (same : m' ≡ m) where
-    pub packing-vertices : RowsFrom values 0 vertex_shape 24 k m' start
-    packing-vertices = record { bytes = sym vertex-size; source = omega (arith, w.all); inside = omega (arith, w.room, same) }
-
-    pub packing-slices : RowsFrom values (k * 3) es stride n m' (start + k * 24)
-    packing-slices = record { bytes = w.strides; source = omega (arith, w.all); inside = omega (arith, w.room, same) }
+pub packing-vertices : {start stride : ℕ} {hs es : List ℕ} {head values k n : ℕ} (l : List ℕ) {l' : List ℕ} (xs : List ℕ) → PackFit start stride hs head es values k n (length l)
+    → l' ≡ sets l 0 xs → RowsFrom values 0 vertex_shape 24 k (length l') start
+packing-vertices l xs w e = record { bytes = sym vertex-size; source = omega (arith, w.all); inside = omega (arith, w.room, ap length e ∙ length-sets l 0 xs) }
 
 pub record-packed : {start stride : ℕ} {hs es : List ℕ} {k n m : ℕ} (head values l : List ℕ) {l' l'' l''' : List ℕ} → PackFit start stride hs (length head) es (length values) k n m
     → l' ≡ sets l 0 (pack hs head) → l'' ≡ sets l' start (pack (rows k vertex_shape) values)

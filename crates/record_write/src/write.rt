@@ -6,9 +6,9 @@ ghost use Rattle.basis.specs.Refuse.{first_of, first_from};
 ghost use Rattle.basis.specs.Refusals.{found};
 ghost use Rattle.slice.specs.Editions.{editions};
 ghost use Rattle.stitch_run.specs.Stitch.{given_of};
-ghost use Rattle.record.specs.Record.{record_of};
+ghost use Rattle.record.specs.Record.{packed, record_of};
 ghost use Rattle.record_write.specs.Writer.{axes_fault, handed_rows, held_rows, editions_of, WriteForm, WriteLeft};
-ghost use Rattle.record_write.specs.Ready.{Keeps};
+ghost use Rattle.record_write.specs.Ready.{Packs, Keeps};
 ghost use Rattle.record_form.specs.Ready.{FormOk};
 
 use crate::kept::Kept;
@@ -62,6 +62,25 @@ fn held_refusal(version: usize, v: Version, k: &Kept) -> Result<(), Refusal>
     edition::edition_refusal(k.edition1, k.edition2, k.slices.slice_at, k.slice_edition)
 }
 
+// Packs the values of a stitch from the front on.
+fn pack_kept(v: Version, h: Head, values: &[usize], bytes: &mut [u8])
+    requires { Packs v h (length values.now) (length bytes.old) }
+    ensures { bytes.new ≡ sets bytes.old 0 (packed v h values.now) }
+{
+    let p = h.plan;
+    pack::pack_form(
+        form::head_bytes(v),
+        form::slice_bytes(v),
+        &form::head_widths(v),
+        &values::head_values(v.number, h),
+        &form::slice_widths(v),
+        values,
+        p.vc1 + p.vc2,
+        p.slices,
+        bytes,
+    );
+}
+
 // Writes the record of a stitch that is not refused, where there is room.
 fn write_kept(v: Version, k: &Kept, bytes: &mut [u8])
     requires { Keeps v (given_of k.now.slices) (editions_of k.now) (length bytes.old) }
@@ -76,7 +95,7 @@ fn write_kept(v: Version, k: &Kept, bytes: &mut [u8])
         edition1: k.edition1,
         edition2: k.edition2,
     };
-    pack::pack_form(v, head, &values[0..n], bytes);
+    pack_kept(v, head, &values[0..n], bytes);
 }
 
 // Writes the record of a stitch, of a version whose table this is, at the front of the lent bytes.
