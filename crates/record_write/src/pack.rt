@@ -8,7 +8,8 @@ ghost use Rattle.record_write.specs.Ready.{PackFit};
 use fields::shape;
 use record_form::form;
 
-// Writes a record from the front on: a head of `start` bytes, the vertices, and slices of `stride` bytes each.
+// Writes a record from the front on: a head of `start` bytes, the vertices, and slices of `stride` bytes each. Its parameters stay nine: it promises this of any tables (`PackFit`),
+// and not of those of a version alone.
 pub fn pack_form(
     start: usize,
     stride: usize,
