@@ -80,6 +80,7 @@ fn marked_end(source: usize, opposing: usize) -> usize
 
 impl Cuts<'_> {
     // The cut of a basic intersection.
+    #[inline(always)]
     fn hit_cut(&self, i: usize) -> Cut
         requires { HitFit self.now.hit_at.now self.now.hit.now i }
         ensures { result ≡ hit_cut self.now.hit_at.now self.now.hit.now self.now.case.source i }
@@ -112,7 +113,9 @@ impl Cuts<'_> {
     }
 
     // The cut of an arrival number: intersections first, then start and end of each overlap in turn. Without overlaps every arrival is an intersection's. That is asked first, by
-    // itself: then the compiler makes of each loop over cuts a second one for that case, which asks nothing of an arrival.
+    // itself: then the compiler makes of each loop over cuts a second one for that case, which asks nothing of an arrival. For that it has to stand in the loop, and the loop
+    // has to have a `Cuts` of its own: of one behind a reference the compiler does not know that the lists being written leave it as it is.
+    #[inline(always)]
     pub fn cut_of(&self, n: usize) -> Cut
         requires { Arrival (held self.now) n }
         ensures { result ≡ cut_of (held self.now) n }

@@ -27,9 +27,10 @@ fn write_items(cuts: &Cuts, order: &[usize], cut_at: &mut [usize], cut: &mut [f6
     requires { Known (held cuts.now) order.now cut_at.old cut.old }
     ensures { Written (held cuts.now) cut_at.old cut.old cut_at.new cut.new }
 {
-    for i in 0..cuts.case.count() {
+    let call = *cuts;
+    for i in 0..call.case.count() {
         let n = order[i];
-        let c = cuts.cut_of(n);
+        let c = call.cut_of(n);
         put_numbers(cut_at, 3 * i, c, n);
         write::put_point(cut, 2 * i, c.point);
     }
