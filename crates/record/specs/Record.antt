@@ -14,6 +14,7 @@ use Rattle.stitch_run.specs.Stitch.{Given, given, plan_of}
 use Rattle.record_form.specs.declared.form.Version.{Version}
 use Rattle.record.specs.declared.head.Head.{Head}
 use Rattle.record.specs.declared.head.Seen.{Seen}
+use Rattle.record.specs.declared.head.Lengths.{Lengths}
 use Rattle.record.specs.declared.head.Room.{Room}
 use Rattle.record_form.specs.Form.{form_for, head_shape, slice_shape, taken_vertices, taken_slices, common_width, entry_width, body_of, column, mix}
 
@@ -32,13 +33,13 @@ lists o1 o2 at s dates = record { outline1 = o1; outline2 = o2; slice_at = at; s
 abbrev pub lent : Room → Lists
 lent r = lists r.outline1.now r.outline2.now r.slice_at.now r.slice.now r.slice_edition.now
 
--- how long they are
-pub record Lengths : Type 0 where
-  pub outline1 : ℕ
-  pub outline2 : ℕ
-  pub slice_at : ℕ
-  pub slice : ℕ
-  pub slice_edition : ℕ
+-- its references are still those that were handed in
+pub record SameRoom (r r' : Room) : Type 0 where
+  pub outline1 : r'.outline1.ghost_name ≡ r.outline1.ghost_name
+  pub outline2 : r'.outline2.ghost_name ≡ r.outline2.ghost_name
+  pub slice_at : r'.slice_at.ghost_name ≡ r.slice_at.ghost_name
+  pub slice : r'.slice.ghost_name ≡ r.slice.ghost_name
+  pub slice_edition : r'.slice_edition.ghost_name ≡ r.slice_edition.ghost_name
 
 -- what a head says: a plan, and the outlines' editions
 abbrev pub head_of : Plan → ℕ → ℕ → Head

@@ -43,6 +43,16 @@ pub struct Room<'a> {
     pub slice_edition: &'a mut [u32],
 }
 
+// How long the lists are that a record is read to.
+#[derive(Clone, Copy)]
+pub struct Lengths {
+    pub outline1: usize,
+    pub outline2: usize,
+    pub slice_at: usize,
+    pub slice: usize,
+    pub slice_edition: usize,
+}
+
 // At least five bytes, the first three of them `PBR`.
 fn is_marked(bytes: &[u8]) -> bool
     ensures { result ≡ mark_ok bytes.now }
@@ -174,13 +184,28 @@ pub fn count_refusal(bytes: usize, p: Plan, v: Version) -> Result<(), Refusal>
     taken_refusal(p)
 }
 
-// Number 9: a lent list is too short for what is read.
+// Number 9: a list of one of these lengths is too short for what is read.
+pub fn lengths_refusal(p: Plan, l: Lengths) -> Result<(), Refusal>
+    requires { Counts p }
+    ensures { found result ≡ first_from 0 (room_rows p l) }
+{
+    refuse::when(l.outline1 < 3 * p.vc1, Refusal::Room)?;
+    refuse::when(l.outline2 < 3 * p.vc2, Refusal::Room)?;
+    slice::faults::room_refusal(p.slices, l.slice_at, l.slice)?;
+    slice::edition::room_refusal(p.slices, l.slice_edition)
+}
+
+// The same of the lent lists.
 pub fn room_refusal(p: Plan, room: &Room) -> Result<(), Refusal>
     requires { Counts p }
     ensures { found result ≡ first_from 0 (room_rows p (lengths_of (lent room.now))) }
 {
-    refuse::when(room.outline1.len() < 3 * p.vc1, Refusal::Room)?;
-    refuse::when(room.outline2.len() < 3 * p.vc2, Refusal::Room)?;
-    slice::faults::room_refusal(p.slices, room.slice_at.len(), room.slice.len())?;
-    slice::edition::room_refusal(p.slices, room.slice_edition.len())
+    let l = Lengths {
+        outline1: room.outline1.len(),
+        outline2: room.outline2.len(),
+        slice_at: room.slice_at.len(),
+        slice: room.slice.len(),
+        slice_edition: room.slice_edition.len(),
+    };
+    lengths_refusal(p, l)
 }

@@ -22,7 +22,7 @@ use Rattle.record.specs.declared.head.Head.{Head}
 use Rattle.std.specs.Prelude.{Result}
 use Rattle.basis.specs.declared.refuse.Refusal.{Refusal}
 use Rattle.record.specs.declared.head.Seen.{Seen}
-use Rattle.record.specs.Record.{Lengths}
+use Rattle.record.specs.declared.head.Lengths.{Lengths}
 use Rattle.record_form.specs.Form.{taken_vertices, taken_slices, common_width, entry_width, head_shape, slice_shape, vertex_shape, body_of}
 use Rattle.record.specs.Record.{Lists, head_in, plan_held, body_in, outline1_from, outline2_from, slices_from, codes_from, shapes_from, dates_from, lists_held, number_in, form_in, frame_rows, length_of, count_rows, room_rows, read_rows, read_refusal, lengths_of, seen_given, ReadLeft, Read}
 use Rattle.record.specs.Ready.{HeadFit, HeadRead}
@@ -237,3 +237,5 @@ form-there b e = rw e (form-ok (number_in b))
 
 pub read_named : {v : Version} (b : List ℕ) {l : Lists} {r : Result Seen Refusal} {left : Lists} → v ≡ form_in b → ReadLeft v b l r left → Read b l r left
 read_named b {l} {r} {left} e w = subst (λ (x : Version). ReadLeft x b l r left) e w
+
+pub ruleset naming = (form-there, read_named)

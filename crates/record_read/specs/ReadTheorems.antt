@@ -14,7 +14,7 @@ use Rattle.fields.specs.Fields.{size, unpack}
 use Rattle.fields.specs.FieldLaws.{unpack-none}
 use Rattle.record_form.specs.declared.form.Version.{Version}
 use Rattle.record.specs.declared.head.Head.{Head}
-use Rattle.record.specs.Record.{Lengths}
+use Rattle.record.specs.declared.head.Lengths.{Lengths}
 use Rattle.std.specs.Prelude.{Result}
 use Rattle.basis.specs.declared.refuse.Refusal.{Refusal}
 use Rattle.record.specs.declared.head.Seen.{Seen}

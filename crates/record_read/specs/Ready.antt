@@ -5,7 +5,7 @@ use Rattle.fields.specs.Ready.{Each}
 use Rattle.slice.specs.Slice.{code_width, shape_width}
 use Rattle.stitch_run.specs.declared.plan.Plan.{Plan}
 use Rattle.record_form.specs.declared.form.Version.{Version}
-use Rattle.record.specs.Record.{Lengths}
+use Rattle.record.specs.declared.head.Lengths.{Lengths}
 use Rattle.record_form.specs.Form.{taken_vertices, taken_slices, common_width, entry_width, column}
 use Rattle.record.specs.Record.{Lists, outline1_from, outline2_from, slices_from, codes_from, shapes_from, dates_from, length_of}
 use Rattle.record_form.specs.Ready.{FormOk}

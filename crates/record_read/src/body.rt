@@ -2,7 +2,7 @@
 ghost use Rattle.std.specs.Prelude.{ℕ, ◌+◌, ◌*◌, ◌<◌, ◌≡◌, length, get_or};
 ghost use Rattle.std.proofs.lemmas.List.Edits.{sets};
 ghost use Rattle.record_form.specs.Form.{entry_width};
-ghost use Rattle.record.specs.Record.{body_in, lent, lengths_of};
+ghost use Rattle.record.specs.Record.{body_in, lent, SameRoom, lengths_of};
 ghost use Rattle.record_read.specs.Ready.{ColumnFit, DateFit, GatheredBy, ListsFit, ListsFilled, ValuesFit, BodyFit};
 
 use fields::{copy, shape};
@@ -50,7 +50,8 @@ fn gather<T: Copy, F: Fn(usize) -> T>(
 // The five lists from the values that follow the head.
 fn fill_lists(values: &[usize], p: Plan, room: &mut Room)
     requires { ListsFit p values.now (lengths_of (lent room.old)) }
-    ensures { ListsFilled p values.now (lent room.old) (lent room.new) }
+    ensures same { SameRoom room.old room.new }
+    ensures filled { ListsFilled p values.now (lent room.old) (lent room.new) }
 {
     let n1 = 3 * p.vc1;
     let n2 = 3 * p.vc2;
@@ -96,7 +97,8 @@ fn list_values(bytes: &[u8], v: Version, p: Plan, values: &mut [usize])
 // Reads what follows the head of a whole record into the lent lists.
 pub fn read_body(bytes: &[u8], v: Version, p: Plan, room: &mut Room)
     requires { BodyFit v (length bytes.now) p (lengths_of (lent room.old)) }
-    ensures { ListsFilled p (body_in v p bytes.now) (lent room.old) (lent room.new) }
+    ensures same { SameRoom room.old room.new }
+    ensures filled { ListsFilled p (body_in v p bytes.now) (lent room.old) (lent room.new) }
 {
     let mut values = [0usize; form::VALUES];
     let n = 3 * p.vc1 + 3 * p.vc2 + p.slices * form::ENTRY_WIDTH;

@@ -7,7 +7,7 @@ use Rattle.stitch_run.specs.Doubles.{Doubles}
 use Rattle.stitch_run.specs.Stitch.{Given}
 use Rattle.stitch_faults.specs.Matching.{one_edition}
 use Rattle.fields.specs.FieldLaws.{Octets}
-use Rattle.record.specs.Record.{Lengths}
+use Rattle.record.specs.declared.head.Lengths.{Lengths}
 use Rattle.record_form.specs.Form.{form1, form2, form_for}
 use Rattle.record.specs.Record.{stitch_in, editions_in, form_in, read_refusal, record_of}
 use Rattle.record_read.specs.ReadTheorems.{no-editions}

@@ -24,7 +24,7 @@ use Rattle.fields.specs.Fields.{size, bytes_of, value_of, pack, unpack, num_of, 
 use Rattle.fields.specs.FieldLaws.{Octets, octets-drop, unpack-fitted, pack-unpack}
 use Rattle.fields.specs.NumberLaws.{num-held}
 use Rattle.record_form.specs.declared.form.Version.{Version}
-use Rattle.record.specs.Record.{Lengths}
+use Rattle.record.specs.declared.head.Lengths.{Lengths}
 use Rattle.record_form.specs.Form.{head_shape, entry_width, body_of, column, mix}
 use Rattle.record.specs.Record.{lists_in, plan_in, second_in, head_in, plan_held, body_in, slices_from, outline1_from, outline2_from, codes_from, shapes_from, dates_from, lists_held, stitch_in, editions_in, mark_ok, number_in, frame_rows, length_of, taken_rows, count_rows, room_rows, read_rows, read_refusal, head_values, head_given, values_of, record_of}
 use Rattle.record.specs.RecordLaws.{size-body, head-narrow, body-narrow, length-values}

@@ -32,7 +32,7 @@ use Rattle.fields.specs.FieldLaws.{Cut, cut-none, cut-one, cut-fit, cut-append, 
 use Rattle.fields.specs.NumberLaws.{Plain, AllPlain, num-bits, bits_below, nums-bits}
 use Rattle.record_form.specs.declared.form.Version.{Version}
 use Rattle.record.specs.declared.head.Head.{Head}
-use Rattle.record.specs.Record.{Lengths}
+use Rattle.record.specs.declared.head.Lengths.{Lengths}
 use Rattle.record_form.specs.Form.{head_shape, slice_shape, entry_width, common_width, body_of, column, mix}
 use Rattle.record.specs.Record.{Lists, lists, lists_in, plan_in, stitch_by, editions_by, head_of, second_in, head_at, head_in, plan_held, body_in, outline1_from, outline2_from, codes_from, shapes_from, dates_from, lists_from, lists_held, stitch_in, editions_in, mark_ok, number_in, frame_rows, length_of, count_rows, room_rows, read_rows, read_refusal, head_values, head_given, values_of, record_of}
 use Rattle.record.specs.RecordLaws.{head-size, counts-small}

@@ -6,9 +6,9 @@ use Rattle.record_read.proofs.body.fill_lists.Goals as goal
 pub gather-requires-3-clause-taken : goal.gather-requires-3-clause-taken
 gather-requires-3-clause-taken c = dates-fit c.args.values.now _ _ c.requires.short
 
-pub returns : goal.returns
+pub returns-clause-filled : goal.returns-clause-filled
 unfolding outline1_from outline2_from codes_from shapes_from dates_from
-returns c =
+returns-clause-filled c =
     let values = c.args.values.now in
     let from = slices_from c.args.p in
     record {
