@@ -16,6 +16,9 @@ winding_found w = record { refusal = 0; winding = w }
 abbrev pub area_refused : ℕ → AreaAnswer
 area_refused n = record { refusal = n; negative = 0; high = 0; low = 0 }
 
+abbrev pub area_numbers : ℕ → ℕ → ℕ → AreaAnswer
+area_numbers negative high low = record { refusal = 0; negative = negative; high = high; low = low }
+
 abbrev pub area_found : Area → AreaAnswer
 area_found a = record { refusal = 0; negative = code_of a.negative; high = a.size.high; low = a.size.low }
 

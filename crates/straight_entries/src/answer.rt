@@ -1,6 +1,6 @@
 // What the entries answer: flat structs, by value. On a refusal all but its number is 0.
 ghost use Rattle.std.specs.Prelude.{◌≡◌};
-ghost use Rattle.straight_entries.specs.Answers.{winding_refused, winding_found, area_refused, area_found, report_refused, report_found};
+ghost use Rattle.straight_entries.specs.Answers.{winding_refused, winding_found, area_refused, area_found, area_numbers, report_refused, report_found};
 
 use straight::sum::Area;
 use straight_report::Report;
@@ -63,11 +63,18 @@ pub fn area_refused(number: u32) -> AreaAnswer
 pub fn area_found(a: Area) -> AreaAnswer
     ensures { result ≡ area_found a }
 {
+    area_of_numbers(u32::from(a.negative), a.size.high, a.size.low)
+}
+
+// The same, for callers that hold the sign and the size's two words as numbers.
+pub fn area_of_numbers(negative: u32, high: u64, low: u64) -> AreaAnswer
+    ensures { result ≡ area_numbers negative high low }
+{
     AreaAnswer {
         refusal: 0,
-        negative: u32::from(a.negative),
-        high: a.size.high,
-        low: a.size.low,
+        negative,
+        high,
+        low,
     }
 }
 

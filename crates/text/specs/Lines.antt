@@ -2,6 +2,7 @@
 -- blanks, a whole number, blanks, a whole number, blanks; or blanks alone, which is an empty line.
 use Rattle.std.specs.Prelude.{ℕ, ◌+◌, ◌-◌, ◌*◌, ◌≤◌, Bool, true, false, cond, ◌&&◌, ◌≡◌, List, [], ◌∷◌, eqb, ltb, leb, ℤ, pos, ◌-ℤ◌}
 use Rattle.text.specs.declared.lines.Line.{Line}
+use Rattle.text.specs.declared.lines.NumberedLine.{NumberedLine}
 use Rattle.text.specs.declared.lines.Stage.{Stage}
 use Rattle.text.specs.declared.lines.Stage.TheVariants.{Start, FirstSign, FirstDigits, Between, SecondSign, SecondDigits, After, NoPair}
 
@@ -111,3 +112,13 @@ coordinate_of negative size = cond negative (pos 0 -ℤ pos (capped_of size)) (p
 pub record Capped (size r : ℕ) : Type 0 where
   pub is : r ≡ capped_of size
   pub most : r ≤ 400000001
+
+-- a stage by its number, in the order of `Stage`; every number past them is no pair, as 7 is
+unfoldable pub stage_numbered : ℕ → Stage
+stage_numbered n =
+    cond (eqb n 0) Start (cond (eqb n 1) FirstSign (cond (eqb n 2) FirstDigits (cond (eqb n 3) Between (cond (eqb n 4) SecondSign (cond (eqb n 5) SecondDigits (cond (eqb n 6) After NoPair))))))
+
+-- a line by its numbers: 1 is a minus sign
+unfoldable pub line_numbered : NumberedLine → Line
+line_numbered l =
+    record { stage = stage_numbered l.stage; negative = eqb l.negative 1; size = l.size; first_negative = eqb l.first_negative 1; first_size = l.first_size }

@@ -1,7 +1,7 @@
-#![tactic(auto, using(basis::specs::Choice::cases), unfolding(crate::specs::Lines::is_blank, crate::specs::Lines::is_digit, crate::specs::Lines::more, crate::specs::Lines::on_blank, crate::specs::Lines::on_minus, crate::specs::Lines::on_digit, crate::specs::Lines::in_first, crate::specs::Lines::stage_of, crate::specs::Lines::other_read, crate::specs::Lines::step, crate::specs::Lines::is_pair, crate::specs::Lines::coordinate_of))]
+#![tactic(auto, using(basis::specs::Choice::cases), unfolding(crate::specs::Lines::is_blank, crate::specs::Lines::is_digit, crate::specs::Lines::more, crate::specs::Lines::on_blank, crate::specs::Lines::on_minus, crate::specs::Lines::on_digit, crate::specs::Lines::in_first, crate::specs::Lines::stage_of, crate::specs::Lines::other_read, crate::specs::Lines::step, crate::specs::Lines::is_pair, crate::specs::Lines::coordinate_of, crate::specs::Lines::stage_numbered, crate::specs::Lines::line_numbered))]
 // A line of text, byte by byte: a vertex as two whole numbers, an empty line, or neither.
-ghost use Rattle.std.specs.Prelude.{◌≡◌, ◌≤◌};
-ghost use Rattle.text.specs.Lines.{is_blank, is_digit, more, on_blank, on_minus, on_digit, digit_of, digit_read, minus_read, shifted, moved, stage_of, other_read, step, is_pair, is_empty, coordinate_of, Capped};
+ghost use Rattle.std.specs.Prelude.{◌≡◌, ◌≤◌, eqb};
+ghost use Rattle.text.specs.Lines.{is_blank, is_digit, more, on_blank, on_minus, on_digit, digit_of, digit_read, minus_read, shifted, moved, stage_of, other_read, step, is_pair, is_empty, coordinate_of, stage_numbered, line_numbered, Capped};
 
 use whole::signed;
 
@@ -28,6 +28,47 @@ pub struct Line {
     pub size: u64,
     pub first_negative: bool,
     pub first_size: u64,
+}
+
+// The same with numbers, for callers that hold it so: the stage as `Stage` counts, every number past them no pair; 1 for a minus sign.
+#[derive(Clone, Copy)]
+pub struct NumberedLine {
+    pub stage: u32,
+    pub negative: u32,
+    pub size: u64,
+    pub first_negative: u32,
+    pub first_size: u64,
+}
+
+impl From<u32> for Stage {
+    ghost from_gives = { λ n result. result ≡ stage_numbered n };
+
+    fn from(n: u32) -> Stage {
+        match n {
+            0 => Start,
+            1 => FirstSign,
+            2 => FirstDigits,
+            3 => Between,
+            4 => SecondSign,
+            5 => SecondDigits,
+            6 => After,
+            _ => NoPair,
+        }
+    }
+}
+
+impl From<NumberedLine> for Line {
+    ghost from_gives = { λ l result. result ≡ line_numbered l };
+
+    fn from(l: NumberedLine) -> Line {
+        Line {
+            stage: Stage::from(l.stage),
+            negative: l.negative == 1,
+            size: l.size,
+            first_negative: l.first_negative == 1,
+            first_size: l.first_size,
+        }
+    }
 }
 
 // A space, a tab or a carriage return.
@@ -192,4 +233,11 @@ pub fn coordinate(negative: bool, size: u64) -> i64
         return signed::minus(0, n);
     }
     n
+}
+
+// The same, where 1 is a minus sign and any other number none.
+pub fn coordinate_by(negative: u32, size: u64) -> i64
+    ensures { result ≡ coordinate_of (eqb negative 1) size }
+{
+    coordinate(negative == 1, size)
 }
