@@ -1,2 +1,3 @@
 pub mod Looking
 pub mod Copying
+pub mod LookingBytes

@@ -11,3 +11,4 @@ pub mod ListsLaws
 pub mod Refines
 pub mod Ready
 pub mod ReadyLaws
+pub mod Bytes

@@ -1,5 +1,5 @@
 -- What the functions over marks require and ensure.
-use Rattle.std.specs.Prelude.{ℕ, suc, ◌+◌, ◌≤◌, ◌<◌, Bool, false, ◌≡◌, List, [], ◌∷◌, ◌++◌, length, get_or, take, drop}
+use Rattle.std.specs.Prelude.{ℕ, suc, ◌+◌, ◌≤◌, ◌<◌, Bool, false, not, ◌≡◌, List, [], ◌∷◌, ◌++◌, length, get_or, take, drop, eqb}
 use Rattle.store.specs.Keys.{keyed}
 use Rattle.store.specs.Marks.{most_places, mark_of, handle_of, place_of, lives_to}
 
@@ -18,6 +18,10 @@ pub record PlaceIs (m r : ℕ) : Type 0 where
   pub small : r < 9007199254740992
 
 -- ---- the live marks, found one after the other
+
+-- a number as a flag: 0 is not set
+unfoldable pub told : ℕ → Bool
+told x = not (eqb x 0)
 
 -- a table of flags, one for each number: whether the number is a key of the list
 abbrev pub Told : ℕ → List Bool → (ℕ → ℕ) → List ℕ → Type 0

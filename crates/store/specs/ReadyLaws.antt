@@ -1,13 +1,23 @@
--- Laws of what the functions over marks require and ensure, for the crates above too: items put down in front.
-use Rattle.std.specs.Prelude.{ℕ, suc, ◌+◌, ◌-◌, ◌≤◌, ◌<◌, ◌≡◌, refl, get_or, set, replicate}
-use Rattle.std.proofs.Common.{sym, ◌∙◌, add-one, length-append, take_at, drop-cons}
+-- Laws of what the functions over marks require and ensure, for the crates above too: flags, and items put down in front.
+use Rattle.std.specs.Prelude.{ℕ, suc, ◌+◌, ◌-◌, ◌≤◌, ◌<◌, true, false, ◌≡◌, refl, get_or, set, replicate}
+use Rattle.std.proofs.Common.{sym, ◌∙◌, add-one, length-append, take_at, drop-cons, ne_eqb}
 use mathlib.Core.List.{List, [], ◌∷◌, ◌++◌, append-nil, append_assoc}
 use native.Mathlib.Omega.{arith}
 use Rattle.std.proofs.Math.ListN.{length, take, drop, drop_of_length-le}
 use Rattle.std.proofs.lemmas.List.{set_at}
 use Rattle.basis.specs.Room.{cleared}
 use Rattle.store.specs.Marks.{filled}
-use Rattle.store.specs.Ready.{Front}
+use Rattle.store.specs.Ready.{told, Front}
+
+-- ---- flags
+
+pub told_none : (x : ℕ) → x ≡ 0 → told x ≡ false
+unfolding told
+told_none x e = rw e
+
+pub told-some : (x : ℕ) → (x ≡ 0 → ⊥) → told x ≡ true
+unfolding told
+told-some x n = rw (ne_eqb x 0 n)
 
 -- ---- items put down in front, one a turn
 

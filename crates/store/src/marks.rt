@@ -36,7 +36,7 @@ pub fn mark_at(t: usize, h: usize) -> usize
 }
 
 // Whether `m` names a handle and a place of a store of `cap` places.
-fn names(cap: usize, m: usize) -> bool
+pub(crate) fn names(cap: usize, m: usize) -> bool
     ensures { result ≡ named cap m }
 {
     let k = m % 2048;
@@ -61,24 +61,27 @@ impl Live {
         count: 0,
     };
 
-    // Looks at number `p`: whether it is one live mark more.
-    fn look(&mut self, held: &[usize], p: usize)
-        requires { LookFits held.now p self.old.count self.old.order self.old.handles self.old.places }
-        ensures { Looked held.now (p + 1) self.new.count self.new.order self.new.handles self.new.places }
+    // Looks at number `p`, after `n` live marks: whether it is one more. Says how many there are then. The count is handed on, not kept in memory, since most numbers of a store name nothing.
+    fn look(&mut self, held: &[usize], p: usize, n: usize) -> usize
+        requires { LookFits held.now p n self.old.order self.old.handles self.old.places }
+        ensures { Looked held.now (p + 1) result self.new.order self.new.handles self.new.places }
     {
         let m = held[p];
         if !names(held.len(), m) {
-            return;
+            return n;
         }
         let h = handle_of(m);
         let t = place_of(m);
-        if self.handles[h] || self.places[t] {
-            return;
+        if self.handles[h] {
+            return n;
+        }
+        if self.places[t] {
+            return n;
         }
         self.handles[h] = true;
         self.places[t] = true;
-        self.order[self.count] = m;
-        self.count += 1;
+        self.order[n] = m;
+        n + 1
     }
 
     // Looks at every number of `held`, where nothing was found before.
@@ -86,9 +89,11 @@ impl Live {
         requires { Blank held.now self.old.count self.old.order self.old.handles self.old.places }
         ensures { LookedAll held.now self.new.count self.new.order self.new.handles self.new.places }
     {
+        let mut n = 0;
         for p in 0..held.len() {
-            self.look(held, p);
+            n = self.look(held, p, n);
         }
+        self.count = n;
     }
 
     // The live marks.

@@ -1,5 +1,6 @@
 -- The loops that gather what stands at the places of marks, for any element type, and what is made of it.
 use mathlib.Core.Path.{◌≡◌, refl, sym, ap, ◌∙◌}
+use mathlib.Core.Bool.{Bool, true}
 use mathlib.Core.List.{List, [], ◌∷◌, ◌++◌, map, flat_map}
 use Prim.Native.Nat.{ℕ, zero, suc, ◌+◌, ◌*◌, ◌≤◌, ◌<◌}
 use native.Mathlib.Omega.{arith}
@@ -7,6 +8,9 @@ use native.Mathlib.Nat.{mul-suc, mul-zero, mul-le-mul_left, zero-add}
 use native.Mathlib.Numerals.{add-one}
 use lib.ListN.{length, get_or, set, take, drop, length-set, length-drop, length-map, length-append}
 use lib.Seq.{paste, length-paste, take-suc, take_at, take-length, drop-drop, drop-append-add, length-take-le}
+use lib.Dec.{eqb}
+use borrow.Author.Tests.{eqb-true}
+use Rattle.std.proofs.lemmas.List.{nil_from_length}
 use Rattle.basis.specs.All.{All, all-get}
 use Rattle.basis.specs.FlatLaws.{flat-snoc}
 use Rattle.basis.specs.Room.{room_of, cleared}
@@ -137,6 +141,14 @@ module _ (need : ℕ) (marks dst₀ : List ℕ) (fit : ShowHandles need marks ds
       room-left 0 1 need (map handle_of marks) dst₀ d₁ d₂ (length marks) need f i (sym (length-map marks handle_of)) (omega arith) a
 
 -- ---- laid out within one list
+
+-- where there are no marks
+pub laid_none : {A : Type 0} (w : ℕ) (z : A) (l l' : List A) (marks : List ℕ) (r : Bool) → l' ≡ filled z (length l) [] → r ≡ eqb (length marks) 0 → r ≡ true → l' ≡ filled z (length l) (blocks_at w l marks)
+unfolding blocks_at flat_map
+laid_none w z l l' marks r e n t = rw (nil_from_length marks (eqb-true _ _ (sym n ∙ t))) e
+
+pub clear-all : {A : Type 0} (z : A) (l l' : List A) (b : ℕ) → b ≡ length l → l' ≡ cleared z 0 b l → l' ≡ filled z (length l) []
+clear-all z l l' b c d = front-filled l z [] l l' 0 b (front-none l) refl (omega arith) c d
 
 module _ {A : Type 0} (w : ℕ) (l room : List A) (marks : List ℕ) (f : LayFits w (length room) l marks) where
   lay-room : w * length marks ≤ w * f.many

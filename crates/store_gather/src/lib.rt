@@ -1,6 +1,6 @@
 #![tactic(auto)]
 // Slices gathered from their places: laid out anew within a list, or shown in lent room. Codes are four words to a place, numbers six, editions one.
-ghost use Rattle.std.specs.Prelude.{◌≡◌, ◌++◌, map, ◌*◌, length, drop};
+ghost use Rattle.std.specs.Prelude.{◌≡◌, [], ◌++◌, map, ◌*◌, length, drop};
 ghost use Rattle.basis.specs.Number.{+0};
 ghost use Rattle.basis.specs.Room.{room_of};
 ghost use Rattle.store.specs.Marks.{most_places, handle_of, filled};
@@ -37,25 +37,45 @@ fn lay<const WIDTH: usize, T: Copy>(list: &mut [T], marks: &[usize], room: &mut 
     room::fill(list, end, len, zero);
 }
 
-// Each function makes the room that it needs, so that no two stand on the stack at once.
+// Where nothing is laid: `zero` everywhere.
+fn clear<T: Copy>(list: &mut [T], zero: T)
+    ensures { list.new ≡ filled zero (length list.old) [] }
+{
+    let len = list.len();
+    room::fill(list, 0, len, zero);
+}
+
+// Each function makes the room that it needs, so that no two stand on the stack at once, and none where nothing is laid: to make it takes longer than all else.
+#[tactic(auto, using(crate::proofs::Gathering::laid_none))]
 pub fn lay_codes(codes: &mut [usize], marks: &[usize])
     requires { LayFits 4 (4 * most_places) codes.old marks.now }
     ensures { codes.new ≡ filled 0 (length codes.old) (blocks_at 4 codes.old marks.now) }
 {
+    if marks.is_empty() {
+        return clear(codes, 0);
+    }
     lay::<4, usize>(codes, marks, &mut [0; MOST_CODES], 0);
 }
 
+#[tactic(auto, using(crate::proofs::Gathering::laid_none))]
 pub fn lay_numbers(numbers: &mut [f64], marks: &[usize])
     requires { LayFits 6 (6 * most_places) numbers.old marks.now }
     ensures { numbers.new ≡ filled +0 (length numbers.old) (blocks_at 6 numbers.old marks.now) }
 {
+    if marks.is_empty() {
+        return clear(numbers, 0.0);
+    }
     lay::<6, f64>(numbers, marks, &mut [0.0; MOST_NUMBERS], 0.0);
 }
 
+#[tactic(auto, using(crate::proofs::Gathering::laid_none))]
 pub fn lay_editions(editions: &mut [u32], marks: &[usize])
     requires { LayFits 1 most_places editions.old marks.now }
     ensures { editions.new ≡ filled 0 (length editions.old) (blocks_at 1 editions.old marks.now) }
 {
+    if marks.is_empty() {
+        return clear(editions, 0);
+    }
     lay::<1, u32>(editions, marks, &mut [0; MOST_PLACES], 0);
 }
 

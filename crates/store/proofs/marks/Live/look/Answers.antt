@@ -1,5 +1,4 @@
 use Rattle.store.proofs.Looking.{looked-unnamed, handle-low, place-low, looked-handle, looked-place, looked-more}
-use Rattle.store.proofs.marks.Live.look.Goals.{then-self-h-via-then-self-h, then-self-h-via-else-self-h+then-self-t}
 use Rattle.store.proofs.marks.Live.look.Goals as goal
 
 pub returns-then-not-names : goal.returns-then-not-names
@@ -8,12 +7,14 @@ returns-then-not-names c = search looked-unnamed
 pub bounds-self-h : goal.bounds-self-h
 bounds-self-h c = search handle-low
 
+pub returns-then-self-h : goal.returns-then-self-h
+returns-then-self-h c = search looked-handle
+
 pub bounds-self-t : goal.bounds-self-t
 bounds-self-t c = search place-low
 
-pub returns-then-self-h : goal.returns-then-self-h
-returns-then-self-h c =
-    elim c.then-self-h.branch [ then-self-h-via-then-self-h w ↦ search looked-handle | then-self-h-via-else-self-h+then-self-t w ↦ search looked-place ]
+pub returns-then-self-t : goal.returns-then-self-t
+returns-then-self-t c = search looked-place
 
 pub bounds-self-h-2 : goal.bounds-self-h-2
 bounds-self-h-2 c = search handle-low
