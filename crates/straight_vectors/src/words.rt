@@ -1,10 +1,11 @@
 // Little-endian words of 8 bytes, and lists of counts.
+use fields::field;
 use whole::signed;
 
 // The first word, and 0 where there is none.
 fn first(s: &[u8]) -> u64 {
     match s.first_chunk::<8>() {
-        Some(word) => u64::from_le_bytes(*word),
+        Some(word) => field::get(word, 0, 8) as u64,
         None => 0,
     }
 }

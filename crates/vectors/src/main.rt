@@ -43,7 +43,7 @@ fn replay(file: &mut File, buf: &mut [u8], tally: &mut Tally) -> Option<()> {
     let (number, n) = read_pair(file)?;
     let own = read_words(file, buf, n)?;
     let entry = Entry::try_from(number).ok();
-    tally.count(entry, own, entry.is_some_and(|e| case::holds(e, own)));
+    tally.count(number, own, entry.is_some_and(|e| case::holds(e, own)));
     Some(())
 }
 

@@ -3,6 +3,27 @@ use crate::bits;
 use crate::entry::{ENTRIES, Entry, NAMES};
 use std::io;
 
+// The numbers of the record that are no entry's, and that stand for a count all the same: that of all cases, of those whose answer is the original's, and of those whose
+// answer is the refusal table's, the sum of all words, the number of cases that the head announces, and the cases that differ: of each entry from the first place on, and all.
+const ALL: usize = 32;
+
+const ORIGINAL: usize = 33;
+
+const TABLE: usize = 34;
+
+const WORDS: usize = 35;
+
+const ANNOUNCED: usize = 36;
+
+const DIFFER: usize = 40;
+
+const ALL_DIFFER: usize = 72;
+
+// One more, as far as 32 bits hold it.
+fn more(n: usize) -> usize {
+    if n < 4294967295 { n + 1 } else { n }
+}
+
 // Cases, and those of them that differ.
 #[derive(Clone, Copy)]
 struct Count {
@@ -13,9 +34,9 @@ struct Count {
 impl Count {
     // One case more.
     fn add(&mut self, holds: bool) {
-        self.cases = self.cases.saturating_add(1);
+        self.cases = more(self.cases);
         if !holds {
-            self.differ = self.differ.saturating_add(1);
+            self.differ = more(self.differ);
         }
     }
 }
@@ -47,16 +68,37 @@ impl Tally {
         words: 0,
     };
 
-    // A case of an entry, whose answer is the original's (0) or the refusal table's. One of an entry that is not known counts with all.
-    pub(crate) fn count(&mut self, entry: Option<Entry>, own: &[u8], holds: bool) {
-        if let Some(entry) = entry {
-            self.entries[entry as usize].add(holds);
+    // A case of no entry: it is counted where its number stands for a count.
+    fn count_unknown(&mut self, number: usize) {
+        match number {
+            ALL => self.all.cases = more(self.all.cases),
+            ORIGINAL => self.original = more(self.original),
+            TABLE => self.table = more(self.table),
+            WORDS => self.words = more(self.words),
+            ANNOUNCED => self.announced = more(self.announced),
+            ALL_DIFFER => self.all.differ = more(self.all.differ),
+            _ => self.count_differing(number),
+        }
+    }
+
+    fn count_differing(&mut self, number: usize) {
+        let k = number.wrapping_sub(DIFFER);
+        if k < ENTRIES {
+            self.entries[k].differ = more(self.entries[k].differ);
+        }
+    }
+
+    // A case of an entry, whose answer is the original's (0) or the refusal table's. Each counts with all.
+    pub(crate) fn count(&mut self, number: usize, own: &[u8], holds: bool) {
+        match Entry::try_from(number) {
+            Ok(entry) => self.entries[entry as usize].add(holds),
+            Err(_) => self.count_unknown(number),
         }
         self.all.add(holds);
         if bits::word(own) == 0 {
-            self.original = self.original.saturating_add(1);
+            self.original = more(self.original);
         } else {
-            self.table = self.table.saturating_add(1);
+            self.table = more(self.table);
         }
         self.words = bits::sum(own, self.words);
     }
