@@ -48,7 +48,9 @@ impl Vertex {
     pub fn with_bulge(self, bulge: f64) -> Vertex
         ensures { result ≡ with_bulge self bulge }
     {
-        Vertex { bulge, ..self }
+        let mut vertex = self;
+        vertex.bulge = bulge;
+        vertex
     }
 }
 

@@ -138,6 +138,7 @@ fn reach_refusal(g: &Handed) -> Result<(), Refusal>
 }
 
 // Numbers 5 to 7. What is looked at last stands in the innermost function: the compiler takes a call behind many ways out for rare, and leaves it a call.
+#[inline(always)]
 fn content_refusal(g: &Handed) -> Result<(), Refusal>
     ensures { found result ≡ first_from 0 (numbers_rows (held g.now) ++ (starts_rows (held g.now) ++ reaches_rows (held g.now))) }
 {
