@@ -1,4 +1,4 @@
--- The laws of the scan over numbers, by which a caller uses `numbers::offer` and `numbers::chosen`; and that it answers as the scan over choices does.
+-- The laws of the scan over numbers, by which a caller uses `numbers::offer` and `numbers::chosen`; and that after the same slices it chooses as the scan over choices does.
 use Rattle.std.specs.Prelude.{ℕ, ◌<◌, Bool, true, false, cond, ◌≡◌, refl, List, [], ◌∷◌, ◌++◌, eqb, Option, Some, None}
 use Rattle.std.specs.Bool.{then_some}
 use Rattle.std.proofs.Common.{sym, ◌∙◌, arith, ne_eqb}
@@ -13,8 +13,9 @@ use Rattle.select.specs.declared.table.Choice.TheVariants.{One, Two, Any, Nothin
 use Rattle.select.specs.declared.table.Choices.{Choices}
 use Rattle.select.specs.declared.numbers.ChoiceCodes.{ChoiceCodes}
 use Rattle.select.specs.declared.numbers.BestNumbers.{BestNumbers}
-use Rattle.select.specs.Select.{class_of, place_of, suits_of, first_that, or_else, choose, pick_of, no_number}
-use Rattle.select.specs.SelectLaws.{first_more}
+use Rattle.select.specs.declared.best.Best.{Best}
+use Rattle.select.specs.Select.{class_of, place_of, suits_of, first_that, or_else, choose, pick_of, no_number, chosen_of, Scanned}
+use Rattle.select.specs.SelectLaws.{first_more, scan-end}
 use Rattle.select.specs.Numbers.{choice_code, choice_codes, suits_code, choose_code, pick_code, no_numbers, kept_number, offer_numbers, chosen_number, number_of, best_numbers, NumbersScanned}
 
 abbrev Under : Option ℕ → Type 0
@@ -97,3 +98,7 @@ choose-agree s c (j ∷ l) = rw (suits-agree c (class_of s j), choose-agree s c 
 pub pick-agree : (c : Choices) (s : Starts) (l : List ℕ) → pick_code (choice_codes c) s l ≡ pick_of c s l
 unfolding pick_code pick_of
 pick-agree c s l = rw (choose-agree s c.first l, choose-agree s c.second l, choose-agree s c.third l)
+
+-- and after the same slices, each with its class and below `no_number`, both scans choose alike
+pub scans-agree : (c : Choices) (s : Starts) (l : List ℕ) (b : BestNumbers) (b' : Best) → NumbersScanned (choice_codes c) s l b → Scanned c s l b' → chosen_number b ≡ chosen_of b'
+scans-agree c s l b b' h h' = numbers-end (choice_codes c) s l b (chosen_number b) h refl ∙ pick-agree c s l ∙ sym (scan-end c s l b' (chosen_of b') h' refl)

@@ -45,7 +45,7 @@ fn clear<T: Copy>(list: &mut [T], zero: T)
     room::fill(list, 0, len, zero);
 }
 
-// Each function makes the room that it needs, so that no two stand on the stack at once, and none where nothing is laid: to make it takes longer than all else.
+// Each function makes the room that it needs, so that no two stand on the stack at once, and none where nothing is laid.
 #[tactic(auto, using(crate::proofs::Gathering::laid_none))]
 pub fn lay_codes(codes: &mut [usize], marks: &[usize])
     requires { LayFits 4 (4 * most_places) codes.old marks.now }
